@@ -1,0 +1,165 @@
+-- The exported calls: for each its refusals in testing order, and what it answers and leaves. Every exported contract cites `outcome`.
+use mathlib.Core.Bool.{Bool, true, cond, _&&_}
+use mathlib.Core.List.{List, [], _∷_}
+use Prim.Native.Nat.{ℕ, zero, suc}
+use lib.Dec.{leb, ltb, eqb}
+use lib.IntN.{ℤ}
+use lib.ListN.{length}
+use Rattle.model.specs.declared.Head.{Head}
+use Rattle.model.specs.declared.Value.{Value}
+use Rattle.model.specs.declared.Area.{Area}
+use Rattle.model.specs.declared.Sent.{Sent}
+use Rattle.model.specs.Geometry.{Geometry, height, rows, columns, screenBytes, memoryBytes}
+use Rattle.model.specs.Rects.{Rect, none}
+use Rattle.model.specs.Memory.{zeros, screenOf, withScreen}
+use Rattle.model.specs.Record.{State, decode, encode, valid, windows, recordBytes, withHead, withPending}
+use Rattle.model.specs.Refusals.{LENT, STATE, WINDOW, VALUE, Test, test, refusal, ruled}
+use Rattle.model.specs.Marks.{Drawing, drawnOn, marked, withDirty}
+use Rattle.model.specs.Open.{clearMemory, openState, resetState}
+use Rattle.model.specs.Points.{drawMode, point, checkPoint}
+use Rattle.model.specs.Text.{withRow, withColumn, withPrintMode}
+use Rattle.model.specs.Poke.{poked, pokeMark}
+use Rattle.model.specs.Sends.{sendPending, sendNumbers, sendPanel}
+
+-- every exported call that is lent the record, with the numbers that it is told
+pub data Call : Type 0 where
+  -- graphics base, text base, version, key words
+  opening : ℕ → ℕ → ℕ → List ℕ → Call
+  reset : Call
+  -- x, y, mode
+  drawPoint : ℕ → ℕ → ℕ → Call
+  checkPixel : ℤ → ℤ → Call
+  -- address, byte
+  writeByte : ℕ → ℕ → Call
+  getRow : Call
+  getColumn : Call
+  setRow : ℕ → Call
+  setColumn : ℕ → Call
+  setPrintMode : ℕ → Call
+  takeDirtyArea : Call
+  send : Call
+
+-- the bytes that a call is lent; `[]` stands for what it is not lent
+pub record Lent : Type 0 where
+  pub rec : List ℕ
+  pub memory : List ℕ
+  pub panel : List ℕ
+
+abbrev pub lent : List ℕ → List ℕ → List ℕ → Lent
+lent r m p = record { rec = r; memory = m; panel = p }
+
+-- what a call answers, its code and its other numbers, and what it leaves
+pub record Outcome : Type 0 where
+  pub code : ℕ
+  pub numbers : List ℕ
+  pub left : Lent
+
+unfoldable pub answered : ℕ → List ℕ → Lent → Outcome
+answered k ns l = record { code = k; numbers = ns; left = l }
+
+-- the numbers of a result beside its code, in the order of its fields
+abbrev pub valueNumbers : Value → List ℕ
+valueNumbers v = v .value ∷ []
+
+abbrev pub areaNumbers : Area → List ℕ
+areaNumbers a = a .left ∷ a .top ∷ a .right ∷ a .bottom ∷ []
+
+abbrev pub sentNumbers : Sent → List ℕ
+sentNumbers s = s .sent ∷ s .line ∷ s .left ∷ s .right ∷ []
+
+-- ---- refusals
+
+-- LENT: the record has its length, and so have the other lent buffers
+abbrev pub lentTest : Geometry → List ℕ → Bool → Test
+lentTest g r others = test LENT (eqb (length r) (recordBytes g) && others)
+
+abbrev pub stateTest : Geometry → List ℕ → Test
+stateTest g r = test STATE (valid g r)
+
+abbrev pub memoryFits : Lent → Bool
+memoryFits l = eqb (length (l .memory)) memoryBytes
+
+abbrev pub panelFits : Geometry → Lent → Bool
+panelFits g l = eqb (length (l .panel)) (screenBytes g)
+
+unfoldable pub refusals : Geometry → Call → Lent → List Test
+refusals g (opening graphics text version keys) l =
+    lentTest g (l .rec) (memoryFits l) ∷ test WINDOW (windows g graphics text) ∷ test VALUE (leb version 1) ∷ []
+refusals g reset l = lentTest g (l .rec) (memoryFits l) ∷ stateTest g (l .rec) ∷ []
+refusals g (drawPoint x y mode) l = lentTest g (l .rec) (memoryFits l) ∷ stateTest g (l .rec) ∷ test VALUE (leb mode 3) ∷ []
+refusals g (checkPixel x y) l = lentTest g (l .rec) (memoryFits l) ∷ stateTest g (l .rec) ∷ []
+refusals g (writeByte a v) l = lentTest g (l .rec) (memoryFits l) ∷ stateTest g (l .rec) ∷ []
+refusals g getRow l = lentTest g (l .rec) true ∷ stateTest g (l .rec) ∷ []
+refusals g getColumn l = lentTest g (l .rec) true ∷ stateTest g (l .rec) ∷ []
+refusals g (setRow n) l = lentTest g (l .rec) true ∷ stateTest g (l .rec) ∷ test VALUE (ltb n (rows g)) ∷ []
+refusals g (setColumn n) l = lentTest g (l .rec) true ∷ stateTest g (l .rec) ∷ test VALUE (ltb n (columns g)) ∷ []
+refusals g (setPrintMode n) l = lentTest g (l .rec) true ∷ stateTest g (l .rec) ∷ test VALUE (leb n 2) ∷ []
+refusals g takeDirtyArea l = lentTest g (l .rec) true ∷ stateTest g (l .rec) ∷ []
+refusals g send l = lentTest g (l .rec) (memoryFits l && panelFits g l) ∷ stateTest g (l .rec) ∷ []
+
+-- how many numbers stand beside the code in a call's result
+unfoldable pub numbers : Call → ℕ
+numbers (opening graphics text version keys) = 0
+numbers reset = 0
+numbers (drawPoint x y mode) = 0
+numbers (checkPixel x y) = 1
+numbers (writeByte a v) = 0
+numbers getRow = 1
+numbers getColumn = 1
+numbers (setRow n) = 0
+numbers (setColumn n) = 0
+numbers (setPrintMode n) = 0
+numbers takeDirtyArea = 4
+numbers send = 4
+
+-- ---- what an accepted call does
+
+-- a drawing over the screen in memory
+unfoldable pub drawing : Geometry → Drawing → Lent → Lent
+drawing g d l =
+    let s = decode g (l .rec) in
+    let o = drawnOn (g .stride) (height g) d (screenOf g (s .head .graphics) (l .memory)) in
+    lent (encode (marked g (o .dirty) (o .owed) s)) (withScreen (s .head .graphics) (o .screen) (l .memory)) (l .panel)
+
+-- the head alone changes
+unfoldable pub changed : Geometry → (Head → Head) → Lent → Lent
+changed g f l = let s = decode g (l .rec) in lent (encode (withHead (f (s .head)) s)) (l .memory) (l .panel)
+
+abbrev pub flag : Bool → ℕ
+flag b = cond b 1 0
+
+abbrev pub rectNumbers : Rect → List ℕ
+rectNumbers q = q .left ∷ q .top ∷ q .right ∷ q .bottom ∷ []
+
+unfoldable pub done : Geometry → Call → Lent → Outcome
+done g (opening graphics text version keys) l =
+    answered 0 [] (lent (encode (openState g graphics text version keys)) (clearMemory keys) (l .panel))
+done g reset l =
+    let s = decode g (l .rec) in
+    answered 0 [] (lent (encode (resetState g s)) (clearMemory (s .keys)) (l .panel))
+done g (drawPoint x y mode) l = answered 0 [] (drawing g (point (g .stride) (height g) x y (drawMode mode)) l)
+done g (checkPixel x y) l =
+    answered 0 (flag (checkPoint (g .stride) (height g) (screenOf g (decode g (l .rec) .head .graphics) (l .memory)) x y) ∷ []) l
+done g (writeByte a v) l =
+    let s = decode g (l .rec) in
+    let m = pokeMark g (s .keys) (s .head .graphics) a in
+    answered 0 [] (lent (encode (marked g m m s)) (poked (s .keys) a v (l .memory)) (l .panel))
+done g getRow l = answered 0 (decode g (l .rec) .head .row ∷ []) l
+done g getColumn l = answered 0 (decode g (l .rec) .head .column ∷ []) l
+done g (setRow n) l = answered 0 [] (changed g (withRow n) l)
+done g (setColumn n) l = answered 0 [] (changed g (withColumn n) l)
+done g (setPrintMode n) l = answered 0 [] (changed g (withPrintMode n) l)
+done g takeDirtyArea l = answered 0 (rectNumbers (decode g (l .rec) .head .dirty)) (changed g (withDirty none) l)
+done g send l =
+    let s = decode g (l .rec) in
+    answered 0 (sendNumbers (s .pending))
+    (lent (encode (withPending (sendPending (s .pending)) s)) (l .memory)
+    (sendPanel (g .stride) (s .pending) (screenOf g (s .head .graphics) (l .memory)) (l .panel)))
+
+-- ---- the outcome on every input: a refusal leaves all bytes, and its other numbers are 0
+
+unfoldable pub refused : Call → Lent → ℕ → Outcome
+refused c l k = answered k (zeros (numbers c)) l
+
+unfoldable pub outcome : Geometry → Call → Lent → Outcome
+outcome g c l = ruled (refusal (refusals g c l)) (refused c l) (done g c l)

@@ -1,0 +1,35 @@
+-- The glass. Document 01's glass is `base`; definitions and laws take the geometry as a parameter.
+use Prim.Native.Nat.{ℕ, _*_, _/_}
+
+-- A line is `stride` bytes. The lines fall into `bands` bands of `band` lines each, top to bottom: what is owed is kept by bands, and one band is the whole screen.
+pub record Geometry : Type 0 where
+  pub stride : ℕ
+  pub bands : ℕ
+  pub band : ℕ
+
+-- 160 by 80, one band
+abbrev pub base : Geometry
+base = record { stride = 20; bands = 1; band = 80 }
+
+-- the screen in pixels, and in bytes
+abbrev pub width : Geometry → ℕ
+width g = 8 * g .stride
+
+abbrev pub height : Geometry → ℕ
+height g = g .bands * g .band
+
+abbrev pub screenBytes : Geometry → ℕ
+screenBytes g = g .stride * height g
+
+-- the text cells: one byte wide, sixteen lines high
+abbrev pub columns : Geometry → ℕ
+columns g = g .stride
+
+abbrev pub rows : Geometry → ℕ
+rows g = height g / 16
+
+abbrev pub cells : Geometry → ℕ
+cells g = rows g * columns g
+
+abbrev pub memoryBytes : ℕ
+memoryBytes = 65536

@@ -1,0 +1,132 @@
+-- Calls in any order: what a list of calls leaves, and what is said of it.
+use mathlib.Core.Bool.{Bool, true, false}
+use mathlib.Core.List.{List, [], _∷_}
+use mathlib.Core.Logic.{_≢_, _⊎_}
+use mathlib.Core.Path.{_≡_}
+use Prim.Native.Nat.{ℕ, zero, suc, _+_, _<_}
+use Rattle.model.specs.declared.Pending.{Pending}
+use Rattle.model.specs.Geometry.{Geometry, width, height}
+use Rattle.model.specs.Pixels.{bit, seen}
+use Rattle.model.specs.Rects.{Rect, In, linesOf}
+use Rattle.model.specs.Record.{Words, decode}
+use Rattle.model.specs.Refusals.{refusal}
+use Rattle.model.specs.Marks.{Drawing, whole, owing, owes}
+use Rattle.model.specs.Open.{nothingPending, openPending}
+use Rattle.model.specs.Points.{drawMode, point}
+use Rattle.model.specs.Poke.{pokeMark}
+use Rattle.model.specs.Sends.{sendPending}
+use Rattle.model.specs.Calls.{Call, opening, reset, drawPoint, checkPixel, writeByte, getRow, getColumn, setRow, setColumn, setPrintMode, takeDirtyArea, send, Lent, Outcome, refusals, outcome}
+use lib.ListN.{length}
+
+-- ---- lists of calls
+
+abbrev pub accepted : Geometry → Call → Lent → Type 0
+accepted g c l = refusal (refusals g c l) ≡ 0
+
+-- the numbers of a call are numbers of the types that the C interface gives them
+abbrev pub Typed : Call → Type 0
+Typed (opening graphics text version keys) = (length keys ≡ 8) × Words keys
+Typed reset = Unit {0}
+Typed (drawPoint x y mode) = (x < 256) × (y < 256) × (mode < 256)
+Typed (checkPixel x y) = Unit {0}
+Typed (writeByte a v) = (a < 65536) × (v < 256)
+Typed getRow = Unit {0}
+Typed getColumn = Unit {0}
+Typed (setRow n) = n < 256
+Typed (setColumn n) = n < 256
+Typed (setPrintMode n) = n < 256
+Typed takeDirtyArea = Unit {0}
+Typed send = Unit {0}
+
+-- An item of a list: a call that is lent what the last accepted call left, which may be accepted or refused; or a refused call that is lent other buffers.
+pub data Item (g : Geometry) : Type 0 where
+  here : (c : Call) → Typed c → Item g
+  elsewhere : (c : Call) (l : Lent) → (accepted g c l → ⊥) → Item g
+
+-- what stands after an item
+unfoldable pub after : (g : Geometry) → Lent → Item g → Lent
+after g l (here c t) = outcome g c l .left
+after g l (elsewhere c k r) = l
+
+unfoldable pub run : (g : Geometry) → Lent → List (Item g) → Lent
+run g l [] = l
+run g l (i ∷ is) = run g (after g l i) is
+
+-- ---- owed, in hand and lines sent, reckoned from the list
+
+-- what an accepted call does to them
+pub data Effect : Type 0 where
+  nothing : Effect
+  marks : Rect → Effect
+  opens : Effect
+  sends : Effect
+
+-- a drawing adds what it owes
+abbrev pub draws : Geometry → Drawing → Effect
+draws g d = marks (owes (g .stride) (height g) (d .owed) (seen (g .stride) (height g) (d .writes)))
+
+-- what each call does to them where it is accepted, in the state that the calls before it leave
+unfoldable pub effect : Geometry → Call → Lent → Effect
+effect g (opening graphics text version keys) l = opens
+effect g reset l = marks (whole (g .stride) (height g))
+effect g (drawPoint x y mode) l = draws g (point (g .stride) (height g) x y (drawMode mode))
+effect g (checkPixel x y) l = nothing
+effect g (writeByte a v) l = let s = decode g (l .rec) in marks (pokeMark g (s .keys) (s .head .graphics) a)
+effect g getRow l = nothing
+effect g getColumn l = nothing
+effect g (setRow n) l = nothing
+effect g (setColumn n) l = nothing
+effect g (setPrintMode n) l = nothing
+effect g takeDirtyArea l = nothing
+effect g send l = sends
+
+unfoldable pub affected : Geometry → Pending → Effect → Pending
+affected g p nothing = p
+affected g p (marks m) = owing g m p
+affected g p opens = openPending g
+affected g p sends = sendPending p
+
+-- a refused call does nothing to them
+unfoldable pub effectAt : ℕ → Effect → Effect
+effectAt zero e = e
+effectAt (suc k) e = nothing
+
+unfoldable pub itemEffect : (g : Geometry) → Lent → Item g → Effect
+itemEffect g l (here c t) = effectAt (refusal (refusals g c l)) (effect g c l)
+itemEffect g l (elsewhere c k r) = nothing
+
+unfoldable pub reckoned : (g : Geometry) → Pending → Lent → List (Item g) → Pending
+reckoned g p l [] = p
+reckoned g p l (i ∷ is) = reckoned g (affected g p (itemEffect g l i)) (after g l i) is
+
+-- ---- L, and the pixels that differ
+
+unfoldable pub owedLines : List Rect → ℕ
+owedLines [] = 0
+owedLines (r ∷ rs) = linesOf r + owedLines rs
+
+-- L: the heights of what is in hand and what is owed
+unfoldable pub linesLeft : Pending → ℕ
+linesLeft p = linesOf (p .hand) + owedLines (p .owed)
+
+abbrev pub InAny : List Rect → ℕ → ℕ → Type 0
+InAny [] x y = ⊥
+InAny (r ∷ rs) x y = In r x y ⊎ InAny rs x y
+
+-- a pixel differs when its bits on screen and panel do
+abbrev pub Differs : Geometry → List ℕ → List ℕ → ℕ → ℕ → Type 0
+Differs g s p x y = bit (g .stride) s x y ≢ bit (g .stride) p x y
+
+unfoldable pub differs : Bool → Bool → ℕ
+differs true true = 0
+differs true false = 1
+differs false true = 1
+differs false false = 0
+
+unfoldable pub sum : ℕ → (ℕ → ℕ) → ℕ
+sum zero f = 0
+sum (suc n) f = sum n f + f n
+
+-- how many pixels differ
+unfoldable pub differing : Geometry → List ℕ → List ℕ → ℕ
+differing g s p = sum (height g) (λ y. sum (width g) (λ x. differs (bit (g .stride) s x y) (bit (g .stride) p x y)))

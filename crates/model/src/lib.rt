@@ -1,0 +1,68 @@
+// The types that code and definitions share. Every definition of document 01 stands in specs/; no function has a body here.
+
+// left < right and top < bottom, right and bottom not included; the empty rectangle is four zeros.
+pub struct Rect {
+    pub left: u16,
+    pub top: u16,
+    pub right: u16,
+    pub bottom: u16,
+}
+
+// The first 18 bytes of the record: the bases, the text state, the modes and the dirty area.
+pub struct Head {
+    pub graphics: u16,
+    pub text: u16,
+    pub row: u8,
+    pub column: u8,
+    pub screen: u8,
+    pub print: u8,
+    pub cursor: u8,
+    pub version: u8,
+    pub dirty: Rect,
+}
+
+// What one panel has still to be sent: the owed area, a rectangle for each band, the rectangle in hand and the count of lines sent.
+pub struct Pending {
+    pub owed: [Rect; 1],
+    pub hand: Rect,
+    pub sent: u32,
+}
+
+// What a drawing marks: the rectangle for dirty, and the one that it owes. Empty: nothing.
+pub struct Marks {
+    pub dirty: Rect,
+    pub owed: Rect,
+}
+
+pub enum DrawMode {
+    Clear,
+    Or,
+    Xor,
+    Unknown,
+}
+
+// Results that hold more than a code. With a refusal all numbers but the code are 0.
+#[repr(C)]
+pub struct Value {
+    pub code: u32,
+    pub value: u32,
+}
+
+#[repr(C)]
+pub struct Area {
+    pub code: u32,
+    pub left: u32,
+    pub top: u32,
+    pub right: u32,
+    pub bottom: u32,
+}
+
+// sent is 1, or 0 for idle.
+#[repr(C)]
+pub struct Sent {
+    pub code: u32,
+    pub sent: u32,
+    pub line: u32,
+    pub left: u32,
+    pub right: u32,
+}
