@@ -6,3 +6,6 @@ pub mod Rects
 pub mod Memory
 pub mod Bands
 pub mod Marks
+pub mod Layout
+pub mod Record
+pub mod States
