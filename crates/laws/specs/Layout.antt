@@ -1,17 +1,17 @@
 -- Numbers, rectangles, words and flags as bytes: what is read and written again, and what is written and read again.
 use mathlib.Core.Path.{_≡_, refl, sym, ap, _∙_}
 use mathlib.Core.List.{List, [], _∷_, _++_, append-assoc, map}
-use mathlib.Core.Bool.{Bool, true, false, _&&_}
+use mathlib.Core.Bool.{Bool, true, false}
 use Prim.Native.Nat.{ℕ, zero, suc, _+_, _*_, _/_, _%_, _<_, _≤_}
 use native.Mathlib.Nat.{add-zero, div-div-eq-div-mul}
 use native.Mathlib.Omega.{arith}
 use lib.Dec.{leb}
-use lib.ListN.{length, getD, take, drop, length-append, length-drop}
-use lib.Seq.{drop-cons, drop-drop, drop-at, getD-drop}
+use lib.ListN.{length, getD, drop, length-drop}
+use lib.Seq.{drop-cons, drop-drop, getD-drop}
 use borrow.Author.Tests.{leb-true}
 use Rattle.model.specs.declared.Rect.{Rect}
-use Rattle.model.specs.Record.{two, four, rectAt, rectsAt, wordsAt, twoBytes, fourBytes, rectBytes, rectsBytes, wordsBytes, flagOf, flagByte, flagsFit, Bytes, Words}
-use Rattle.laws.specs.Tests.{and-true, by-lt}
+use Rattle.model.specs.Record.{two, four, rectAt, rectsAt, wordsAt, fourBytes, rectBytes, rectsBytes, wordsBytes, flagOf, flagByte, flagsFit, Bytes, Words}
+use Rattle.laws.specs.Tests.{and-true}
 use Rattle.laws.specs.Rects.{rect-equal}
 
 -- ---- bytes

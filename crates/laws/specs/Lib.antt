@@ -9,3 +9,4 @@ pub mod Marks
 pub mod Layout
 pub mod Record
 pub mod States
+pub mod Loops

@@ -1,22 +1,20 @@
 -- The record there and back: a record that passes STATE is what its fields encode to, and a state that is well formed is what its bytes decode to.
 use mathlib.Core.Path.{_≡_, refl, sym, ap, _∙_}
 use mathlib.Core.List.{List, [], _∷_, _++_, append-assoc, map}
-use mathlib.Core.Logic.{inl, inr}
-use mathlib.Core.Bool.{Bool, true, _&&_}
-use Prim.Native.Nat.{ℕ, zero, suc, _+_, _-_, _*_, _%_, _/_, _<_, _≤_}
-use native.Mathlib.Nat.{zero-add}
+use mathlib.Core.Bool.{Bool, true}
+use Prim.Native.Nat.{ℕ, _+_, _-_, _*_, _<_, _≤_}
 use native.Mathlib.Omega.{arith}
-use lib.ListN.{length, getD, take, drop, length-append, length-drop, length-map}
+use lib.ListN.{length, getD, take, drop, length-drop, length-map}
 use lib.Seq.{drop-drop, drop-at, take-all}
 use Rattle.model.specs.declared.Rect.{Rect}
 use Rattle.model.specs.declared.Head.{Head}
 use Rattle.model.specs.declared.Pending.{Pending}
 use Rattle.model.specs.Geometry.{Geometry, width, height, rows, columns, cells, screenBytes}
 use Rattle.model.specs.Rects.{fits}
-use Rattle.model.specs.Record.{State, decode, encode, headOf, pendingOf, bytesOfHead, bytesOfPending, rectAt, rectsAt, wordsAt, four, two, rectBytes, rectsBytes, wordsBytes, fourBytes, flagOf, flagByte, flagsFit, bandsFit, windows, windowTests, stateTests, stateFits, valid, Bytes, Words, WellFormed, pendingAt, pendingBytes, keysAt, flagsAt, recordBytes}
-use Rattle.laws.specs.Tests.{tests, and-true, all-true, by-test, either}
-use Rattle.laws.specs.Rects.{Fits, Proper, passes-fits, rect-equal}
-use Rattle.laws.specs.Layout.{Short, AllShort, bytes-drop, bytes-cons, bytes-nil, four-from, rect-from, rects-at, words-at, elements, elements-drop, low, high, rect-again, four-again, rects-again, words-again, flags-again, two-back, four-back, rect-back, rects-back, words-back, flags-back, flags-fit, length-rects, length-words}
+use Rattle.model.specs.Record.{State, decode, encode, headOf, pendingOf, bytesOfHead, bytesOfPending, rectAt, rectsAt, wordsAt, four, rectBytes, rectsBytes, wordsBytes, fourBytes, flagOf, flagByte, flagsFit, bandsFit, windows, windowTests, stateTests, stateFits, valid, Bytes, WellFormed, pendingAt, pendingBytes, keysAt, flagsAt, recordBytes}
+use Rattle.laws.specs.Tests.{tests, and-true, all-true, either}
+use Rattle.laws.specs.Rects.{passes-fits}
+use Rattle.laws.specs.Layout.{Short, AllShort, four-from, rect-from, rects-at, words-at, elements, elements-drop, low, high, rect-again, four-again, rects-again, words-again, flags-again, two-back, four-back, rect-back, rects-back, words-back, flags-back, length-rects, length-words}
 
 -- a record that a call accepts
 pub record Passing (g : Geometry) (r : List ℕ) : Type 0 where

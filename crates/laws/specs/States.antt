@@ -1,18 +1,16 @@
 -- A record that passes STATE means a well formed state, and the bytes of a well formed state pass.
-use mathlib.Core.Path.{_≡_, refl, sym, ap, _∙_}
+use mathlib.Core.Path.{_≡_, refl, ap, _∙_}
 use mathlib.Core.List.{List, [], _∷_, _++_, map}
 use mathlib.Core.Bool.{Bool, true, false, _&&_}
-use Prim.Native.Nat.{ℕ, zero, suc, _+_, _*_, _%_, _/_, _<_, _≤_}
+use Prim.Native.Nat.{ℕ, zero, suc, _+_, _*_, _%_, _/_, _<_}
 use native.Mathlib.Omega.{arith}
-use lib.ListN.{length, getD, take, drop, length-append, length-take, length-drop, length-map}
+use lib.ListN.{length, drop, length-append, length-take, length-drop, length-map}
 use Rattle.model.specs.declared.Rect.{Rect}
-use Rattle.model.specs.declared.Head.{Head}
-use Rattle.model.specs.declared.Pending.{Pending}
-use Rattle.model.specs.Geometry.{Geometry, width, height, rows, columns, cells}
-use Rattle.model.specs.Record.{State, decode, encode, headOf, pendingOf, bytesOfHead, bytesOfPending, rectsAt, wordsAt, four, rectBytes, rectsBytes, wordsBytes, fourBytes, flagOf, flagByte, flagsFit, stateFits, valid, Bytes, Words, WellFormed, pendingAt, keysAt, flagsAt, recordBytes}
+use Rattle.model.specs.Geometry.{Geometry}
+use Rattle.model.specs.Record.{State, decode, encode, headOf, pendingOf, bytesOfPending, rectsAt, wordsAt, four, rectBytes, rectsBytes, wordsBytes, fourBytes, flagByte, flagsFit, stateFits, valid, Bytes, Words, WellFormed, pendingAt, keysAt, flagsAt, recordBytes}
 use Rattle.laws.specs.Tests.{and-true}
 use Rattle.laws.specs.Layout.{bytes-cons, bytes-nil, flags-fit, length-rects, length-words}
-use Rattle.laws.specs.Record.{Passing, Small, Numbers, numbers, decode-encode, at-flags}
+use Rattle.laws.specs.Record.{Passing, Small, numbers, decode-encode, at-flags}
 
 -- ---- a record that passes
 
