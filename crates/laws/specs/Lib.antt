@@ -10,3 +10,4 @@ pub mod Layout
 pub mod Record
 pub mod States
 pub mod Loops
+pub mod Stores
