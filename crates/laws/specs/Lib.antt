@@ -4,6 +4,7 @@ pub mod Pixels
 pub mod Tables
 pub mod Rects
 pub mod Memory
+pub mod Parts
 pub mod Bands
 pub mod Marks
 pub mod Layout
@@ -11,3 +12,4 @@ pub mod Record
 pub mod States
 pub mod Loops
 pub mod Stores
+pub mod Keys
