@@ -53,3 +53,11 @@ window-other b s m c n h (inr o) =
     ∙ ap (λ (k : ℕ). take n (drop k ((take b m ++ s) ++ drop (b + length s) m))) e
     ∙ ap (take n) (drop-append-add (take b m ++ s) (drop (b + length s) m) (c - (b + length s)) ∙ drop-drop (c - (b + length s)) (b + length s) m)
     ∙ ap (λ (k : ℕ). take n (drop k m)) f
+
+-- a window right after a list: what stands before it stays, what follows it is what followed
+pub append-window : (a b l : List ℕ) (n : ℕ) → length a ≡ n → withWindow n b (a ++ l) ≡ a ++ (b ++ drop (length b) l)
+unfolding withWindow
+append-window a b l n e =
+    ap (λ (x : List ℕ). x ++ (b ++ drop (n + length b) (a ++ l))) (take-at a l n e)
+    ∙ ap (λ (k : ℕ). a ++ (b ++ drop (k + length b) (a ++ l))) (sym e)
+    ∙ ap (λ (x : List ℕ). a ++ (b ++ x)) (drop-append-add a l (length b))
