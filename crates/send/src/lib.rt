@@ -1,2 +1,3 @@
-// One line of the screen to the panel, and what a send does to the pending part of the record.
+// A send: one line copied from screen to panel, and what that does to the pending part of the record.
 pub mod line;
+pub mod pending;
