@@ -1,0 +1,30 @@
+use Rattle.laws.specs.Points.{point-on, point-off, on-true}
+use borrow.Author.Needs.{needs}
+use Rattle.draw.proofs.point.draw_point.Statement.{statement}
+use Rattle.draw.proofs.point.draw_point.Tie as tie
+
+on-screen-requires : tie.Need-on-screen-requires
+on-screen-requires c κs = search needs
+
+plot-requires : tie.Need-plot-requires
+plot-requires c κs = (c .before .before .before .before .pre, on-true _ _ _ _ (cc))
+
+add-t16 : tie.Need-add-t16
+add-t16 c = search needs
+
+add-t18 : tie.Need-add-t18
+add-t18 c = search needs
+
+same-length : tie.Need-same-length
+same-length c = search needs
+
+returns : tie.Need-returns
+returns c = search point-on
+
+returns-2 : tie.Need-returns-2
+returns-2 c = search point-off
+
+pub draw-point-spec : {M : Type 1} → statement M
+draw-point-spec =
+    tie.close
+    (tie.spec on-screen-requires plot-requires add-t16 add-t18 same-length returns returns-2)
