@@ -1,14 +1,16 @@
 // `draw_point`, `check_point`, and the one write of a pixel that lines and ellipses use too.
 ghost use mathlib.Core.Path.{_≡_};
+ghost use mathlib.Core.List.{[], _∷_};
 ghost use Prim.Native.Nat.{_+_, _-_, _*_, _<_};
 ghost use Rattle.model.specs.Bits.{bitAt, withBit};
-ghost use Rattle.model.specs.Pixels.{Screen, onScreen, bit, writePixel};
+ghost use Rattle.model.specs.Pixels.{Screen, onScreen, bit, writePixel, draw, seen};
 ghost use Rattle.model.specs.Marks.{drawn, drawnOn};
 ghost use Rattle.model.specs.Points.{pointOp, pointWrite, point, checkPoint};
 ghost use Rattle.laws.specs.Points.{axisOf};
+use crate::marks::no_marks;
+use crate::marks::span;
 use model::DrawMode;
 use model::Marks;
-use model::Rect;
 
 // A byte after a point at its bit k, counted from the highest.
 fn point_byte(mode: DrawMode, b: u8, k: u8) -> u8
@@ -24,21 +26,40 @@ fn point_byte(mode: DrawMode, b: u8, k: u8) -> u8
     }
 }
 
-pub fn plot(stride: usize, height: usize, screen: &mut [u8], x: u8, y: u8, mode: DrawMode)
+// A point on the screen.
+pub fn plot(stride: usize, height: usize, screen: &mut [u8], x: usize, y: usize, mode: DrawMode)
     requires { ⌜ Screen stride height (now screen) ⌝ }
     requires { ⌜ (x < 8 * stride) × (y < height) ⌝ }
     ensures { λ _. ⌜ now (screen .exit) ≡ writePixel stride (now (screen .entry)) (pointWrite x y mode) ⌝ }
 {
-    let at = stride * (y as usize) + (x as usize) / 8;
-    let b = point_byte(mode, screen[at], x % 8);
+    let at = stride * y + x / 8;
+    let k = (x % 8) as u8;
+    let b = point_byte(mode, screen[at], k);
     screen[at] = b;
 }
 
-pub fn on_screen(stride: usize, height: usize, x: u8, y: u8) -> bool
+pub fn on_screen(stride: usize, height: usize, x: usize, y: usize) -> bool
     requires { ⌜ stride < 256 ⌝ }
     ensures { λ r. ⌜ r ≡ onScreen stride height x y ⌝ }
 {
-    ((x as usize) < 8 * stride) & ((y as usize) < height)
+    (x < 8 * stride) & (y < height)
+}
+
+// A point anywhere: off the screen it draws nothing.
+pub fn plot_seen(
+    stride: usize,
+    height: usize,
+    screen: &mut [u8],
+    x: usize,
+    y: usize,
+    mode: DrawMode,
+)
+    requires { ⌜ Screen stride height (now screen) ⌝ }
+    ensures { λ _. ⌜ now (screen .exit) ≡ draw stride (seen stride height (pointWrite x y mode ∷ [])) (now (screen .entry)) ⌝ }
+{
+    if on_screen(stride, height, x, y) {
+        plot(stride, height, screen, x, y, mode);
+    }
 }
 
 pub fn draw_point(
@@ -52,29 +73,15 @@ pub fn draw_point(
     requires { ⌜ Screen stride height (now screen) ⌝ }
     ensures { λ r. ⌜ drawn r (now (screen .exit)) ≡ drawnOn stride height (point stride height x y mode) (now (screen .entry)) ⌝ }
 {
-    if on_screen(stride, height, x, y) {
-        plot(stride, height, screen, x, y, mode);
-        let pixel = Rect {
-            left: x as u16,
-            top: y as u16,
-            right: (x as u16) + 1,
-            bottom: (y as u16) + 1,
-        };
+    if on_screen(stride, height, x as usize, y as usize) {
+        plot(stride, height, screen, x as usize, y as usize, mode);
+        let pixel = span(x, y, x, y);
         return Marks {
             dirty: pixel,
             owed: pixel,
         };
     }
-    let none = Rect {
-        left: 0,
-        top: 0,
-        right: 0,
-        bottom: 0,
-    };
-    Marks {
-        dirty: none,
-        owed: none,
-    }
+    no_marks()
 }
 
 // A coordinate, or `size` where it lies off the axis.

@@ -78,17 +78,32 @@ point-fits st h x y hx hy =
     if-cases (λ (r : Rect). fits 256 0 256 r ≡ true) (onScreen st h x y)
     (λ e. fits-passes 256 0 256 (pixelRect x y) (inr (omega arith))) (λ e. fits-passes 256 0 256 none (inl refl))
 
-pub point-on : (st h x y : ℕ) (d : DrawMode) (s e : List ℕ) {t : Bool} → t ≡ onScreen st h x y → t ≡ true
-    → e ≡ writePixel st s (pointWrite x y d) → drawn (both (pixelRect x y)) e ≡ drawnOn st h (point st h x y d) s
+pub point-on : (st h x y : ℕ) (d : DrawMode) (s e : List ℕ) {t : Bool} {m : Rect} → t ≡ onScreen st h x y → t ≡ true → m ≡ pixelRect x y
+    → e ≡ writePixel st s (pointWrite x y d) → drawn (both m) e ≡ drawnOn st h (point st h x y d) s
 unfolding drawn drawnOn point owes within seen pointRect draw
-point-on st h x y d s e p q w =
+point-on st h x y d s e {m = m} p q r w =
     let o : onScreen st h x y ≡ true = cc in
-    rw (o, in-inside (pixelRect x y) x y (omega arith)) (λ i. record { dirty = pixelRect x y; owed = pixelRect x y; screen = w i })
+    rw (o, in-inside (pixelRect x y) x y (omega arith)) (λ i. record { dirty = r i; owed = r i; screen = w i })
 
-pub point-off : (st h x y : ℕ) (d : DrawMode) (s : List ℕ) {t : Bool} → t ≡ onScreen st h x y → t ≡ false
-    → drawn (both none) s ≡ drawnOn st h (point st h x y d) s
+pub point-off : (st h x y : ℕ) (d : DrawMode) (s : List ℕ) {t : Bool} {m : Marks} → t ≡ onScreen st h x y → t ≡ false → m ≡ both none
+    → drawn m s ≡ drawnOn st h (point st h x y d) s
 unfolding drawn drawnOn point owes within seen pointRect draw
-point-off st h x y d s p q =
+point-off st h x y d s p q r =
+    let o : onScreen st h x y ≡ false = cc in
+    rw (o, r)
+
+-- one write, where it falls on the screen
+pub seen-one : (st h x y : ℕ) (d : DrawMode) (s e : List ℕ) {t : Bool} → t ≡ onScreen st h x y → t ≡ true → e ≡ writePixel st s (pointWrite x y d)
+    → e ≡ draw st (seen st h (pointWrite x y d ∷ [])) s
+unfolding seen draw
+seen-one st h x y d s e p q w =
+    let o : onScreen st h x y ≡ true = cc in
+    rw o w
+
+pub seen-none : (st h x y : ℕ) (d : DrawMode) (s : List ℕ) {t : Bool} → t ≡ onScreen st h x y → t ≡ false
+    → s ≡ draw st (seen st h (pointWrite x y d ∷ [])) s
+unfolding seen draw
+seen-none st h x y d s p q =
     let o : onScreen st h x y ≡ false = cc in
     rw o
 

@@ -9,11 +9,8 @@ on-screen-requires c κs = search needs
 plot-requires : tie.Need-plot-requires
 plot-requires c κs = (c .before .before .before .before .pre, on-true _ _ _ _ (cc))
 
-add-t16 : tie.Need-add-t16
-add-t16 c = search needs
-
-add-t18 : tie.Need-add-t18
-add-t18 c = search needs
+span-requires : tie.Need-span-requires
+span-requires c κs = search needs
 
 same-length : tie.Need-same-length
 same-length c = search needs
@@ -21,10 +18,20 @@ same-length c = search needs
 returns : tie.Need-returns
 returns c = search point-on
 
+no-marks-requires : tie.Need-no-marks-requires
+no-marks-requires c κs = search needs
+
 returns-2 : tie.Need-returns-2
 returns-2 c = search point-off
 
 pub draw-point-spec : {M : Type 1} → statement M
 draw-point-spec =
     tie.close
-    (tie.spec on-screen-requires plot-requires add-t16 add-t18 same-length returns returns-2)
+    (tie.spec
+    on-screen-requires
+    plot-requires
+    span-requires
+    same-length
+    returns
+    no-marks-requires
+    returns-2)

@@ -11,6 +11,9 @@ mul-at c = omega (arith, place-in _ _ (c .before .args .x) (c .before .args .y) 
 add-at : tie.Need-add-at
 add-at c = omega (arith, place-in _ _ (c .before .args .x) (c .before .args .y) (c .before .pre .0) (c .before .pre .1))
 
+cast-k : tie.Need-cast-k
+cast-k c = search needs
+
 slice-read-point-byte : tie.Need-slice-read-point-byte
 slice-read-point-byte c = omega (arith, place-in _ _ (c .before .before .args .x) (c .before .before .args .y) (c .before .before .pre .0) (c .before .before .pre .1))
 
@@ -33,6 +36,7 @@ plot-spec =
     (tie.spec
     mul-at
     add-at
+    cast-k
     slice-read-point-byte
     point-byte-requires
     slice-write-screen
