@@ -2,6 +2,8 @@ pub mod Tests
 pub mod Bits
 pub mod Pixels
 pub mod Tables
+pub mod Bytes
+pub mod Masks
 pub mod Rects
 pub mod Memory
 pub mod Bands
