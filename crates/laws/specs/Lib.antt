@@ -8,4 +8,8 @@ pub mod Rects
 pub mod Memory
 pub mod Bands
 pub mod Marks
+pub mod Layout
+pub mod Record
+pub mod States
+pub mod Loops
 pub mod Points
