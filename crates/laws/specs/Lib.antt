@@ -12,4 +12,7 @@ pub mod Layout
 pub mod Record
 pub mod States
 pub mod Loops
+pub mod Writes
 pub mod Points
+pub mod Lines
+pub mod Slopes
