@@ -15,4 +15,5 @@ pub mod Loops
 pub mod Writes
 pub mod Points
 pub mod Lines
+pub mod Runs
 pub mod Slopes

@@ -1,18 +1,17 @@
 -- Horizontal and vertical lines: where their writes lie, and which of them fall on the screen.
-use mathlib.Core.Path.{_≡_, refl, sym, ap, _∙_}
-use mathlib.Core.Bool.{Bool, true, false, cond}
+use mathlib.Core.Path.{_≡_, refl, ap}
+use mathlib.Core.Bool.{true, false}
 use mathlib.Core.List.{List, [], _∷_}
-use Prim.Native.Nat.{ℕ, zero, suc, _+_, _-_, _*_, _≤_, _<_, min, max}
+use Prim.Native.Nat.{ℕ, zero, suc, _+_, _-_, _*_, _≤_, _<_, min}
 use native.Mathlib.Omega.{arith}
 use borrow.Author.Tests.{lt-ltb, le-ltb}
 use Rattle.model.specs.declared.Rect.{Rect}
 use Rattle.model.specs.declared.DrawMode.{DrawMode}
 use Rattle.model.specs.Pixels.{PixelWrite, onScreen, draw, seen}
-use Rattle.model.specs.Rects.{In, lowered}
+use Rattle.model.specs.Rects.{lowered}
 use Rattle.model.specs.Marks.{within}
 use Rattle.model.specs.Points.{pointWrite}
-use Rattle.model.specs.Lines.{spanRect, runOp, pixelRun, clamp, horizontal, pixelColumn, vertical}
-use Rattle.laws.specs.Tests.{by-lt}
+use Rattle.model.specs.Lines.{runOp, pixelRun, clamp, horizontal, pixelColumn, vertical}
 use Rattle.laws.specs.Masks.{rowWrites}
 use Rattle.laws.specs.Writes.{within-none, within-more}
 

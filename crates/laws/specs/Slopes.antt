@@ -1,17 +1,15 @@
 -- Lines that are neither horizontal nor vertical: no pixel lies outside the box of the ends, though the error sums wrap.
 -- After k turns a coordinate with distance `dist` has made s steps, and its error sum e has e + m * s ≤ k * dist, where m is the longer distance: a turn
 -- adds dist to the sum, a step takes m from it, and a wrap takes 256 and makes no step. So at the pixels, where k ≤ m, s is at most dist.
-use mathlib.Core.Path.{_≡_, refl, sym, ap, _∙_}
-use mathlib.Core.Bool.{Bool, true, false, cond}
-use mathlib.Core.List.{List, [], _∷_}
+use mathlib.Core.Path.{_≡_, ap, _∙_}
+use mathlib.Core.Bool.{true}
 use Prim.Native.Nat.{ℕ, zero, suc, _+_, _-_, _*_, _%_, _≤_, _<_, min, max}
 use native.Mathlib.Nat.{mul-le-mul-left, mul-le-mul-right, add-mul-mod-self-right}
 use native.Mathlib.Omega.{arith}
-use lib.Dec.{ltb, leb}
+use lib.Dec.{leb}
 use borrow.Author.Tests.{lt-ltb, le-ltb}
 use Rattle.model.specs.declared.Rect.{Rect}
 use Rattle.model.specs.declared.DrawMode.{DrawMode}
-use Rattle.model.specs.Rects.{In}
 use Rattle.model.specs.Marks.{within}
 use Rattle.model.specs.Lines.{spanRect, Slope, slopeOf, errorSum, stepped, nextError, slope, sloped}
 use Rattle.laws.specs.Tests.{tests, by-test, by-lt}
