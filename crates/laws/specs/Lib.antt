@@ -15,3 +15,8 @@ pub mod States
 pub mod Loops
 pub mod Stores
 pub mod Keys
+pub mod Writes
+pub mod Points
+pub mod Lines
+pub mod Runs
+pub mod Slopes
