@@ -6,3 +6,4 @@ pub mod Rects
 pub mod Memory
 pub mod Bands
 pub mod Marks
+pub mod Counts
