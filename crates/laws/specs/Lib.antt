@@ -7,3 +7,4 @@ pub mod Memory
 pub mod Bands
 pub mod Marks
 pub mod Counts
+pub mod Calls

@@ -118,7 +118,7 @@ covered-send g s p q l f c =
     (λ e. rw e c)
     (λ e. rw e (covered-line g s p (takeOwed q) l (to-send g q f e) (covered-take g s p q c)))
 
-length-send : (st : ℕ) (s p : List ℕ) (q : Pending) → length (sendPanel st q s p) ≡ length p
+pub length-send : (st : ℕ) (s p : List ℕ) (q : Pending) → length (sendPanel st q s p) ≡ length p
 unfolding sendPanel copyLine
 length-send st s p q =
     let r : Rect = takeOwed q .hand in

@@ -3,3 +3,11 @@ pub mod Pending
 pub mod PanelState
 pub mod Held
 pub mod Sim
+pub mod Formed
+pub mod Step
+pub mod Heads
+pub mod Draws
+pub mod Pokes
+pub mod Opens
+pub mod Sent
+pub mod EachCall
