@@ -6,5 +6,9 @@ pub mod Rects
 pub mod Memory
 pub mod Bands
 pub mod Marks
+pub mod Layout
+pub mod Record
+pub mod States
+pub mod Loops
 pub mod Counts
 pub mod Calls
