@@ -59,5 +59,5 @@ pub point-fits : (g : Geometry) → Glass g → (x y : ℕ) (d : DrawMode) → F
 unfolding point pointRect onScreen
 point-fits g k x y d =
     if-cases (Fits 256 0 256) (ltb x (width g) && ltb y (height g))
-    (λ e. let p = and-true (ltb x (width g)) (ltb y (height g)) e in inr (omega (arith, tests, k .narrow, k .low)))
+    (λ e. let p = and-true (ltb x (width g)) (ltb y (height g)) e in inr (omega (arith, tests, k .small)))
     (λ e. inl refl)

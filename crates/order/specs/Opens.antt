@@ -18,6 +18,7 @@ use Rattle.model.specs.Lists.{marks, opens, affected}
 use Rattle.laws.specs.Tests.{if-cases}
 use Rattle.laws.specs.Rects.{fits-passes, none-fits}
 use Rattle.laws.specs.Marks.{whole-agrees}
+use Rattle.laws.specs.Loops.{length-zeros}
 use Rattle.order.specs.Pending.{fitting-owing, fitting-open}
 use Rattle.order.specs.Formed.{HeadFits, head-fits, fitting, formed}
 use Rattle.order.specs.Step.{Glass, Good, Step, known, stored, marks-step}
@@ -28,10 +29,6 @@ length-withKeys keys zero m = refl
 length-withKeys keys (suc n) m =
     if-cases (λ (l : List ℕ). length l ≡ length m) (isKey keys n)
     (λ e. length-set (withKeys keys n m) n 255 ∙ length-withKeys keys n m) (λ e. length-withKeys keys n m)
-
-length-zeros : (n : ℕ) → length (zeros n) ≡ n
-unfolding zeros
-length-zeros n = length-replicate {A = ℕ} n 0
 
 length-clear : (keys : List ℕ) → length (clearMemory keys) ≡ memoryBytes
 unfolding clearMemory
@@ -44,7 +41,7 @@ clear-fits g k graphics text version a b =
     record {
       bases = a;
       row = lt-ltb 0 (rows g) (k .row);
-      column = lt-ltb 0 (columns g) (k .wide);
+      column = lt-ltb 0 (columns g) (k .stride);
       screen = refl;
       print = refl;
       cursor = refl;

@@ -46,9 +46,9 @@ poked-agrees g keys graphics a v m =
 -- the pixels of a byte of the screen lie on it
 byte-fits : (g : Geometry) → Glass g → (i : ℕ) → i < screenBytes g → Fits 256 0 256 (byteRect (g .stride) i)
 byte-fits g k i h =
-    let column : i % g .stride < g .stride = mod-lt i (k .wide) in
-    let line : i / g .stride < height g = div-lt-iff-lt-mul (k .wide) .1 (rw (mul-comm (height g) (g .stride)) h) in
-    inr (omega (arith, k .narrow, k .low))
+    let column : i % g .stride < g .stride = mod-lt i (k .stride) in
+    let line : i / g .stride < height g = div-lt-iff-lt-mul (k .stride) .1 (rw (mul-comm (height g) (g .stride)) h) in
+    inr (omega (arith, k .small))
 
 mark-fits : (g : Geometry) → Glass g → (keys : List ℕ) (graphics a : ℕ) → Fits 256 0 256 (pokeMark g keys graphics a)
 unfolding pokeMark inScreen

@@ -13,22 +13,19 @@ use Rattle.model.specs.Lists.{Effect, nothing, marks, affected}
 use Rattle.model.specs.Rects.{none}
 use Rattle.model.specs.Marks.{owing}
 use Rattle.laws.specs.Tests.{tests, all-true}
-use Rattle.laws.specs.Record.{Passing}
+use Rattle.laws.specs.Record.{Passing, Small, decode-encode}
+use Rattle.laws.specs.States.{well-formed, encode-passing}
 use Rattle.laws.specs.Memory.{length-window}
 use Rattle.laws.specs.Marks.{AgreeOutside}
 use Rattle.order.specs.PanelState.{PanelState, Follows}
 use Rattle.order.specs.Formed.{head-fits}
 
--- what the calls ask of a geometry: coordinates are at most 256, both windows fit into memory, and a record is what it means
+-- what the calls ask of a geometry: coordinates are bytes, there is a text cell, and the screen fits into memory
 pub record Glass (g : Geometry) : Type 0 where
-  pub wide : 0 < g .stride
-  pub narrow : width g ≤ 256
-  pub low : height g ≤ 256
+  pub small : Small g
+  pub stride : 0 < g .stride
   pub row : 0 < rows g
-  pub small : screenBytes g < memoryBytes
-  pub decode-encode : (s : State) → WellFormed g s → decode g (encode s) ≡ s
-  pub encode-passing : (s : State) → WellFormed g s → Passing g (encode s)
-  pub well-formed : (r : List ℕ) → Passing g r → WellFormed g (decode g r)
+  pub fits : screenBytes g < memoryBytes
 
 -- lent bytes as an accepted call leaves them
 pub record Good (g : Geometry) (l : Lent) : Type 0 where
@@ -57,14 +54,14 @@ same-step g l q = record { good = q; follows = record { pending = refl; panel = 
 module _ (g : Geometry) (k : Glass g) where
   -- what a good record means
   pub known : (l : Lent) → Good g l → WellFormed g (decode g (l .rec))
-  known l q = k .well-formed (l .rec) (q .passing)
+  known l q = well-formed g (l .rec) (q .passing)
 
   -- a new state is written to the record
   pub stored : (l : Lent) (e : Effect) (s : State) (m p : List ℕ) → WellFormed g s → length m ≡ memoryBytes → length p ≡ screenBytes g
       → Follows g (view g l) e (viewOf g s m p) → Step g l e (lent (encode s) m p)
   stored l e s m p w hm hp f = record {
-    good = record { passing = k .encode-passing s w; memory = hm; panel = hp };
-    follows = rw (k .decode-encode s w) f;
+    good = record { passing = encode-passing g (k .small) s w; memory = hm; panel = hp };
+    follows = rw (decode-encode g s w (k .small)) f;
   }
 
   module _ (l : Lent) (q : Good g l) (s : State) (m : List ℕ) (w : WellFormed g s) (hm : length m ≡ memoryBytes) (base : s .head .graphics ≡ decode g (l .rec) .head .graphics) where
@@ -87,7 +84,7 @@ module _ (g : Geometry) (k : Glass g) where
   unfolding windows
   screen-in s w =
       let a = all-true (windowTests g (s .head .graphics) (s .head .text)) (head-fits g s w .bases) in
-      omega (arith, tests, k .small)
+      omega (arith, tests, k .fits)
 
   pub screen-long : (s : State) (m : List ℕ) → WellFormed g s → length m ≡ memoryBytes → length (screenOf g (s .head .graphics) m) ≡ screenBytes g
   screen-long s m w e = length-window (s .head .graphics) (screenBytes g) m (rw e (screen-in s w))
