@@ -1,21 +1,20 @@
 -- Drawings, whatever their shape: what is drawn lies in what is owed.
-use mathlib.Core.Path.{_≡_, refl, ap, _∙_}
+use mathlib.Core.Path.{_≡_, refl, _∙_}
 use mathlib.Core.Logic.{inl, inr}
-use mathlib.Core.Bool.{true, cond, _&&_}
+use mathlib.Core.Bool.{_&&_}
 use lib.Dec.{ltb}
 use mathlib.Core.List.{List}
-use Prim.Native.Nat.{ℕ, _+_, _≤_, _<_}
+use Prim.Native.Nat.{ℕ, _+_, _≤_}
 use native.Mathlib.Omega.{arith}
 use lib.ListN.{length}
 use Rattle.model.specs.declared.Rect.{Rect}
 use Rattle.model.specs.declared.DrawMode.{DrawMode}
-use Rattle.model.specs.Geometry.{Geometry, width, height, screenBytes, memoryBytes}
+use Rattle.model.specs.Geometry.{Geometry, width, height, screenBytes}
 use Rattle.model.specs.Memory.{screenOf, withScreen}
 use Rattle.model.specs.Pixels.{onScreen, draw, seen}
-use Rattle.model.specs.Rects.{none}
 use Rattle.model.specs.Record.{decode, encode}
-use Rattle.model.specs.Marks.{Drawing, updateDirty, owing, owes, drawnOn, marked}
-use Rattle.model.specs.Points.{pixelRect, pointRect, point}
+use Rattle.model.specs.Marks.{Drawing, updateDirty, owes, drawnOn, marked}
+use Rattle.model.specs.Points.{pointRect, point}
 use Rattle.model.specs.Calls.{Lent, lent, drawing}
 use Rattle.model.specs.Lists.{marks, draws}
 use Rattle.laws.specs.Tests.{tests, if-cases, and-true}
@@ -23,7 +22,6 @@ use Rattle.laws.specs.Rects.{Fits}
 use Rattle.laws.specs.Pixels.{length-draw}
 use Rattle.laws.specs.Memory.{length-withWindow, window-same}
 use Rattle.laws.specs.Marks.{AgreeOutside, owes-agrees, seen-on}
-use Rattle.order.specs.PanelState.{PanelState, Follows}
 use Rattle.order.specs.Formed.{marked-formed}
 use Rattle.order.specs.Step.{Glass, Good, Step, known, marks-step, screen-in, screen-long}
 

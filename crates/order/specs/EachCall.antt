@@ -1,6 +1,5 @@
 -- Every accepted call: one clause says that it leaves a good state and that the panel's state follows by its effect.
 use mathlib.Core.Path.{_≡_, refl}
-use mathlib.Core.Bool.{true}
 use mathlib.Core.List.{List}
 use Prim.Native.Nat.{ℕ, zero, suc}
 use native.Mathlib.Omega.{arith}
@@ -12,7 +11,7 @@ use Rattle.model.specs.Marks.{withDirty}
 use Rattle.model.specs.Points.{drawMode, point}
 use Rattle.model.specs.Text.{withRow, withColumn, withPrintMode}
 use Rattle.model.specs.Calls.{Call, opening, reset, drawPoint, checkPixel, writeByte, getRow, getColumn, setRow, setColumn, setPrintMode, takeDirtyArea, send, Lent, answered, refusals, refused, done, outcome}
-use Rattle.model.specs.Lists.{accepted, Typed, Item, here, elsewhere, after, Effect, opens, effect, effectAt, itemEffect}
+use Rattle.model.specs.Lists.{accepted, Typed, Item, here, elsewhere, after, opens, effect, effectAt, itemEffect}
 use Rattle.laws.specs.Calls.{accepted-pass}
 use Rattle.order.specs.Sim.{Simulates}
 use Rattle.order.specs.Step.{Glass, Good, Step, view, same-step}

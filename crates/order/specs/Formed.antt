@@ -1,15 +1,14 @@
 -- A well-formed state taken apart into its head and what is pending, and put together again.
 use mathlib.Core.Path.{_≡_, refl}
-use mathlib.Core.Bool.{true, _&&_}
+use mathlib.Core.Bool.{true}
 use mathlib.Core.List.{List, [], _∷_}
 use Prim.Native.Nat.{ℕ, _+_, _<_}
 use lib.Dec.{leb, ltb}
 use lib.ListN.{length}
 use Rattle.model.specs.declared.Rect.{Rect}
 use Rattle.model.specs.declared.Head.{Head}
-use Rattle.model.specs.declared.Pending.{Pending}
 use Rattle.model.specs.Geometry.{Geometry, width, height, rows, columns, cells}
-use Rattle.model.specs.Rects.{fits, join}
+use Rattle.model.specs.Rects.{fits}
 use Rattle.model.specs.Record.{State, WellFormed, Words, windows, bandsFit, stateFits, stateTests}
 use Rattle.model.specs.Marks.{updateDirty, owing, marked}
 use Rattle.laws.specs.Tests.{and-true, all-true, true-all}

@@ -1,19 +1,18 @@
 -- Calls that change the head alone, and calls that only answer: nothing of them reaches the panel.
-use mathlib.Core.Path.{_≡_, refl, ap}
-use mathlib.Core.Bool.{true, cond, _&&_}
+use mathlib.Core.Path.{_≡_, refl}
+use mathlib.Core.Bool.{true, _&&_}
 use Prim.Native.Nat.{ℕ}
 use lib.Dec.{leb, ltb, eqb}
 use Rattle.model.specs.declared.Head.{Head}
 use Rattle.model.specs.Geometry.{Geometry, rows, columns}
 use Rattle.model.specs.Rects.{none, fits}
-use Rattle.model.specs.Record.{State, decode, withHead}
+use Rattle.model.specs.Record.{decode, withHead}
 use Rattle.model.specs.Marks.{withDirty}
 use Rattle.model.specs.Text.{withRow, withColumn, printMode, withPrintMode}
 use Rattle.model.specs.Calls.{Lent, changed}
-use Rattle.model.specs.Lists.{nothing, affected}
+use Rattle.model.specs.Lists.{nothing}
 use Rattle.laws.specs.Tests.{if-cases}
 use Rattle.laws.specs.Rects.{fits-passes, none-fits}
-use Rattle.order.specs.PanelState.{PanelState, Follows}
 use Rattle.order.specs.Formed.{HeadFits, head-fits, fitting, formed}
 use Rattle.order.specs.Step.{Glass, Good, Step, known, nothing-step}
 

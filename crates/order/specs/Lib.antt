@@ -11,3 +11,6 @@ pub mod Pokes
 pub mod Opens
 pub mod Sent
 pub mod EachCall
+pub mod Accepted
+pub mod Order
+pub mod Theorem

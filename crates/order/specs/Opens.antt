@@ -1,16 +1,16 @@
 -- Open and reset: memory is cleared, and the whole screen is owed.
-use mathlib.Core.Path.{_≡_, refl, ap, _∙_}
-use mathlib.Core.Bool.{Bool, true, false, cond}
+use mathlib.Core.Path.{_≡_, refl, _∙_}
+use mathlib.Core.Bool.{true, false}
 use mathlib.Core.List.{List}
-use Prim.Native.Nat.{ℕ, zero, suc, _+_, _<_}
+use Prim.Native.Nat.{ℕ, zero, suc}
 use native.Mathlib.Omega.{arith}
-use lib.Dec.{leb, ltb}
+use lib.Dec.{leb}
 use lib.ListN.{length, set, replicate, length-set, length-replicate}
 use borrow.Author.Tests.{lt-ltb}
 use Rattle.model.specs.Geometry.{Geometry, height, rows, columns, cells, screenBytes, memoryBytes}
 use Rattle.model.specs.Memory.{zeros}
 use Rattle.model.specs.Rects.{none}
-use Rattle.model.specs.Record.{State, WellFormed, Words, windows, decode, encode}
+use Rattle.model.specs.Record.{Words, windows, decode, encode}
 use Rattle.model.specs.Marks.{whole, owing}
 use Rattle.model.specs.Open.{isKey, withKeys, clearMemory, clearHead, nothingPending, openPending, openState, resetState}
 use Rattle.model.specs.Calls.{Lent, lent}

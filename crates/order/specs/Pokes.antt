@@ -1,18 +1,15 @@
 -- `write_byte`: a poked byte of the screen lies in the eight pixels that are owed; any other changes no pixel.
-use mathlib.Core.Path.{_≡_, refl, ap, _∙_}
+use mathlib.Core.Path.{_≡_, refl, _∙_}
 use mathlib.Core.Logic.{inl, inr}
-use mathlib.Core.Bool.{true, false, cond, _&&_}
 use mathlib.Core.List.{List}
-use Prim.Native.Nat.{ℕ, _+_, _-_, _*_, _/_, _%_, _≤_, _<_}
+use Prim.Native.Nat.{ℕ, _+_, _-_, _/_, _%_, _<_}
 use native.Mathlib.Nat.{mod-lt, div-lt-iff-lt-mul, mul-comm}
 use native.Mathlib.Omega.{arith}
 use lib.Dec.{leb, ltb}
-use lib.ListN.{length, set, length-set}
+use lib.ListN.{length, length-set}
 use borrow.Author.Tests.{leb-true, leb-false, ltb-true, ltb-false}
-use Rattle.model.specs.declared.Rect.{Rect}
-use Rattle.model.specs.Geometry.{Geometry, width, height, screenBytes, memoryBytes}
+use Rattle.model.specs.Geometry.{Geometry, height, screenBytes}
 use Rattle.model.specs.Memory.{screenOf}
-use Rattle.model.specs.Rects.{none}
 use Rattle.model.specs.Record.{decode, encode}
 use Rattle.model.specs.Marks.{updateDirty, marked}
 use Rattle.model.specs.Poke.{ignored, poked, byteRect, inScreen, pokeMark}

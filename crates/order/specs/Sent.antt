@@ -1,15 +1,12 @@
 -- Send: the record's pending part and the panel change as the effect says.
-use mathlib.Core.Path.{_≡_, refl, _∙_}
-use mathlib.Core.Bool.{true, cond}
-use mathlib.Core.List.{List}
-use Prim.Native.Nat.{ℕ, _+_, _<_, min}
+use mathlib.Core.Path.{refl, _∙_}
+use Prim.Native.Nat.{_<_}
 use native.Mathlib.Omega.{arith}
-use lib.ListN.{length}
 use Rattle.model.specs.declared.Pending.{Pending}
-use Rattle.model.specs.Geometry.{Geometry, screenBytes}
+use Rattle.model.specs.Geometry.{Geometry}
 use Rattle.model.specs.Memory.{screenOf}
 use Rattle.model.specs.Rects.{isEmpty}
-use Rattle.model.specs.Record.{State, decode, encode, withPending}
+use Rattle.model.specs.Record.{decode, encode, withPending}
 use Rattle.model.specs.Sends.{takeOwed, lineSent, sendPending, sendPanel}
 use Rattle.model.specs.Calls.{Lent, lent}
 use Rattle.model.specs.Lists.{sends, affected}

@@ -1,14 +1,14 @@
 -- A system whose calls have effects on a panel: what holds of the panel after every list of its calls.
 use mathlib.Core.Path.{_≡_, refl, ap, _∙_}
 use mathlib.Core.List.{List, [], _∷_}
-use Prim.Native.Nat.{ℕ, _+_, _-_, _≤_}
+use Prim.Native.Nat.{ℕ, _+_, _-_}
 use native.Mathlib.Omega.{arith}
 use Rattle.model.specs.declared.Pending.{Pending}
 use Rattle.model.specs.Geometry.{Geometry}
-use Rattle.model.specs.Lists.{Effect, nothing, marks, opens, sends, affected, linesLeft, differing}
+use Rattle.model.specs.Lists.{Effect, nothing, marks, opens, sends, affected, linesLeft}
 use Rattle.order.specs.Pending.{lines-send}
 use Rattle.order.specs.PanelState.{PanelState, Follows}
-use Rattle.order.specs.Held.{Held, held-after, none-left}
+use Rattle.order.specs.Held.{Held, held-after}
 
 -- what stands after a list of calls
 unfoldable pub runAll : {S C : Type 0} → (S → C → S) → S → List C → S
@@ -82,8 +82,3 @@ module _ (g : Geometry) {S C : Type 0} (Good : S → Type 0) (next : S → C →
       let f = m .follows σ c k in
       let h′ = held-after g (view σ) (effect σ c) (view (next σ c)) h f in
       omega (arith, lines-all (next σ c) cs (m .good σ c k) h′ (q .1), lines-quiet g (view σ) (effect σ c) (view (next σ c)) h f (q .0))
-
-  -- so after as many sends as lines were left, or more, no pixel differs
-  pub level-all : (σ : S) (cs : List C) → Good σ → Held g (view σ) → AllQuiet next effect σ cs
-      → linesLeft (view σ .pending) ≤ allSends next effect σ cs → differing g (view (runAll next σ cs) .screen) (view (runAll next σ cs) .panel) ≡ 0
-  level-all σ cs k h q n = none-left g (view (runAll next σ cs)) (held-all σ cs k h) (omega (arith, lines-all σ cs k h q))

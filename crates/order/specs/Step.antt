@@ -5,7 +5,7 @@ use Prim.Native.Nat.{ℕ, _+_, _≤_, _<_}
 use native.Mathlib.Omega.{arith}
 use lib.ListN.{length}
 use Rattle.model.specs.declared.Rect.{Rect}
-use Rattle.model.specs.Geometry.{Geometry, width, height, screenBytes, rows, memoryBytes}
+use Rattle.model.specs.Geometry.{Geometry, height, screenBytes, rows, memoryBytes}
 use Rattle.model.specs.Memory.{screenOf}
 use Rattle.model.specs.Record.{State, WellFormed, decode, encode, windows, windowTests}
 use Rattle.model.specs.Calls.{Lent, lent}
