@@ -20,3 +20,5 @@ pub mod Points
 pub mod Lines
 pub mod Runs
 pub mod Slopes
+pub mod Counts
+pub mod Calls
