@@ -6,6 +6,7 @@ pub mod Bytes
 pub mod Masks
 pub mod Rects
 pub mod Memory
+pub mod Parts
 pub mod Bands
 pub mod Marks
 pub mod Layout
@@ -13,3 +14,11 @@ pub mod Record
 pub mod States
 pub mod Loops
 pub mod Stores
+pub mod Keys
+pub mod Writes
+pub mod Points
+pub mod Lines
+pub mod Runs
+pub mod Slopes
+pub mod Counts
+pub mod Calls
