@@ -5,18 +5,18 @@ use mathlib.Core.Logic.{inl, inr}
 use mathlib.Core.Bool.{Bool, true, false, cond, _&&_, Bool·beq, and-true}
 use mathlib.Core.List.{List, [], _∷_}
 use Prim.Native.Nat.{ℕ, zero, suc, _+_, _-_, _*_, _/_, _%_, _^_, _≤_, _<_}
+use native.Mathlib.Nat.{div-le-self}
 use native.Mathlib.Omega.{arith}
 use lib.Dec.{leb, ltb}
 use lib.Bits.{bitAnd, and-lt}
 use lib.ListN.{length, getD, set, length-set}
 use lib.Seq.{getD-set-same, getD-set-other}
+use borrow.Author.Tests.{le-leb, lt-leb, lt-ltb, le-ltb}
 use Rattle.model.specs.Bits.{bitAt}
 use Rattle.model.specs.Pixels.{place, bit, put, PixelWrite, writePixel, draw, copyRun}
 use Rattle.model.specs.Record.{Bytes}
 use Rattle.laws.specs.Tests.{by-lt, by-eq}
 use Rattle.laws.specs.Tables.{every, every-at, every₂-at}
-use borrow.Author.Tests.{le-leb, lt-leb, lt-ltb, le-ltb}
-use native.Mathlib.Nat.{div-le-self}
 use Rattle.laws.specs.Bytes.{same-bool, bitAt-and, Masked, bytes-set, bytes-put, screens-equal}
 use Rattle.laws.specs.Pixels.{place-line, length-put, put-same, put-other}
 

@@ -1,8 +1,8 @@
 -- A line copied by bytes is the line copied by pixels.
 use mathlib.Core.Path.{_≡_, refl, sym, ap, _∙_}
+use mathlib.Core.Bool.{Bool}
 use mathlib.Core.List.{List}
 use Prim.Native.Nat.{ℕ, _+_, _-_, _*_, _/_, _%_, _≤_, _<_}
-use native.Mathlib.Nat.{mul-le-mul-left, mul-suc}
 use native.Mathlib.Omega.{arith}
 use lib.Bits.{bitAnd}
 use lib.ListN.{length, getD, set, take, drop, List·getD-append}
@@ -18,11 +18,12 @@ use Rattle.model.specs.Sends.{copyLine}
 use Rattle.laws.specs.Tests.{by-lt}
 use Rattle.laws.specs.Bytes.{mixed, mix-masked}
 use Rattle.laws.specs.Masks.{startMask, endMask, Mask, start-mask, end-mask, both-masks, Run, run-masked, run-bytes, run-line, run-equal, run-copyRun}
+use Rattle.laws.specs.Runs.{line-in}
 use Rattle.send.specs.Line.{Line}
 
 -- the line lies within the bytes of the screen
 pub row-in : (st h : ℕ) (s p : List ℕ) (r : Rect) → Line st h s p r → st * r .top + st ≤ st * h
-row-in st h s p r l = omega (arith, mul-le-mul-left st (l .above), mul-suc st (r .top))
+row-in st h s p r l = omega (arith, line-in st h (r .top) (l .screen) (l .above))
 
 -- a byte of a slice
 abbrev pub Known : List ℕ → Type 0
@@ -32,9 +33,13 @@ are-bytes : (s : List ℕ) → Known s → Bytes s
 unfolding Bytes
 are-bytes s k i = k i .fits
 
+-- what the copy makes of a pixel of line y: the screen's bit
+abbrev taking : ℕ → List ℕ → ℕ → ℕ → Bool → Bool
+taking st s y x v = bit st s x y
+
 -- one byte, its masked bits copied
 run-mixed : (st y k a b m : ℕ) (s p : List ℕ) → Mask k a b m → k < st → st * y + k < length p → Bytes s → Bytes p
-    → Run st y a b (λ x v. bit st s x y) p (set p (st * y + k) (mixed m (getD s (st * y + k) 0) (getD p (st * y + k) 0)))
+    → Run st y a b (taking st s y) p (set p (st * y + k) (mixed m (getD s (st * y + k) 0) (getD p (st * y + k) 0)))
 unfolding bit Bytes
 run-mixed st y k a b m s p hm hk hi hs hp =
     run-masked st y k a b m _ _ p _ hm hk hi hp
@@ -64,7 +69,7 @@ put-part a e i p s g h l u =
 
 -- bytes a up to e, which are bytes k up to l of line y, lent and come back as the screen's
 run-part : (st y k l a e : ℕ) (s p ys : List ℕ) → a ≡ st * y + k → e ≡ st * y + l → k ≤ l → l ≤ st → e ≤ length s → e ≤ length p
-    → ys ≡ midOf a (e - a) s → Bytes (putMid a (e - a) p ys) → Run st y (8 * k) (8 * l) (λ x v. bit st s x y) p (putMid a (e - a) p ys)
+    → ys ≡ midOf a (e - a) s → Bytes (putMid a (e - a) p ys) → Run st y (8 * k) (8 * l) (taking st s y) p (putMid a (e - a) p ys)
 run-part st y k l a e s p ys ha he kl ls es ep hy hq =
     let ms : length ys ≡ e - a = ap length hy ∙ mid-len a e s es in
     run-bytes st y k l s p _ ls (same-len-mid a (e - a) p ys (ms ∙ sym (mid-len a e p ep))) hq
@@ -88,7 +93,7 @@ with-masked i m s p = set p i (mixed m (getD s i 0) (getD p i 0))
 
 module _ {st h : ℕ} {s p : List ℕ} {r : Rect} (l : Line st h s p r) (hs : Known s) (hp : Known p) where
   -- what a run from left to right leaves is the line copied by pixels
-  is-line : (q : List ℕ) → Run st (r .top) (r .left) (r .right - 1 + 1) (λ x v. bit st s x (r .top)) p q → q ≡ copyLine st r s p
+  is-line : (q : List ℕ) → Run st (r .top) (r .left) (r .right - 1 + 1) (taking st s (r .top)) p q → q ≡ copyLine st r s p
   unfolding copyLine
   is-line q f =
       run-equal st (r .top) (r .left) (r .right - 1 + 1) _ p q _ (omega arith) f
@@ -112,11 +117,12 @@ module _ {st h : ℕ} {s p : List ℕ} {r : Rect} (l : Line st h s p r) (hs : Kn
       let k = r .left / 8 in
       let e = (r .right - 1) / 8 in
       let p₂ = putMid (first st r + 1) (end st r - (first st r + 1)) p₁ ys in
-      let f₁ : Run st (r .top) (r .left) (8 * (k + 1)) (λ x v. bit st s x (r .top)) p p₁ =
-      rw (i, f) (run-mixed st (r .top) k (r .left) (8 * (k + 1)) _ s p (start-mask (r .left)) (omega arith) (omega (arith, row-in)) (are-bytes s hs) (are-bytes p hp)) in
-      let f₂ : Run st (r .top) (8 * (k + 1)) (8 * e) (λ x v. bit st s x (r .top)) p₁ p₂ =
+      let bs = are-bytes s hs in
+      let f₁ : Run st (r .top) (r .left) (8 * (k + 1)) (taking st s (r .top)) p p₁ =
+      rw (i, f) (run-mixed st (r .top) k (r .left) (8 * (k + 1)) _ s p (start-mask (r .left)) (omega arith) (omega (arith, row-in)) bs (are-bytes p hp)) in
+      let f₂ : Run st (r .top) (8 * (k + 1)) (8 * e) (taking st s (r .top)) p₁ p₂ =
       run-part st (r .top) (k + 1) e (first st r + 1) (end st r) s p₁ ys (omega arith) refl (omega arith) (omega arith) (omega (arith, row-in)) (omega (arith, row-in))
       j (are-bytes p₂ hk) in
-      let f₃ : Run st (r .top) (8 * e) (r .right - 1 + 1) (λ x v. bit st s x (r .top)) p₂ q =
-      rw (o, g) (run-mixed st (r .top) e (8 * e) (r .right - 1 + 1) _ s p₂ (end-mask (r .right - 1)) (omega arith) (omega (arith, row-in)) (are-bytes s hs) (are-bytes p₂ hk)) in
+      let f₃ : Run st (r .top) (8 * e) (r .right - 1 + 1) (taking st s (r .top)) p₂ q =
+      rw (o, g) (run-mixed st (r .top) e (8 * e) (r .right - 1 + 1) _ s p₂ (end-mask (r .right - 1)) (omega arith) (omega (arith, row-in)) bs (are-bytes p₂ hk)) in
       is-line q (run-line st (r .top) (r .left) (r .right - 1) _ p p₁ p₂ q (omega arith) (omega arith) f₁ f₂ f₃)
