@@ -1,0 +1,6 @@
+pub mod Calls
+pub mod Heads
+pub mod Opening
+pub mod Drawing
+pub mod Poking
+pub mod Sending
