@@ -1,7 +1,9 @@
 // Points, lines and boxes over the lent screen part of memory. `stride` is the bytes of a line, `height` the lines.
+mod line;
 mod marks;
 mod point;
 mod run;
 
+pub use line::draw_line;
 pub use point::check_pixel;
 pub use point::draw_point;
