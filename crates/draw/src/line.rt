@@ -1,20 +1,18 @@
-// `draw_line`: horizontal, vertical and sloped lines.
+// `draw_line`, and the horizontals and verticals that boxes are made of.
 ghost use mathlib.Core.Path.{_≡_};
-ghost use mathlib.Core.Bool.{cond};
-ghost use Prim.Native.Nat.{_+_, _-_, _*_, _%_, _≤_, _<_, min, max};
-ghost use lib.Dec.{leb, ltb};
+ghost use Prim.Native.Nat.{_+_, _*_, _≤_, _<_};
 ghost use Rattle.model.specs.Pixels.{Screen, draw, seen};
 ghost use Rattle.model.specs.Marks.{drawn, drawnOn};
-ghost use Rattle.model.specs.Lines.{isUnknown, horizontal, horizontalLine, pixelColumn, vertical, verticalLine, errorSum, stepped, nextError, sloped, slopedLine, line};
+ghost use Rattle.model.specs.Lines.{isUnknown, horizontal, horizontalLine, pixelColumn, vertical, verticalLine, slopedLine, line};
 use crate::marks::clamp;
 use crate::marks::greatest;
 use crate::marks::least;
-use crate::marks::lower;
+use crate::marks::lowered_marks;
 use crate::marks::no_marks;
-use crate::marks::span;
+use crate::marks::span_marks;
 use crate::point::plot;
-use crate::point::plot_seen;
 use crate::run::draw_run;
+use crate::slope::draw_slope;
 use model::DrawMode;
 use model::Marks;
 
@@ -103,95 +101,6 @@ pub fn draw_ver_line(
     }
 }
 
-// ---- sloped
-
-// Whether an error sum, which wraps at 256, reaches the longer distance in its turn.
-fn reaches(error: u8, dist: u8, longer: u8) -> bool
-    ensures { λ r. ⌜ r ≡ leb longer (errorSum error dist) ⌝ }
-{
-    longer <= std::num::wrapping_add_u8(error, dist)
-}
-
-// The error sum after its turn.
-fn next_error(error: u8, dist: u8, longer: u8) -> u8
-    ensures { λ r. ⌜ r ≡ nextError longer error dist ⌝ }
-{
-    let sum = std::num::wrapping_add_u8(error, dist);
-    if reaches(error, dist, longer) {
-        std::num::wrapping_sub_u8(sum, longer)
-    } else {
-        sum
-    }
-}
-
-fn step_x(x: usize, error: u8, dist: u8, longer: u8) -> usize
-    requires { ⌜ x < 65536 ⌝ }
-    ensures { λ r. ⌜ r ≡ stepped longer error dist (x + 1) x ⌝ }
-{
-    if reaches(error, dist, longer) {
-        x + 1
-    } else {
-        x
-    }
-}
-
-fn step_y(y: u8, inc: u8, error: u8, dist: u8, longer: u8) -> u8
-    ensures { λ r. ⌜ r ≡ stepped longer error dist ((y + inc) % 256) y ⌝ }
-{
-    if reaches(error, dist, longer) {
-        std::num::wrapping_add_u8(y, inc)
-    } else {
-        y
-    }
-}
-
-fn abs_diff(a: u8, b: u8) -> u8
-    ensures { λ r. ⌜ r ≡ max a b - min a b ⌝ }
-{
-    if a < b { b - a } else { a - b }
-}
-
-// The step of y: 1, or 255 for one line up.
-fn inc_of(y1: u8, y2: u8) -> u8
-    ensures { λ r. ⌜ r ≡ cond (ltb y1 y2) 1 255 ⌝ }
-{
-    if y1 < y2 { 1 } else { 255 }
-}
-
-// From (x1, y1), the left end, to (x2, y2). x is no byte, since it may step past 255 after the last point.
-fn draw_slope(
-    stride: usize,
-    height: usize,
-    screen: &mut [u8],
-    x1: u8,
-    y1: u8,
-    x2: u8,
-    y2: u8,
-    mode: DrawMode,
-)
-    requires { ⌜ Screen stride height (now screen) ⌝ }
-    requires { ⌜ x1 ≤ x2 ⌝ }
-    ensures { λ _. ⌜ now (screen .exit) ≡ draw stride (seen stride height (sloped x1 y1 x2 y2 mode)) (now (screen .entry)) ⌝ }
-{
-    let dist_x = x2 - x1;
-    let dist_y = abs_diff(y1, y2);
-    let dist_max = greatest(dist_x, dist_y);
-    let inc_y = inc_of(y1, y2);
-    let mut error_x = 0u8;
-    let mut error_y = 0u8;
-    let mut x = x1 as usize;
-    let mut y = y1;
-    let mut points = (dist_max as usize) + 1;
-    while 0 < points {
-        plot_seen(stride, height, screen, x, y as usize, mode);
-        x = step_x(x, error_x, dist_x, dist_max);
-        y = step_y(y, inc_y, error_y, dist_y, dist_max);
-        error_x = next_error(error_x, dist_x, dist_max);
-        error_y = next_error(error_y, dist_y, dist_max);
-        points -= 1;
-    }
-}
-
 // ---- with their marks
 
 fn draw_horizontal(
@@ -208,11 +117,7 @@ fn draw_horizontal(
     ensures { λ r. ⌜ drawn r (now (screen .exit)) ≡ drawnOn stride height (horizontalLine stride height left right y mode) (now (screen .entry)) ⌝ }
 {
     draw_hor_line(stride, height, screen, left, right, y, mode);
-    let ends = span(left, y, right, y);
-    Marks {
-        dirty: ends,
-        owed: lower(stride, height, ends),
-    }
+    lowered_marks(stride, height, left, y, right, y)
 }
 
 fn draw_vertical(
@@ -229,11 +134,7 @@ fn draw_vertical(
     ensures { λ r. ⌜ drawn r (now (screen .exit)) ≡ drawnOn stride height (verticalLine x top bottom mode) (now (screen .entry)) ⌝ }
 {
     draw_ver_line(stride, height, screen, x, top, bottom, mode);
-    let ends = span(x, top, x, bottom);
-    Marks {
-        dirty: ends,
-        owed: ends,
-    }
+    span_marks(x, top, x, bottom)
 }
 
 fn draw_sloped(
@@ -251,11 +152,7 @@ fn draw_sloped(
     ensures { λ r. ⌜ drawn r (now (screen .exit)) ≡ drawnOn stride height (slopedLine x1 y1 x2 y2 mode) (now (screen .entry)) ⌝ }
 {
     draw_slope(stride, height, screen, x1, y1, x2, y2, mode);
-    let ends = span(x1, least(y1, y2), x2, greatest(y1, y2));
-    Marks {
-        dirty: ends,
-        owed: ends,
-    }
+    span_marks(x1, least(y1, y2), x2, greatest(y1, y2))
 }
 
 pub fn draw_line(

@@ -17,3 +17,4 @@ pub mod Points
 pub mod Lines
 pub mod Runs
 pub mod Slopes
+pub mod Boxes

@@ -6,6 +6,7 @@ use Prim.Native.Nat.{ℕ, zero, suc, _+_, _-_, _*_, _≤_, _<_, min}
 use native.Mathlib.Omega.{arith}
 use borrow.Author.Tests.{lt-ltb, le-ltb}
 use Rattle.model.specs.declared.Rect.{Rect}
+use Rattle.model.specs.declared.Marks.{Marks}
 use Rattle.model.specs.declared.DrawMode.{DrawMode}
 use Rattle.model.specs.Pixels.{Screen, PixelWrite, onScreen, writePixel, draw, seen}
 use Rattle.model.specs.Rects.{lowered}
@@ -14,7 +15,7 @@ use Rattle.model.specs.Points.{pointWrite}
 use Rattle.model.specs.Lines.{spanRect, runOp, pixelRun, clamp, horizontal, horizontalLine, pixelColumn, vertical, verticalLine}
 use Rattle.laws.specs.Masks.{rowWrites}
 use Rattle.laws.specs.Writes.{within-none, within-more, drawn-is}
-use Rattle.laws.specs.Points.{both}
+use Rattle.laws.specs.Points.{both, bothLowered}
 
 -- ---- what falls on the screen
 
@@ -146,17 +147,20 @@ column-end st x y (suc n) d s t h q = absurd (omega arith)
 
 -- ---- with their marks
 
-pub horizontal-marked : (st h left right y : ℕ) (d : DrawMode) (s e : List ℕ) {m o : Rect} → left ≤ right
-    → m ≡ spanRect left y right y → o ≡ lowered (8 * st) h m → e ≡ draw st (seen st h (horizontal st h left right y d)) s
-    → drawn (record { dirty = m; owed = o }) e ≡ drawnOn st h (horizontalLine st h left right y d) s
+pub horizontal-marked : (st h left right y : ℕ) (d : DrawMode) (s e : List ℕ) {m : Marks} → left ≤ right
+    → m ≡ bothLowered st h (spanRect left y right y) → e ≡ draw st (seen st h (horizontal st h left right y d)) s
+    → drawn m e ≡ drawnOn st h (horizontalLine st h left right y d) s
 unfolding horizontalLine
-horizontal-marked st h left right y d s e l p q w =
-    drawn-is st h (horizontalLine st h left right y d) s e _ (horizontal-within st h (spanRect left y right y) left right y d l (omega arith) (omega arith) (omega arith) (omega arith))
-    p (q ∙ ap (lowered (8 * st) h) p) w
+horizontal-marked st h left right y d s e l p w =
+    drawn-is st h (horizontalLine st h left right y d) s e _
+    (horizontal-within st h (spanRect left y right y) left right y d l (omega arith) (omega arith) (omega arith) (omega arith))
+    (λ i. p i .dirty) (λ i. p i .owed) w
 
-pub vertical-marked : (st h x top bottom : ℕ) (d : DrawMode) (s e : List ℕ) {m : Rect} → top ≤ bottom
-    → m ≡ spanRect x top x bottom → e ≡ draw st (seen st h (vertical x top bottom d)) s
-    → drawn (both m) e ≡ drawnOn st h (verticalLine x top bottom d) s
+pub vertical-marked : (st h x top bottom : ℕ) (d : DrawMode) (s e : List ℕ) {m : Marks} → top ≤ bottom
+    → m ≡ both (spanRect x top x bottom) → e ≡ draw st (seen st h (vertical x top bottom d)) s
+    → drawn m e ≡ drawnOn st h (verticalLine x top bottom d) s
 unfolding verticalLine
 vertical-marked st h x top bottom d s e l p w =
-    drawn-is st h (verticalLine x top bottom d) s e _ (vertical-within (spanRect x top x bottom) x top bottom d l (omega arith) (omega arith) (omega arith) (omega arith)) p p w
+    drawn-is st h (verticalLine x top bottom d) s e _
+    (vertical-within (spanRect x top x bottom) x top bottom d l (omega arith) (omega arith) (omega arith) (omega arith))
+    (λ i. p i .dirty) (λ i. p i .owed) w

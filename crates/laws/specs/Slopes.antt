@@ -154,13 +154,13 @@ unfolding slope seen draw
 slope-end st h p zero x y ex ey d s t o q = q
 slope-end st h p (suc n) x y ex ey d s t o q = absurd (omega arith)
 
-pub sloped-marked : (st h x1 y1 x2 y2 : ℕ) (d : DrawMode) (s e : List ℕ) {m : Rect} {a b : ℕ} → x1 < x2 → x2 < 256 → y1 < 256 → y2 < 256
-    → a ≡ min y1 y2 → b ≡ max y1 y2 → m ≡ spanRect x1 a x2 b → e ≡ draw st (seen st h (sloped x1 y1 x2 y2 d)) s
-    → drawn (both m) e ≡ drawnOn st h (slopedLine x1 y1 x2 y2 d) s
+pub sloped-marked : (st h x1 y1 x2 y2 : ℕ) (d : DrawMode) (s e : List ℕ) {m : Marks} {a b : ℕ} → x1 < x2 → x2 < 256 → y1 < 256 → y2 < 256
+    → a ≡ min y1 y2 → b ≡ max y1 y2 → m ≡ both (spanRect x1 a x2 b) → e ≡ draw st (seen st h (sloped x1 y1 x2 y2 d)) s
+    → drawn m e ≡ drawnOn st h (slopedLine x1 y1 x2 y2 d) s
 unfolding slopedLine
 sloped-marked st h x1 y1 x2 y2 d s e o hx h1 h2 p q r w =
-    let k = r ∙ (λ i. spanRect x1 (p i) x2 (q i)) in
-    drawn-is st h (slopedLine x1 y1 x2 y2 d) s e _ (sloped-within x1 y1 x2 y2 d o hx h1 h2) k k w
+    let k = r ∙ (λ i. both (spanRect x1 (p i) x2 (q i))) in
+    drawn-is st h (slopedLine x1 y1 x2 y2 d) s e _ (sloped-within x1 y1 x2 y2 d o hx h1 h2) (λ i. k i .dirty) (λ i. k i .owed) w
 
 -- ---- `draw_line`, case by case
 

@@ -6,11 +6,8 @@ use Rattle.draw.proofs.line.draw_horizontal.Tie as tie
 draw-hor-line-requires : tie.Need-draw-hor-line-requires
 draw-hor-line-requires c κs = search needs
 
-span-requires : tie.Need-span-requires
-span-requires c κs = search needs
-
-lower-requires : tie.Need-lower-requires
-lower-requires c κs = search needs
+lowered-marks-requires : tie.Need-lowered-marks-requires
+lowered-marks-requires c κs = search needs
 
 same-length : tie.Need-same-length
 same-length c = search needs
@@ -20,4 +17,4 @@ returns c = search horizontal-marked
 
 pub draw-horizontal-spec : {M : Type 1} → statement M
 draw-horizontal-spec =
-    tie.close (tie.spec draw-hor-line-requires span-requires lower-requires same-length returns)
+    tie.close (tie.spec draw-hor-line-requires lowered-marks-requires same-length returns)

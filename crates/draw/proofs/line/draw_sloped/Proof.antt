@@ -12,8 +12,8 @@ least-requires c κs = search needs
 greatest-requires : tie.Need-greatest-requires
 greatest-requires c κs = search needs
 
-span-requires : tie.Need-span-requires
-span-requires c κs = search needs
+span-marks-requires : tie.Need-span-marks-requires
+span-marks-requires c κs = search needs
 
 same-length : tie.Need-same-length
 same-length c = search needs
@@ -28,6 +28,6 @@ draw-sloped-spec =
     draw-slope-requires
     least-requires
     greatest-requires
-    span-requires
+    span-marks-requires
     same-length
     returns)

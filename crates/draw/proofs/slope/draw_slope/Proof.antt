@@ -6,8 +6,8 @@ use Rattle.model.specs.Pixels.{Screen, draw, seen}
 use Rattle.model.specs.Lines.{slope, sloped}
 use Rattle.laws.specs.Writes.{screen-draw}
 use Rattle.laws.specs.Slopes.{slopeBy, slope-start, slope-turn, slope-end, step-le}
-use Rattle.draw.proofs.line.draw_slope.Statement.{statement}
-use Rattle.draw.proofs.line.draw_slope.Tie as tie
+use Rattle.draw.proofs.slope.draw_slope.Statement.{statement}
+use Rattle.draw.proofs.slope.draw_slope.Tie as tie
 
 abbrev Inv-loop : tie.InvT-loop
 Inv-loop stride height screen₀ x1 y1 x2 y2 mode dist-x dist-y dist-max inc-y error-x₀ error-y₀ x₀ y₀ points₀ screen error-x error-y x y points =

@@ -1,8 +1,8 @@
 use mathlib.Core.Path.{ap}
 use lib.Dec.{leb}
 use borrow.Author.Needs.{needs}
-use Rattle.draw.proofs.line.reaches.Statement.{statement}
-use Rattle.draw.proofs.line.reaches.Tie as tie
+use Rattle.draw.proofs.slope.reaches.Statement.{statement}
+use Rattle.draw.proofs.slope.reaches.Tie as tie
 
 wrapping-add-u8-requires : tie.Need-wrapping-add-u8-requires
 wrapping-add-u8-requires c κs = search needs

@@ -1,7 +1,7 @@
 use Rattle.laws.specs.Slopes.{error-taken, error-left}
 use borrow.Author.Needs.{needs}
-use Rattle.draw.proofs.line.next_error.Statement.{statement}
-use Rattle.draw.proofs.line.next_error.Tie as tie
+use Rattle.draw.proofs.slope.next_error.Statement.{statement}
+use Rattle.draw.proofs.slope.next_error.Tie as tie
 
 wrapping-add-u8-requires : tie.Need-wrapping-add-u8-requires
 wrapping-add-u8-requires c κs = search needs

@@ -1,6 +1,6 @@
 use borrow.Author.Tests.{lt-ltb, le-ltb}
-use Rattle.draw.proofs.line.inc_of.Statement.{statement}
-use Rattle.draw.proofs.line.inc_of.Tie as tie
+use Rattle.draw.proofs.slope.inc_of.Statement.{statement}
+use Rattle.draw.proofs.slope.inc_of.Tie as tie
 
 returns : tie.Need-returns
 returns c = rw (lt-ltb _ _ (c .if1 .taken))

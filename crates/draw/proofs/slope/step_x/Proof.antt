@@ -1,7 +1,7 @@
 use Rattle.laws.specs.Slopes.{step-taken, step-left}
 use borrow.Author.Needs.{needs}
-use Rattle.draw.proofs.line.step_x.Statement.{statement}
-use Rattle.draw.proofs.line.step_x.Tie as tie
+use Rattle.draw.proofs.slope.step_x.Statement.{statement}
+use Rattle.draw.proofs.slope.step_x.Tie as tie
 
 reaches-requires : tie.Need-reaches-requires
 reaches-requires c κs = search needs
