@@ -8,14 +8,14 @@ use Rattle.model.specs.declared.Rect.{Rect}
 use Rattle.model.specs.declared.Marks.{Marks}
 use Rattle.model.specs.declared.DrawMode.{DrawMode}
 use Rattle.model.specs.Pixels.{Screen, PixelWrite, draw, seen}
-use Rattle.model.specs.Rects.{lowered}
-use Rattle.model.specs.Marks.{drawn, drawnOn, within}
+use Rattle.model.specs.Rects.{lowered, fits}
+use Rattle.model.specs.Marks.{drawn, drawnOn, within, owes}
 use Rattle.model.specs.Lines.{isUnknown, spanRect, pixelRun, clamp, horizontal, vertical}
 use Rattle.model.specs.Boxes.{rows, filledBox, outline, boxOf, box}
 use Rattle.laws.specs.Tests.{by-test}
-use Rattle.laws.specs.Writes.{drawn-append, within-none, within-append, drawn-is}
+use Rattle.laws.specs.Writes.{drawn-append, within-none, within-append, owes-mark, drawn-is}
 use Rattle.laws.specs.Points.{bothLowered}
-use Rattle.laws.specs.Lines.{horizontal-within, horizontal-drawn, vertical-within}
+use Rattle.laws.specs.Lines.{span-fits, horizontal-within, horizontal-drawn, vertical-within}
 
 -- ---- no write lies outside
 
@@ -127,3 +127,14 @@ module _ (st h x1 y1 x2 y2 : ℕ) (d : DrawMode) (s e : List ℕ) {l t r b : ℕ
   pub box-outlined : {fill : Bool} → fill ≡ false → e ≡ draw st (seen st h (outline st h l t r b d)) s → drawn m e ≡ drawnOn st h (box st h x1 y1 x2 y2 fill d) s
   unfolding boxOf
   box-outlined {fill} f w = rw f (box-marked st h l t r b false d s e m (omega arith) (omega arith) marks w ∙ same-box false)
+
+-- ---- every box: its mark passes STATE, and no write lies outside what it owes
+
+module _ (st h x1 y1 x2 y2 : ℕ) (fill : Bool) (d : DrawMode) where
+  pub box-fits : x1 < 256 → y1 < 256 → x2 < 256 → y2 < 256 → fits 256 0 256 (box st h x1 y1 x2 y2 fill d .dirty) ≡ true
+  unfolding box boxOf
+  box-fits a b e f = span-fits (min x1 x2) (min y1 y2) (max x1 x2) (max y1 y2) (omega arith) (omega arith) (omega arith) (omega arith)
+
+  pub box-owes : owes st h (box st h x1 y1 x2 y2 fill d .owed) (seen st h (box st h x1 y1 x2 y2 fill d .writes)) ≡ box st h x1 y1 x2 y2 fill d .owed
+  unfolding box boxOf
+  box-owes = owes-mark st h _ _ (box-within st h (min x1 x2) (min y1 y2) (max x1 x2) (max y1 y2) d (omega arith) (omega arith) fill)

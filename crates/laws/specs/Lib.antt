@@ -17,4 +17,5 @@ pub mod Points
 pub mod Lines
 pub mod Runs
 pub mod Slopes
+pub mod DrawLine
 pub mod Boxes
