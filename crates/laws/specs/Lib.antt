@@ -6,12 +6,15 @@ pub mod Bytes
 pub mod Masks
 pub mod Rects
 pub mod Memory
+pub mod Parts
 pub mod Bands
 pub mod Marks
 pub mod Layout
 pub mod Record
 pub mod States
 pub mod Loops
+pub mod Stores
+pub mod Keys
 pub mod Writes
 pub mod Points
 pub mod Lines
@@ -19,3 +22,5 @@ pub mod Runs
 pub mod Slopes
 pub mod DrawLine
 pub mod Boxes
+pub mod Counts
+pub mod Calls

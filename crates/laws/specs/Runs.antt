@@ -78,7 +78,7 @@ pub bytes-turn : (st h y from k : ℕ) (d : DrawMode) (s₀ s e : List ℕ) → 
     → e ≡ draw st (pixelRun (8 * from) y (8 * (k + 1 - from)) d) s₀
 bytes-turn st h y from k d s₀ s e r hs hy hf hk q w =
     let n : 8 * (k - from) + 8 ≡ 8 * (k + 1 - from) = omega arith in
-    w ∙ mask-run st h y k (8 * k) (8 * k + 8) 255 8 d s r hs hy hk (whole-mask k) refl
+    w ∙ mask-run st h y k (8 * k) (8 * (k + 1)) 255 8 d s r hs hy hk (whole-mask k) (omega arith)
     ∙ ap (draw st (pixelRun (8 * k) y 8 d)) q
     ∙ draw-run-append st (8 * from) y (8 * k) (8 * (k - from)) 8 d s₀ (omega arith)
     ∙ ap (λ (z : ℕ). draw st (pixelRun (8 * from) y z d) s₀) n
@@ -108,7 +108,7 @@ many-bytes st h left right y d s s₁ s₂ e r hs hs₂ o p q k w₁ w₂ w₃ =
     let m = 8 * (right / 8 - (left / 8 + 1)) in
     let f : s₁ ≡ draw st (pixelRun left y n d) s
     = w₁ ∙ ap (λ (a : ℕ). masked s (st * y + left / 8) a d) p
-    ∙ mask-run st h y (left / 8) left (8 * (left / 8) + 8) _ n d s r hs (o .2) (omega arith) (start-mask left) (omega arith) in
+    ∙ mask-run st h y (left / 8) left (8 * (left / 8 + 1)) _ n d s r hs (o .2) (omega arith) (start-mask left) (omega arith) in
     let g : s₂ ≡ draw st (pixelRun left y (n + m) d) s
     = w₂ ∙ ap (draw st (pixelRun (8 * (left / 8 + 1)) y m d)) f ∙ draw-run-append st left y (8 * (left / 8 + 1)) n m d s (omega arith) in
     let r₂ = screen-draw st h (pixelRun left y (n + m) d) r g in
