@@ -20,5 +20,7 @@ pub mod Points
 pub mod Lines
 pub mod Runs
 pub mod Slopes
+pub mod DrawLine
+pub mod Boxes
 pub mod Counts
 pub mod Calls

@@ -1,19 +1,27 @@
 -- Horizontal and vertical lines: where their writes lie, and which of them fall on the screen.
-use mathlib.Core.Path.{_≡_, refl, ap}
+use mathlib.Core.Path.{_≡_, refl, sym, ap, _∙_}
+use mathlib.Core.Logic.{inr}
 use mathlib.Core.Bool.{true, false}
 use mathlib.Core.List.{List, [], _∷_}
 use Prim.Native.Nat.{ℕ, zero, suc, _+_, _-_, _*_, _≤_, _<_, min}
 use native.Mathlib.Omega.{arith}
 use borrow.Author.Tests.{lt-ltb, le-ltb}
 use Rattle.model.specs.declared.Rect.{Rect}
+use Rattle.model.specs.declared.Marks.{Marks}
 use Rattle.model.specs.declared.DrawMode.{DrawMode}
-use Rattle.model.specs.Pixels.{PixelWrite, onScreen, draw, seen}
-use Rattle.model.specs.Rects.{lowered}
-use Rattle.model.specs.Marks.{within}
+use Rattle.model.specs.Pixels.{Screen, PixelWrite, onScreen, writePixel, draw, seen}
+use Rattle.model.specs.Rects.{lowered, fits}
+use Rattle.model.specs.Marks.{within, drawn, drawnOn}
 use Rattle.model.specs.Points.{pointWrite}
-use Rattle.model.specs.Lines.{runOp, pixelRun, clamp, horizontal, pixelColumn, vertical}
+use Rattle.model.specs.Lines.{spanRect, runOp, pixelRun, clamp, horizontal, horizontalLine, pixelColumn, vertical, verticalLine}
+use Rattle.laws.specs.Rects.{fits-passes}
 use Rattle.laws.specs.Masks.{rowWrites}
-use Rattle.laws.specs.Writes.{within-none, within-more}
+use Rattle.laws.specs.Writes.{within-none, within-more, drawn-is}
+use Rattle.laws.specs.Points.{both, bothLowered}
+
+-- a mark of bytes passes STATE
+pub span-fits : (left top right bottom : ℕ) → left ≤ right → top ≤ bottom → right < 256 → bottom < 256 → fits 256 0 256 (spanRect left top right bottom) ≡ true
+span-fits left top right bottom a b e f = fits-passes 256 0 256 (spanRect left top right bottom) (inr (omega arith))
 
 -- ---- what falls on the screen
 
@@ -112,3 +120,53 @@ pub vertical-seen : (st h x top bottom n : ℕ) (d : DrawMode) → x < 8 * st �
 unfolding vertical
 vertical-seen st h x top bottom n d a b o e =
     column-cut st h x top (suc (bottom - top)) n d a (omega arith) (omega arith) (λ k. omega arith)
+
+-- ---- as the code draws them
+
+pub horizontal-drawn : (st h left right y : ℕ) (d : DrawMode) (s e : List ℕ) {a b l : ℕ} → Screen st h s → left ≤ right
+    → a ≡ clamp left (8 * st) → b ≡ clamp right (8 * st) → l ≡ clamp y h → e ≡ draw st (pixelRun a l (suc (b - a)) d) s
+    → e ≡ draw st (seen st h (horizontal st h left right y d)) s
+unfolding horizontal
+horizontal-drawn st h left right y d s e r o p q k w =
+    w ∙ (λ i. draw st (pixelRun (p i) (k i) (suc (q i - p i)) d) s)
+    ∙ sym (ap (λ (l : List PixelWrite). draw st l s) (horizontal-seen st h left right y d (r .wide) (r .high) o))
+
+pub vertical-drawn : (st h x top bottom : ℕ) (d : DrawMode) (s e : List ℕ) {last : ℕ} → x < 8 * st → top < h → top ≤ bottom → last ≡ clamp bottom h
+    → e ≡ draw st (pixelColumn x top (last - top + 1) d) s → e ≡ draw st (seen st h (vertical x top bottom d)) s
+vertical-drawn st h x top bottom d s e {last} a b o p w =
+    w ∙ sym (ap (λ (l : List PixelWrite). draw st l s) (vertical-seen st h x top bottom (last - top + 1) d a b o (ap (λ (z : ℕ). z - top + 1) p)))
+
+-- what is left of a column, drawn on what stands, gives the whole
+pub column-turn : (st x y n : ℕ) (d : DrawMode) (s e t : List ℕ) → 0 < n → e ≡ writePixel st s (pointWrite x y d) → draw st (pixelColumn x y n d) s ≡ t
+    → draw st (pixelColumn x (y + 1) (n - 1) d) e ≡ t
+unfolding pixelColumn draw
+column-turn st x y zero d s e t h w q = absurd (omega arith)
+column-turn st x y (suc n) d s e t h w q =
+    let a : y + 1 ≡ suc y = omega arith in
+    let b : suc n - 1 ≡ n = omega arith in
+    rw (w, a, b) q
+
+pub column-end : (st x y n : ℕ) (d : DrawMode) (s t : List ℕ) → n ≤ 0 → draw st (pixelColumn x y n d) s ≡ t → s ≡ t
+unfolding pixelColumn draw
+column-end st x y zero d s t h q = q
+column-end st x y (suc n) d s t h q = absurd (omega arith)
+
+-- ---- with their marks
+
+pub horizontal-marked : (st h left right y : ℕ) (d : DrawMode) (s e : List ℕ) {m : Marks} → left ≤ right
+    → m ≡ bothLowered st h (spanRect left y right y) → e ≡ draw st (seen st h (horizontal st h left right y d)) s
+    → drawn m e ≡ drawnOn st h (horizontalLine st h left right y d) s
+unfolding horizontalLine
+horizontal-marked st h left right y d s e l p w =
+    drawn-is st h (horizontalLine st h left right y d) s e _
+    (horizontal-within st h (spanRect left y right y) left right y d l (omega arith) (omega arith) (omega arith) (omega arith))
+    (λ i. p i .dirty) (λ i. p i .owed) w
+
+pub vertical-marked : (st h x top bottom : ℕ) (d : DrawMode) (s e : List ℕ) {m : Marks} → top ≤ bottom
+    → m ≡ both (spanRect x top x bottom) → e ≡ draw st (seen st h (vertical x top bottom d)) s
+    → drawn m e ≡ drawnOn st h (verticalLine x top bottom d) s
+unfolding verticalLine
+vertical-marked st h x top bottom d s e l p w =
+    drawn-is st h (verticalLine x top bottom d) s e _
+    (vertical-within (spanRect x top x bottom) x top bottom d l (omega arith) (omega arith) (omega arith) (omega arith))
+    (λ i. p i .dirty) (λ i. p i .owed) w

@@ -1,19 +1,24 @@
 -- Lines that are neither horizontal nor vertical: no pixel lies outside the box of the ends, though the error sums wrap.
 -- After k turns a coordinate with distance `dist` has made s steps, and its error sum e has e + m * s ≤ k * dist, where m is the longer distance: a turn
 -- adds dist to the sum, a step takes m from it, and a wrap takes 256 and makes no step. So at the pixels, where k ≤ m, s is at most dist.
-use mathlib.Core.Path.{_≡_, ap, _∙_}
-use mathlib.Core.Bool.{true}
+use mathlib.Core.Path.{_≡_, sym, ap, _∙_}
+use mathlib.Core.Bool.{Bool, true, false, cond}
+use mathlib.Core.List.{List, [], _∷_}
 use Prim.Native.Nat.{ℕ, zero, suc, _+_, _-_, _*_, _%_, _≤_, _<_, min, max}
 use native.Mathlib.Nat.{mul-le-mul-left, mul-le-mul-right, add-mul-mod-self-right}
 use native.Mathlib.Omega.{arith}
-use lib.Dec.{leb}
-use borrow.Author.Tests.{lt-ltb, le-ltb}
+use lib.Dec.{leb, ltb}
+use borrow.Author.Tests.{leb-true, lt-ltb, le-ltb}
 use Rattle.model.specs.declared.Rect.{Rect}
+use Rattle.model.specs.declared.Marks.{Marks}
 use Rattle.model.specs.declared.DrawMode.{DrawMode}
-use Rattle.model.specs.Marks.{within}
-use Rattle.model.specs.Lines.{spanRect, Slope, slopeOf, errorSum, stepped, nextError, slope, sloped}
+use Rattle.model.specs.Pixels.{draw, seen}
+use Rattle.model.specs.Marks.{drawn, drawnOn, within}
+use Rattle.model.specs.Points.{pointWrite}
+use Rattle.model.specs.Lines.{spanRect, Slope, slopeOf, errorSum, stepped, nextError, slope, sloped, slopedLine, line}
 use Rattle.laws.specs.Tests.{tests, by-test, by-lt}
-use Rattle.laws.specs.Writes.{within-none, within-more}
+use Rattle.laws.specs.Writes.{drawn-append, within-none, within-more, drawn-is}
+use Rattle.laws.specs.Points.{both}
 
 pub record Error (m dist k e s : ℕ) : Type 0 where
   pub below : e < m
@@ -87,3 +92,71 @@ sloped-within x1 y1 x2 y2 d o hx h1 h2 =
     (λ l. slope-box (slopeOf x1 y1 x2 y2) (spanRect x1 (min y1 y2) x2 (max y1 y2)) x1 (λ u. (y1 + 255 * u) % 256) d
     (omega arith) (omega arith) (omega arith) (omega arith) (omega arith)
     (λ u. rw (le-ltb y1 y2 l) (omega arith)) (λ u k. omega (arith, back y1 u (omega arith) h1)) y1 (omega arith) (omega arith))
+
+-- ---- the choice, as the code makes it
+
+pub step-taken : (m e dist next now : ℕ) {t : Bool} {r : ℕ} → t ≡ leb m (errorSum e dist) → t ≡ true → r ≡ next → r ≡ stepped m e dist next now
+unfolding stepped
+step-taken m e dist next now p q r = let k : leb m (errorSum e dist) ≡ true = sym p ∙ q in rw k r
+
+pub step-left : (m e dist next now : ℕ) {t : Bool} {r : ℕ} → t ≡ leb m (errorSum e dist) → t ≡ false → r ≡ now → r ≡ stepped m e dist next now
+unfolding stepped
+step-left m e dist next now p q r = let k : leb m (errorSum e dist) ≡ false = sym p ∙ q in rw k r
+
+-- a step goes no further than one place
+pub step-le : (m e dist x : ℕ) {r : ℕ} → r ≡ stepped m e dist (x + 1) x → r ≤ x + 1
+unfolding stepped
+step-le m e dist x {r} p = by-test (leb m (errorSum e dist)) (λ t. let q : r ≡ x + 1 = rw t at p in omega arith) (λ t. let q : r ≡ x = rw t at p in omega arith)
+
+-- the error sum, where the difference does not wrap
+pub error-taken : (m e dist : ℕ) {t : Bool} {a r : ℕ} → r < 256 → t ≡ leb m (errorSum e dist) → t ≡ true → a ≡ errorSum e dist → (r + m) % 256 ≡ a → r ≡ nextError m e dist
+unfolding nextError
+error-taken m e dist hr p q k w =
+    let l : m ≤ errorSum e dist = leb-true m (errorSum e dist) (sym p ∙ q) in
+    step-taken m e dist (errorSum e dist - m) (errorSum e dist) p q (omega arith)
+
+pub error-left : (m e dist : ℕ) {t : Bool} {a : ℕ} → t ≡ leb m (errorSum e dist) → t ≡ false → a ≡ errorSum e dist → a ≡ nextError m e dist
+unfolding nextError
+error-left m e dist p q k = step-left m e dist (errorSum e dist - m) (errorSum e dist) p q k
+
+-- ---- as the code draws it: what is left of the walk, drawn on what stands, gives the whole
+
+abbrev pub slopeBy : ℕ → ℕ → ℕ → ℕ → Slope
+slopeBy dx dy m inc = record { distX = dx; distY = dy; distMax = m; incY = inc }
+
+pub slope-start : (st h x1 y1 x2 y2 : ℕ) (d : DrawMode) (s : List ℕ) {dy m inc : ℕ} → dy ≡ max y1 y2 - min y1 y2 → m ≡ max (x2 - x1) dy
+    → inc ≡ cond (ltb y1 y2) 1 255
+    → draw st (seen st h (slope (slopeBy (x2 - x1) dy m inc) (m + 1) x1 y1 0 0 d)) s ≡ draw st (seen st h (sloped x1 y1 x2 y2 d)) s
+unfolding sloped
+slope-start st h x1 y1 x2 y2 d s {dy} {m} {inc} p q r =
+    let k : m ≡ max (x2 - x1) (max y1 y2 - min y1 y2) = q ∙ ap (max (x2 - x1)) p in
+    let n : m + 1 ≡ suc (max (x2 - x1) (max y1 y2 - min y1 y2)) = omega arith in
+    λ i. draw st (seen st h (slope (slopeBy (x2 - x1) (p i) (k i) (r i)) (n i) x1 y1 0 0 d)) s
+
+pub slope-turn : (st h : ℕ) (p : Slope) (n x y ex ey : ℕ) (d : DrawMode) (s e t : List ℕ) {x′ y′ ex′ ey′ : ℕ} → 0 < n
+    → e ≡ draw st (seen st h (pointWrite x y d ∷ [])) s
+    → x′ ≡ stepped (p .distMax) ex (p .distX) (x + 1) x
+    → y′ ≡ stepped (p .distMax) ey (p .distY) ((y + p .incY) % 256) y
+    → ex′ ≡ nextError (p .distMax) ex (p .distX)
+    → ey′ ≡ nextError (p .distMax) ey (p .distY)
+    → draw st (seen st h (slope p n x y ex ey d)) s ≡ t
+    → draw st (seen st h (slope p (n - 1) x′ y′ ex′ ey′ d)) e ≡ t
+unfolding slope
+slope-turn st h p zero x y ex ey d s e t o w a b f g q = absurd (omega arith)
+slope-turn st h p (suc n) x y ex ey d s e t o w a b f g q =
+    let k : suc n - 1 ≡ n = omega arith in
+    (λ i. draw st (seen st h (slope p (k i) (a i) (b i) (f i) (g i) d)) (w i)) ∙ sym (drawn-append st h (pointWrite x y d ∷ []) _ s) ∙ q
+
+pub slope-end : (st h : ℕ) (p : Slope) (n x y ex ey : ℕ) (d : DrawMode) (s t : List ℕ) → n ≤ 0
+    → draw st (seen st h (slope p n x y ex ey d)) s ≡ t → s ≡ t
+unfolding slope seen draw
+slope-end st h p zero x y ex ey d s t o q = q
+slope-end st h p (suc n) x y ex ey d s t o q = absurd (omega arith)
+
+pub sloped-marked : (st h x1 y1 x2 y2 : ℕ) (d : DrawMode) (s e : List ℕ) {m : Marks} {a b : ℕ} → x1 < x2 → x2 < 256 → y1 < 256 → y2 < 256
+    → a ≡ min y1 y2 → b ≡ max y1 y2 → m ≡ both (spanRect x1 a x2 b) → e ≡ draw st (seen st h (sloped x1 y1 x2 y2 d)) s
+    → drawn m e ≡ drawnOn st h (slopedLine x1 y1 x2 y2 d) s
+unfolding slopedLine
+sloped-marked st h x1 y1 x2 y2 d s e o hx h1 h2 p q r w =
+    let k = r ∙ (λ i. both (spanRect x1 (p i) x2 (q i))) in
+    drawn-is st h (slopedLine x1 y1 x2 y2 d) s e _ (sloped-within x1 y1 x2 y2 d o hx h1 h2) (λ i. k i .dirty) (λ i. k i .owed) w

@@ -82,3 +82,7 @@ screen-draw st h ws {s} {e} r k = record {
   low = r .low;
   sized = ap length k ∙ length-draw st ws s ∙ r .sized;
 }
+
+pub screen-write : (st h : ℕ) (w : PixelWrite) {s e : List ℕ} → Screen st h s → e ≡ writePixel st s w → Screen st h e
+unfolding draw
+screen-write st h w r k = screen-draw st h (w ∷ []) r k
