@@ -6,3 +6,5 @@ pub mod Rects
 pub mod Memory
 pub mod Bands
 pub mod Marks
+pub mod Ellipses
+pub mod EllipseSteps

@@ -9,6 +9,7 @@ pub mod Refusals
 pub mod Marks
 pub mod Open
 pub mod Points
+pub mod Ellipses
 pub mod Text
 pub mod Poke
 pub mod Sends
