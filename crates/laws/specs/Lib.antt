@@ -2,9 +2,16 @@ pub mod Tests
 pub mod Bits
 pub mod Pixels
 pub mod Tables
+pub mod Bytes
+pub mod Masks
 pub mod Rects
 pub mod Memory
 pub mod Bands
 pub mod Marks
+pub mod Layout
+pub mod Record
+pub mod States
+pub mod Loops
+pub mod Points
 pub mod Ellipses
 pub mod EllipseSteps

@@ -9,6 +9,8 @@ pub mod Refusals
 pub mod Marks
 pub mod Open
 pub mod Points
+pub mod Lines
+pub mod Boxes
 pub mod Ellipses
 pub mod Text
 pub mod Poke

@@ -119,7 +119,7 @@ bytesOfHead h =
     rectBytes (h .dirty)
 
 abbrev pub bytesOfPending : Pending → List ℕ
-bytesOfPending p = rectsBytes (p .owed) ++ rectBytes (p .hand) ++ fourBytes (p .sent)
+bytesOfPending p = rectsBytes (p .owed) ++ (rectBytes (p .hand) ++ fourBytes (p .sent))
 
 unfoldable pub encode : State → List ℕ
 encode s = bytesOfHead (s .head) ++ (bytesOfPending (s .pending) ++ (wordsBytes (s .keys) ++ map flagByte (s .flags)))

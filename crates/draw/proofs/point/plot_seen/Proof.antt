@@ -1,0 +1,23 @@
+use Rattle.laws.specs.Points.{seen-one, seen-none, on-true}
+use borrow.Author.Needs.{needs}
+use Rattle.draw.proofs.point.plot_seen.Statement.{statement}
+use Rattle.draw.proofs.point.plot_seen.Tie as tie
+
+on-screen-requires : tie.Need-on-screen-requires
+on-screen-requires c κs = search needs
+
+plot-requires : tie.Need-plot-requires
+plot-requires c κs = (c .before .before .before .before .pre, on-true _ _ _ _ (cc))
+
+same-length : tie.Need-same-length
+same-length c = search needs
+
+returns : tie.Need-returns
+returns c = search seen-one
+
+returns-2 : tie.Need-returns-2
+returns-2 c = search seen-none
+
+pub plot-seen-spec : {M : Type 1} → statement M
+plot-seen-spec =
+    tie.close (tie.spec on-screen-requires plot-requires same-length returns returns-2)

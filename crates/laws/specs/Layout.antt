@@ -1,0 +1,218 @@
+-- Numbers, rectangles, words and flags as bytes: what is read and written again, and what is written and read again.
+use mathlib.Core.Path.{_≡_, refl, sym, ap, _∙_}
+use mathlib.Core.List.{List, [], _∷_, _++_, append-assoc, map}
+use mathlib.Core.Bool.{Bool, true, false}
+use Prim.Native.Nat.{ℕ, zero, suc, _+_, _*_, _/_, _%_, _<_, _≤_}
+use native.Mathlib.Nat.{add-zero, div-div-eq-div-mul}
+use native.Mathlib.Omega.{arith}
+use lib.Dec.{leb}
+use lib.ListN.{length, getD, drop, length-drop}
+use lib.Seq.{drop-cons, drop-drop, getD-drop}
+use borrow.Author.Tests.{leb-true}
+use Rattle.model.specs.declared.Rect.{Rect}
+use Rattle.model.specs.Record.{two, four, rectAt, rectsAt, wordsAt, fourBytes, rectBytes, rectsBytes, wordsBytes, flagOf, flagByte, flagsFit, Bytes, Words}
+use Rattle.laws.specs.Tests.{and-true}
+use Rattle.laws.specs.Rects.{rect-equal}
+
+-- ---- bytes
+
+pub bytes-drop : (n : ℕ) (l : List ℕ) → Bytes l → Bytes (drop n l)
+unfolding Bytes
+bytes-drop n l b i = rw getD-drop (b _)
+
+pub bytes-nil : Bytes []
+unfolding Bytes
+bytes-nil i = omega arith
+
+pub bytes-cons : (x : ℕ) (l : List ℕ) → x < 256 → Bytes l → Bytes (x ∷ l)
+unfolding Bytes
+bytes-cons x l h b zero = h
+bytes-cons x l h b (suc i) = b i
+
+-- ---- a place read is the start of what is left from there
+
+two-from : (r : List ℕ) (i j : ℕ) → two r (i + j) ≡ two (drop i r) j
+two-from r i j =
+    let e : i + j + 1 ≡ i + (j + 1) = omega arith in
+    rw (getD-drop i r j 0, getD-drop i r (j + 1) 0, e)
+
+pub four-from : (r : List ℕ) (i : ℕ) → four r i ≡ four (drop i r) 0
+four-from r i =
+    ap (λ (k : ℕ). two r k + 65536 * two r (i + 2)) (sym (add-zero i))
+    ∙ ap (λ (n : ℕ). n + 65536 * two r (i + 2)) (two-from r i 0)
+    ∙ ap (λ (n : ℕ). two (drop i r) 0 + 65536 * n) (two-from r i 2)
+
+pub rect-from : (r : List ℕ) (i : ℕ) → rectAt r i ≡ rectAt (drop i r) 0
+rect-from r i =
+    rect-equal (ap (two r) (sym (add-zero i)) ∙ two-from r i 0) (two-from r i 2) (two-from r i 4) (two-from r i 6)
+
+-- ---- read, then written: the bytes again
+
+-- the n elements from i on, written out
+abbrev pub elements : ℕ → ℕ → List ℕ → List ℕ
+elements zero i l = []
+elements (suc n) i l = getD l i 0 ∷ elements n (suc i) l
+
+pub elements-drop : (n i : ℕ) (l : List ℕ) → i + n ≤ length l → elements n i l ++ drop (i + n) l ≡ drop i l
+elements-drop zero i l h = rw add-zero
+elements-drop (suc n) i l h =
+    let e : i + suc n ≡ suc i + n = omega arith in
+    ap (λ (k : ℕ). getD l i 0 ∷ (elements n (suc i) l ++ drop k l)) e
+    ∙ ap (λ (m : List ℕ). getD l i 0 ∷ m) (elements-drop n (suc i) l (omega arith))
+    ∙ sym (drop-cons l i 0 (omega arith))
+
+pub low : (a b : ℕ) → a < 256 → (a + 256 * b) % 256 ≡ a
+low a b h = omega arith
+
+pub high : (a b : ℕ) → a < 256 → b < 256 → (a + 256 * b) / 256 % 256 ≡ b
+high a b h k = omega arith
+
+byte0 : (a b c d : ℕ) → a < 256 → (a + 256 * b + 65536 * (c + 256 * d)) % 256 ≡ a
+byte0 a b c d h = omega arith
+
+byte1 : (a b c d : ℕ) → a < 256 → b < 256 → (a + 256 * b + 65536 * (c + 256 * d)) / 256 % 256 ≡ b
+byte1 a b c d h k = omega arith
+
+byte2 : (a b c d : ℕ) → a < 256 → b < 256 → c < 256 → (a + 256 * b + 65536 * (c + 256 * d)) / 65536 % 256 ≡ c
+byte2 a b c d h k l = omega arith
+
+byte3 : (a b c d : ℕ) → a < 256 → b < 256 → c < 256 → d < 256 → (a + 256 * b + 65536 * (c + 256 * d)) / 16777216 % 256 ≡ d
+byte3 a b c d h k l m = omega arith
+
+-- eight bytes, and four
+eight : (l : List ℕ) → ((i : ℕ) → getD l i 0 < 256) → rectBytes (rectAt l 0) ≡ elements 8 0 l
+eight l b = simp (low, high, b)
+
+four-bytes : (l : List ℕ) → ((i : ℕ) → getD l i 0 < 256) → fourBytes (four l 0) ≡ elements 4 0 l
+four-bytes l b = simp (byte0, byte1, byte2, byte3, b)
+
+pub rect-again : (r : List ℕ) (i : ℕ) → Bytes r → i + 8 ≤ length r → rectBytes (rectAt r i) ++ drop (i + 8) r ≡ drop i r
+unfolding Bytes
+rect-again r i b h =
+    ap (λ (q : Rect). rectBytes q ++ drop (i + 8) r) (rect-from r i)
+    ∙ ap (λ (m : List ℕ). m ++ drop (i + 8) r) (eight (drop i r) (bytes-drop i r b))
+    ∙ ap (λ (m : List ℕ). elements 8 0 (drop i r) ++ m) (sym (drop-drop 8 i r))
+    ∙ elements-drop 8 0 (drop i r) (simp length-drop (omega arith))
+
+pub four-again : (r : List ℕ) (i : ℕ) → Bytes r → i + 4 ≤ length r → fourBytes (four r i) ++ drop (i + 4) r ≡ drop i r
+unfolding Bytes
+four-again r i b h =
+    ap (λ (n : ℕ). fourBytes n ++ drop (i + 4) r) (four-from r i)
+    ∙ ap (λ (m : List ℕ). m ++ drop (i + 4) r) (four-bytes (drop i r) (bytes-drop i r b))
+    ∙ ap (λ (m : List ℕ). elements 4 0 (drop i r) ++ m) (sym (drop-drop 4 i r))
+    ∙ elements-drop 4 0 (drop i r) (simp length-drop (omega arith))
+
+pub rects-again : (n : ℕ) (r : List ℕ) (i : ℕ) → Bytes r → i + 8 * n ≤ length r → rectsBytes (rectsAt n r i) ++ drop (i + 8 * n) r ≡ drop i r
+rects-again zero r i b h = let e : i + 8 * 0 ≡ i = omega arith in ap (λ (k : ℕ). drop k r) e
+rects-again (suc n) r i b h =
+    let e : i + 8 * suc n ≡ i + 8 + 8 * n = omega arith in
+    append-assoc (rectBytes (rectAt r i)) (rectsBytes (rectsAt n r (i + 8))) (drop (i + 8 * suc n) r)
+    ∙ ap (λ (k : ℕ). rectBytes (rectAt r i) ++ (rectsBytes (rectsAt n r (i + 8)) ++ drop k r)) e
+    ∙ ap (λ (m : List ℕ). rectBytes (rectAt r i) ++ m) (rects-again n r (i + 8) b (omega arith))
+    ∙ rect-again r i b (omega arith)
+
+pub words-again : (n : ℕ) (r : List ℕ) (i : ℕ) → Bytes r → i + 4 * n ≤ length r → wordsBytes (wordsAt n r i) ++ drop (i + 4 * n) r ≡ drop i r
+words-again zero r i b h = let e : i + 4 * 0 ≡ i = omega arith in ap (λ (k : ℕ). drop k r) e
+words-again (suc n) r i b h =
+    let e : i + 4 * suc n ≡ i + 4 + 4 * n = omega arith in
+    append-assoc (fourBytes (four r i)) (wordsBytes (wordsAt n r (i + 4))) (drop (i + 4 * suc n) r)
+    ∙ ap (λ (k : ℕ). fourBytes (four r i) ++ (wordsBytes (wordsAt n r (i + 4)) ++ drop k r)) e
+    ∙ ap (λ (m : List ℕ). fourBytes (four r i) ++ m) (words-again n r (i + 4) b (omega arith))
+    ∙ four-again r i b (omega arith)
+
+flag-again : (f : ℕ) → f ≤ 1 → flagByte (flagOf f) ≡ f
+flag-again zero h = refl
+flag-again (suc zero) h = refl
+flag-again (suc (suc f)) h = absurd (omega arith)
+
+pub flags-again : (l : List ℕ) → flagsFit l ≡ true → map flagByte (map flagOf l) ≡ l
+unfolding flagsFit
+flags-again [] e = refl
+flags-again (f ∷ l) e =
+    let p = and-true (leb f 1) (flagsFit l) e in
+    λ i. flag-again f (leb-true f 1 (p .0)) i ∷ flags-again l (p .1) i
+
+-- ---- written, then read: the fields again
+
+pub two-back : (n : ℕ) → n < 65536 → n % 256 + 256 * (n / 256 % 256) ≡ n
+two-back n h = omega arith
+
+pub four-back : (n : ℕ) → n < 4294967296 → n % 256 + 256 * (n / 256 % 256) + 65536 * (n / 65536 % 256 + 256 * (n / 16777216 % 256)) ≡ n
+four-back n h =
+    let k : n / 65536 % 256 + 256 * (n / 16777216 % 256) ≡ n / 65536 =
+    ap (λ (x : ℕ). n / 65536 % 256 + 256 * (x % 256)) (sym (div-div-eq-div-mul n 65536 256)) ∙ two-back (n / 65536) (omega arith) in
+    omega (arith, k, div-div-eq-div-mul n 256 256)
+
+-- the numbers of a rectangle have two bytes each
+pub record Short (q : Rect) : Type 0 where
+  pub left : q .left < 65536
+  pub top : q .top < 65536
+  pub right : q .right < 65536
+  pub bottom : q .bottom < 65536
+
+pub rect-back : (q : Rect) (l : List ℕ) → Short q → rectAt (rectBytes q ++ l) 0 ≡ q
+rect-back q l b = rect-equal (two-back (q .left) (b .left)) (two-back (q .top) (b .top)) (two-back (q .right) (b .right)) (two-back (q .bottom) (b .bottom))
+
+abbrev pub AllShort : List Rect → Type 0
+AllShort [] = Unit {0}
+AllShort (q ∷ qs) = Short q × AllShort qs
+
+rects-from : (n : ℕ) (r : List ℕ) (i j : ℕ) → rectsAt n r (i + j) ≡ rectsAt n (drop i r) j
+rects-from zero r i j = refl
+rects-from (suc n) r i j =
+    let e : i + j + 8 ≡ i + (j + 8) = omega arith in
+    λ k. (rect-equal {a = rectAt r (i + j)} {b = rectAt (drop i r) j} (two-from r i j) (from 2) (from 4) (from 6)) k ∷ (ap (rectsAt n r) e ∙ rects-from n r i (j + 8)) k
+  where
+    from : (c : ℕ) → two r (i + j + c) ≡ two (drop i r) (j + c)
+    from c = let e : i + j + c ≡ i + (j + c) = omega arith in ap (two r) e ∙ two-from r i (j + c)
+
+pub rects-at : (n : ℕ) (r : List ℕ) (i : ℕ) → rectsAt n r i ≡ rectsAt n (drop i r) 0
+rects-at n r i = ap (rectsAt n r) (sym (add-zero i)) ∙ rects-from n r i 0
+
+pub rects-back : (qs : List Rect) (l : List ℕ) → AllShort qs → rectsAt (length qs) (rectsBytes qs ++ l) 0 ≡ qs
+rects-back [] l b = refl
+rects-back (q ∷ qs) l b =
+    let a = append-assoc (rectBytes q) (rectsBytes qs) l in
+    ap (λ (m : List ℕ). rectAt m 0 ∷ rectsAt (length qs) m 8) a
+    ∙ (λ k. rect-back q (rectsBytes qs ++ l) (b .0) k ∷ (rects-at (length qs) (rectBytes q ++ (rectsBytes qs ++ l)) 8 ∙ rects-back qs l (b .1)) k)
+
+words-from : (n : ℕ) (r : List ℕ) (i j : ℕ) → wordsAt n r (i + j) ≡ wordsAt n (drop i r) j
+words-from zero r i j = refl
+words-from (suc n) r i j =
+    let e : i + j + 4 ≡ i + (j + 4) = omega arith in
+    let f : i + j + 2 ≡ i + (j + 2) = omega arith in
+    λ k. (two-from r i j k + 65536 * (ap (two r) f ∙ two-from r i (j + 2)) k) ∷ (ap (wordsAt n r) e ∙ words-from n r i (j + 4)) k
+
+pub words-at : (n : ℕ) (r : List ℕ) (i : ℕ) → wordsAt n r i ≡ wordsAt n (drop i r) 0
+words-at n r i = ap (wordsAt n r) (sym (add-zero i)) ∙ words-from n r i 0
+
+pub words-back : (ws : List ℕ) (l : List ℕ) → Words ws → wordsAt (length ws) (wordsBytes ws ++ l) 0 ≡ ws
+words-back [] l b = refl
+words-back (w ∷ ws) l b =
+    let a = append-assoc (fourBytes w) (wordsBytes ws) l in
+    ap (λ (m : List ℕ). four m 0 ∷ wordsAt (length ws) m 4) a
+    ∙ (λ k. four-back w (b .0) k ∷ (words-at (length ws) (fourBytes w ++ (wordsBytes ws ++ l)) 4 ∙ words-back ws l (b .1)) k)
+
+flag-back : (f : Bool) → flagOf (flagByte f) ≡ f
+flag-back true = refl
+flag-back false = refl
+
+pub flags-back : (fs : List Bool) → map flagOf (map flagByte fs) ≡ fs
+flags-back [] = refl
+flags-back (f ∷ fs) = λ i. flag-back f i ∷ flags-back fs i
+
+pub flags-fit : (fs : List Bool) → flagsFit (map flagByte fs) ≡ true
+unfolding flagsFit
+flags-fit [] = refl
+flags-fit (true ∷ fs) = flags-fit fs
+flags-fit (false ∷ fs) = flags-fit fs
+
+-- ---- how long
+
+pub length-rects : (qs : List Rect) → length (rectsBytes qs) ≡ 8 * length qs
+length-rects [] = refl
+length-rects (q ∷ qs) = omega (arith, length-rects qs)
+
+pub length-words : (ws : List ℕ) → length (wordsBytes ws) ≡ 4 * length ws
+length-words [] = refl
+length-words (w ∷ ws) = omega (arith, length-words ws)

@@ -1,0 +1,145 @@
+-- Points: what a drawing function answers for one is what the definition says.
+use mathlib.Core.Path.{_≡_, refl, sym, ap, _∙_}
+use mathlib.Core.Logic.{inl, inr}
+use mathlib.Core.Bool.{Bool, true, false, cond}
+use mathlib.Core.List.{List, [], _∷_}
+use Prim.Native.Nat.{ℕ, _-_, _*_, _/_, _^_, _<_, _≤_}
+use native.Mathlib.Omega.{arith}
+use lib.Bits.{bitAnd, bitOr, bitXor}
+use lib.Dec.{ltb}
+use lib.IntN.{ℤ, pos, negsuc}
+use lib.ListN.{length}
+use borrow.Author.Tests.{ltb-true, lt-ltb, le-ltb}
+use Rattle.model.specs.declared.Rect.{Rect}
+use Rattle.model.specs.declared.Marks.{Marks}
+use Rattle.model.specs.declared.DrawMode.{DrawMode}
+use Rattle.model.specs.declared.DrawMode.the-variants.{Clear, Or, Xor, Unknown}
+use Rattle.model.specs.Bits.{bitAt, withBit}
+use Rattle.model.specs.Pixels.{Screen, place, bit, onScreen, writePixel, draw, seen}
+use Rattle.model.specs.Rects.{none, fits}
+use Rattle.model.specs.Marks.{drawn, drawnOn, within, owes}
+use Rattle.model.specs.Points.{pointOp, pixelRect, pointWrite, pointRect, point, checkPoint}
+use Rattle.laws.specs.Tests.{if-cases, by-test, by-lt, and-true}
+use Rattle.laws.specs.Pixels.{place-lt}
+use Rattle.laws.specs.Tables.{or-is, and-is, flip-is}
+use Rattle.laws.specs.Rects.{fits-passes}
+use Rattle.laws.specs.Marks.{in-inside}
+
+-- a bit made what it is
+pub withBit-own : (b k : ℕ) → withBit b k (bitAt b k) ≡ b
+unfolding withBit
+withBit-own b k = go (bitAt b k) refl
+  where
+    go : (v : Bool) → bitAt b k ≡ v → withBit b k v ≡ b
+    go true e = rw e
+    go false e = rw e
+
+-- the byte that holds a point, by the machine's operations on it and the mask of its bit k, counted from the highest
+pub clear-byte : (b k : ℕ) {d : DrawMode} → d ≡ Clear → b < 256 → k < 8 → bitAnd b (255 - 128 / 2 ^ k) ≡ withBit b (7 - k) (pointOp d (bitAt b (7 - k)))
+unfolding pointOp
+clear-byte b k e hb hk = rw e (and-is b k hb hk)
+
+pub or-byte : (b k : ℕ) {d : DrawMode} → d ≡ Or → b < 256 → k < 8 → bitOr b (128 / 2 ^ k) ≡ withBit b (7 - k) (pointOp d (bitAt b (7 - k)))
+unfolding pointOp
+or-byte b k e hb hk = rw e (or-is b k hb hk)
+
+pub xor-byte : (b k : ℕ) {d : DrawMode} → d ≡ Xor → b < 256 → k < 8 → bitXor b (128 / 2 ^ k) ≡ withBit b (7 - k) (pointOp d (bitAt b (7 - k)))
+unfolding pointOp
+xor-byte b k e hb hk = rw e (flip-is b k hb hk)
+
+pub same-byte : (b k : ℕ) {d : DrawMode} → d ≡ Unknown → b ≡ withBit b (7 - k) (pointOp d (bitAt b (7 - k)))
+unfolding pointOp
+same-byte b k e = rw e (sym (withBit-own b (7 - k)))
+
+pub on-true : (st h x y : ℕ) → onScreen st h x y ≡ true → (x < 8 * st) × (y < h)
+unfolding onScreen
+on-true st h x y e =
+    let p = and-true (ltb x (8 * st)) (ltb y h) e in
+    (ltb-true x (8 * st) (p .0), ltb-true y h (p .1))
+
+-- a pixel of the screen has its byte
+pub place-in : (st h x y : ℕ) {s : List ℕ} → Screen st h s → (x < 8 * st) × (y < h) → place st x y < length s
+place-in st h x y r o = omega (arith, place-lt st h x y (o .0) (o .1), r .sized)
+
+-- one rectangle for both marks
+abbrev pub both : Rect → Marks
+both r = record { dirty = r; owed = r }
+
+-- a point's write lies in what it marks
+pub point-owes : (st h x y : ℕ) (d : DrawMode) → owes st h (pointRect st h x y) (seen st h (pointWrite x y d ∷ [])) ≡ pointRect st h x y
+unfolding owes within seen pointRect
+point-owes st h x y d =
+    by-test (onScreen st h x y) (λ e. rw (e, in-inside (pixelRect x y) x y (omega arith))) (λ e. rw e)
+
+-- and STATE lets it pass in dirty
+pub point-fits : (st h x y : ℕ) → x < 256 → y < 256 → fits 256 0 256 (pointRect st h x y) ≡ true
+unfolding pointRect
+point-fits st h x y hx hy =
+    if-cases (λ (r : Rect). fits 256 0 256 r ≡ true) (onScreen st h x y)
+    (λ e. fits-passes 256 0 256 (pixelRect x y) (inr (omega arith))) (λ e. fits-passes 256 0 256 none (inl refl))
+
+pub point-on : (st h x y : ℕ) (d : DrawMode) (s e : List ℕ) {t : Bool} {m : Rect} → t ≡ onScreen st h x y → t ≡ true → m ≡ pixelRect x y
+    → e ≡ writePixel st s (pointWrite x y d) → drawn (both m) e ≡ drawnOn st h (point st h x y d) s
+unfolding drawn drawnOn point owes within seen pointRect draw
+point-on st h x y d s e {m = m} p q r w =
+    let o : onScreen st h x y ≡ true = cc in
+    rw (o, in-inside (pixelRect x y) x y (omega arith)) (λ i. record { dirty = r i; owed = r i; screen = w i })
+
+pub point-off : (st h x y : ℕ) (d : DrawMode) (s : List ℕ) {t : Bool} {m : Marks} → t ≡ onScreen st h x y → t ≡ false → m ≡ both none
+    → drawn m s ≡ drawnOn st h (point st h x y d) s
+unfolding drawn drawnOn point owes within seen pointRect draw
+point-off st h x y d s p q r =
+    let o : onScreen st h x y ≡ false = cc in
+    rw (o, r)
+
+-- one write, where it falls on the screen
+pub seen-one : (st h x y : ℕ) (d : DrawMode) (s e : List ℕ) {t : Bool} → t ≡ onScreen st h x y → t ≡ true → e ≡ writePixel st s (pointWrite x y d)
+    → e ≡ draw st (seen st h (pointWrite x y d ∷ [])) s
+unfolding seen draw
+seen-one st h x y d s e p q w =
+    let o : onScreen st h x y ≡ true = cc in
+    rw o w
+
+pub seen-none : (st h x y : ℕ) (d : DrawMode) (s : List ℕ) {t : Bool} → t ≡ onScreen st h x y → t ≡ false
+    → s ≡ draw st (seen st h (pointWrite x y d ∷ [])) s
+unfolding seen draw
+seen-none st h x y d s p q =
+    let o : onScreen st h x y ≡ false = cc in
+    rw o
+
+-- ---- a signed coordinate
+
+-- the coordinate where it lies on an axis of n places, else n
+unfoldable pub axisOf : ℤ → ℕ → ℕ
+axisOf (pos x) n = cond (ltb x n) x n
+axisOf (negsuc x) n = n
+
+axis-in : (n : ℕ) (z : ℤ) → axisOf z n < n → z ≡ pos (axisOf z n)
+unfolding axisOf
+axis-in n (pos x) h = by-lt x n (λ l. rw (lt-ltb x n l)) (λ l. absurd (let k : n < n = rw (le-ltb x n l) at h in omega arith))
+axis-in n (negsuc x) h = absurd (omega arith)
+
+pub check-on : (st h : ℕ) (s : List ℕ) (x y : ℤ) {c l : ℕ} {b : Bool} → c ≡ axisOf x (8 * st) → l ≡ axisOf y h → c < 8 * st → l < h
+    → b ≡ bit st s c l → b ≡ checkPoint st h s x y
+unfolding checkPoint onScreen
+check-on st h s x y {c} {l} {b} p q hc hl e =
+    let u : x ≡ pos c = axis-in (8 * st) x (rw (← p) hc) ∙ ap pos (sym p) in
+    let v : y ≡ pos l = axis-in h y (rw (← q) hl) ∙ ap pos (sym q) in
+    rw (u, v, lt-ltb c (8 * st) hc, lt-ltb l h hl) e
+
+-- a coordinate off its axis
+off-axis : (n : ℕ) (x : ℕ) → n ≤ axisOf (pos x) n → ltb x n ≡ false
+unfolding axisOf
+off-axis n x h = by-lt x n (λ l. absurd (let k : n ≤ x = rw (lt-ltb x n l) at h in omega arith)) (λ l. le-ltb x n l)
+
+pub check-beside : (st h : ℕ) (s : List ℕ) (x y : ℤ) {c : ℕ} → c ≡ axisOf x (8 * st) → 8 * st ≤ c → false ≡ checkPoint st h s x y
+unfolding checkPoint onScreen
+check-beside st h s (pos x) (pos y) p l = rw (off-axis (8 * st) x (rw p at l))
+check-beside st h s (pos x) (negsuc y) p l = refl
+check-beside st h s (negsuc x) y p l = refl
+
+pub check-below : (st h : ℕ) (s : List ℕ) (x y : ℤ) {c : ℕ} → c ≡ axisOf y h → h ≤ c → false ≡ checkPoint st h s x y
+unfolding checkPoint onScreen
+check-below st h s (pos x) (pos y) p l = by-test (ltb x (8 * st)) (λ e. rw (e, off-axis h y (rw p at l))) (λ e. rw e)
+check-below st h s (pos x) (negsuc y) p l = refl
+check-below st h s (negsuc x) y p l = refl
