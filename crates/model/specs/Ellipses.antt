@@ -2,7 +2,13 @@
 use mathlib.Core.Bool.{Bool, true, false, not, cond, _&&_, _||_}
 use mathlib.Core.List.{List, [], _∷_, _++_}
 use Prim.Native.Nat.{ℕ, zero, suc, _+_, _-_, _*_, _%_, max}
-use lib.Dec.{ltb, eqb}
+use lib.Dec.{ltb, leb, eqb}
+use Rattle.model.specs.declared.DrawMode.{DrawMode}
+use Rattle.model.specs.Pixels.{PixelWrite}
+use Rattle.model.specs.Rects.{Rect, lowered}
+use Rattle.model.specs.Marks.{Drawing, whole}
+use Rattle.model.specs.Points.{pointWrite, point}
+use Rattle.model.specs.Lines.{isUnknown, nothing, horizontal}
 
 -- ---- the walk, of the radii rx and ry, the larger of which is r
 
@@ -143,3 +149,71 @@ parts rx ry = part rx 0 ∷ partsFrom mostSteps (max rx ry) rx ry (start (max rx
 -- any number above 512 is counted as 513
 unfoldable pub steps : ℕ → ℕ → ℕ
 steps rx ry = stepsFrom (suc mostSteps) (max rx ry) rx ry (start (max rx ry) rx)
+
+-- ---- the pixel writes, round the centre (x, y): its sums and differences wrap at 256
+
+abbrev pub up : ℕ → ℕ → ℕ
+up z d = (z + d) % 256
+
+abbrev pub down : ℕ → ℕ → ℕ
+down z d = (z + 256 - d) % 256
+
+-- the four corners of a part
+unfoldable pub corners : ℕ → ℕ → DrawMode → Part → List PixelWrite
+corners x y d q =
+    pointWrite (down x (q .a)) (down y (q .b)) d ∷ pointWrite (up x (q .a)) (down y (q .b)) d ∷
+    pointWrite (down x (q .a)) (up y (q .b)) d ∷ pointWrite (up x (q .a)) (up y (q .b)) d ∷ []
+
+-- a horizontal from corner to corner; where the left one lies right of the right one, it starts at 0
+unfoldable pub chord : ℕ → ℕ → ℕ → ℕ → ℕ → DrawMode → List PixelWrite
+chord st h x a y d = horizontal st h (cond (ltb (up x a) (down x a)) 0 (down x a)) (up x a) y d
+
+unfoldable pub chords : ℕ → ℕ → ℕ → ℕ → DrawMode → Part → List PixelWrite
+chords st h x y d q = chord st h x (q .a) (down y (q .b)) d ++ chord st h x (q .a) (up y (q .b)) d
+
+unfoldable pub partWrites : ℕ → ℕ → ℕ → ℕ → Bool → DrawMode → Part → List PixelWrite
+partWrites st h x y fill d q = cond fill (chords st h x y d q) (corners x y d q)
+
+unfoldable pub partsWrites : ℕ → ℕ → ℕ → ℕ → Bool → DrawMode → List Part → List PixelWrite
+partsWrites st h x y fill d [] = []
+partsWrites st h x y fill d (q ∷ qs) = partWrites st h x y fill d q ++ partsWrites st h x y fill d qs
+
+-- ---- marks
+
+-- a radius exceeds its centre, or a sum exceeds 255
+unfoldable pub wraps : ℕ → ℕ → ℕ → ℕ → Bool
+wraps x y rx ry = (ltb x rx || ltb y ry) || (ltb 255 (x + rx) || ltb 255 (y + ry))
+
+-- then the whole screen; else from the left and top ends on, to the screen's edges at least
+unfoldable pub ellipseMark : ℕ → ℕ → ℕ → ℕ → ℕ → ℕ → Rect
+ellipseMark st h x y rx ry =
+    cond (wraps x y rx ry) (whole st h)
+    (record { left = x - rx; top = y - ry; right = max (x + rx + 1) (8 * st); bottom = max (y + ry + 1) h })
+
+-- ---- `draw_ellipse`
+
+unfoldable pub ellipseDrawn : ℕ → ℕ → ℕ → ℕ → ℕ → ℕ → Bool → DrawMode → Drawing
+ellipseDrawn st h x y rx ry fill d =
+    let m = ellipseMark st h x y rx ry in
+    record { writes = partsWrites st h x y fill d (parts rx ry); dirty = m; owed = cond fill (lowered (8 * st) h m) m }
+
+-- the two early returns: two zero radii are a point, and an outline in Unknown is nothing
+unfoldable pub isPoint : ℕ → ℕ → Bool
+isPoint rx ry = eqb rx 0 && eqb ry 0
+
+unfoldable pub isNothing : Bool → DrawMode → Bool
+isNothing fill d = not fill && isUnknown d
+
+unfoldable pub ellipse : ℕ → ℕ → ℕ → ℕ → ℕ → ℕ → Bool → DrawMode → Drawing
+ellipse st h x y rx ry fill d =
+    cond (isPoint rx ry) (point st h x y d)
+    (cond (isNothing fill d) nothing
+    (ellipseDrawn st h x y rx ry fill d))
+
+-- ---- RADIUS and ENDLESS: tested only after these returns
+
+unfoldable pub radiiFit : ℕ → ℕ → Bool → DrawMode → Bool
+radiiFit rx ry fill d = (isPoint rx ry || isNothing fill d) || (leb rx 127 && leb ry 127)
+
+unfoldable pub stepsFit : ℕ → ℕ → Bool → DrawMode → Bool
+stepsFit rx ry fill d = (isPoint rx ry || isNothing fill d) || leb (steps rx ry) mostSteps
