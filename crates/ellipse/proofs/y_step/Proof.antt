@@ -1,0 +1,60 @@
+use Rattle.ellipse.proofs.Laws.{y-step-is, y-parts-are}
+use Rattle.ellipse.specs.Walk.{walkOf}
+use borrow.Author.Needs.{needs}
+use Rattle.ellipse.proofs.y_step.Statement.{statement}
+use Rattle.ellipse.proofs.y_step.Tie as tie
+
+moves-requires : tie.Need-moves-requires
+moves-requires c κs = search needs
+
+advance-requires : tie.Need-advance-requires
+advance-requires c κs = search needs
+
+turns-requires : tie.Need-turns-requires
+turns-requires c κs = search needs
+
+early-requires : tie.Need-early-requires
+early-requires c κs = search needs
+
+turn-requires : tie.Need-turn-requires
+turn-requires c κs = search needs
+
+apart-requires : tie.Need-apart-requires
+apart-requires c κs = search needs
+
+negate-requires : tie.Need-negate-requires
+negate-requires c κs = search needs
+
+choose-requires : tie.Need-choose-requires
+choose-requires c κs = search needs
+
+y-part-requires : tie.Need-y-part-requires
+y-part-requires c κs = search needs
+
+returns : tie.Need-returns
+returns c =
+    let s = c .before .before .before .before .before .before .before .before .before .before .before .before .before in
+    let w = walkOf (s .args .w) in
+    let m = c .before .before .before .before .before .before .before .before .before .before .moves .ensures in
+    let y = c .before .before .before .before .before .before .before .before .before .advance .ensures in
+    let soon = c .before .before .before .before .before .before .before .early .ensures in
+    record {
+      walk = y-step-is w (s .args .r) (s .args .ry) m y (c .before .before .before .before .before .before .before .before .turns .ensures) (c .before .before .before .before .before .before .turn .ensures) (c .before .before .before .before .before .apart .ensures)
+          (c .before .before .before .before .negate .ensures) soon (c .before .choose .ensures);
+      part = y-parts-are w (s .args .r) (s .args .rx) (s .args .ry) m y soon (c .y-part .ensures);
+    }
+
+pub y-step-spec : {M : Type 1} → statement M
+y-step-spec =
+    tie.close
+    (tie.spec
+    moves-requires
+    advance-requires
+    turns-requires
+    early-requires
+    turn-requires
+    apart-requires
+    negate-requires
+    choose-requires
+    y-part-requires
+    returns)
