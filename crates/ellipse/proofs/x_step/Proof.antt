@@ -1,5 +1,4 @@
-use Rattle.ellipse.proofs.Laws.{x-step-is, x-parts-are}
-use Rattle.ellipse.specs.Walk.{walkOf}
+use Rattle.ellipse.proofs.Laws.{x-stepped}
 use borrow.Author.Needs.{needs}
 use Rattle.ellipse.proofs.x_step.Statement.{statement}
 use Rattle.ellipse.proofs.x_step.Tie as tie
@@ -26,14 +25,7 @@ x-part-requires : tie.Need-x-part-requires
 x-part-requires c κs = search needs
 
 returns : tie.Need-returns
-returns c =
-    let s = c .before .before .before .before .before .before .before .before .before .before .before in
-    let w = walkOf (s .args .w) in
-    let x = c .before .before .before .before .before .before .before .advance .ensures in
-    record {
-      walk = x-step-is w (s .args .r) (s .args .rx) x (c .before .before .before .before .before .before .turns .ensures) (c .before .before .before .turn .ensures) (c .before .before .apart .ensures) (c .before .choose .ensures);
-      part = x-parts-are w (s .args .r) (s .args .rx) (c .before .before .before .before .before .before .before .before .moves .ensures) x (c .x-part .ensures);
-    }
+returns c = search x-stepped
 
 pub x-step-spec : {M : Type 1} → statement M
 x-step-spec =

@@ -1,5 +1,4 @@
-use Rattle.ellipse.proofs.Laws.{y-step-is, y-parts-are}
-use Rattle.ellipse.specs.Walk.{walkOf}
+use Rattle.ellipse.proofs.Laws.{y-stepped}
 use borrow.Author.Needs.{needs}
 use Rattle.ellipse.proofs.y_step.Statement.{statement}
 use Rattle.ellipse.proofs.y_step.Tie as tie
@@ -32,17 +31,7 @@ y-part-requires : tie.Need-y-part-requires
 y-part-requires c κs = search needs
 
 returns : tie.Need-returns
-returns c =
-    let s = c .before .before .before .before .before .before .before .before .before .before .before .before .before in
-    let w = walkOf (s .args .w) in
-    let m = c .before .before .before .before .before .before .before .before .before .before .moves .ensures in
-    let y = c .before .before .before .before .before .before .before .before .before .advance .ensures in
-    let soon = c .before .before .before .before .before .before .before .early .ensures in
-    record {
-      walk = y-step-is w (s .args .r) (s .args .ry) m y (c .before .before .before .before .before .before .before .before .turns .ensures) (c .before .before .before .before .before .before .turn .ensures) (c .before .before .before .before .before .apart .ensures)
-          (c .before .before .before .before .negate .ensures) soon (c .before .choose .ensures);
-      part = y-parts-are w (s .args .r) (s .args .rx) (s .args .ry) m y soon (c .y-part .ensures);
-    }
+returns c = search y-stepped
 
 pub y-step-spec : {M : Type 1} → statement M
 y-step-spec =
