@@ -1,6 +1,12 @@
 // Points, lines and boxes over the lent screen part of memory. `stride` is the bytes of a line, `height` the lines.
+mod boxes;
+mod line;
 mod marks;
 mod point;
+mod run;
+mod slope;
 
+pub use boxes::draw_box;
+pub use line::draw_line;
 pub use point::check_pixel;
 pub use point::draw_point;

@@ -3,7 +3,7 @@ ghost use mathlib.Core.Path.{_≡_};
 ghost use Prim.Native.Nat.{_-_, _*_, _≤_, _<_, min, max};
 ghost use Rattle.model.specs.Rects.{none, lowered};
 ghost use Rattle.model.specs.Lines.{spanRect};
-ghost use Rattle.laws.specs.Points.{both};
+ghost use Rattle.laws.specs.Points.{both, bothLowered};
 use model::Marks;
 use model::Rect;
 
@@ -20,7 +20,7 @@ pub fn greatest(a: u8, b: u8) -> u8
 }
 
 // The pixels from (left, top) to (right, bottom).
-pub fn span(left: u8, top: u8, right: u8, bottom: u8) -> Rect
+fn span(left: u8, top: u8, right: u8, bottom: u8) -> Rect
     ensures { λ r. ⌜ r ≡ spanRect left top right bottom ⌝ }
 {
     Rect {
@@ -46,7 +46,7 @@ fn clamp_mark(z: u16, size: usize) -> u16
     clamp(z as usize, size) as u16
 }
 
-pub fn lower(stride: usize, height: usize, q: Rect) -> Rect
+fn lower(stride: usize, height: usize, q: Rect) -> Rect
     requires { ⌜ (0 < stride) × (stride ≤ 32) × (0 < height) × (height ≤ 256) ⌝ }
     ensures { λ r. ⌜ r ≡ lowered (8 * stride) height q ⌝ }
 {
@@ -55,6 +55,36 @@ pub fn lower(stride: usize, height: usize, q: Rect) -> Rect
         top: clamp_mark(q.top, height),
         right: q.right,
         bottom: q.bottom,
+    }
+}
+
+// A mark owed as it is.
+pub fn span_marks(left: u8, top: u8, right: u8, bottom: u8) -> Marks
+    ensures { λ r. ⌜ r ≡ both (spanRect left top right bottom) ⌝ }
+{
+    let ends = span(left, top, right, bottom);
+    Marks {
+        dirty: ends,
+        owed: ends,
+    }
+}
+
+// A mark owed lowered.
+pub fn lowered_marks(
+    stride: usize,
+    height: usize,
+    left: u8,
+    top: u8,
+    right: u8,
+    bottom: u8,
+) -> Marks
+    requires { ⌜ (0 < stride) × (stride ≤ 32) × (0 < height) × (height ≤ 256) ⌝ }
+    ensures { λ r. ⌜ r ≡ bothLowered stride height (spanRect left top right bottom) ⌝ }
+{
+    let ends = span(left, top, right, bottom);
+    Marks {
+        dirty: ends,
+        owed: lower(stride, height, ends),
     }
 }
 

@@ -8,7 +8,7 @@ ghost use Rattle.model.specs.Marks.{drawn, drawnOn};
 ghost use Rattle.model.specs.Points.{pointOp, pointWrite, point, checkPoint};
 ghost use Rattle.laws.specs.Points.{axisOf};
 use crate::marks::no_marks;
-use crate::marks::span;
+use crate::marks::span_marks;
 use model::DrawMode;
 use model::Marks;
 
@@ -75,11 +75,7 @@ pub fn draw_point(
 {
     if on_screen(stride, height, x as usize, y as usize) {
         plot(stride, height, screen, x as usize, y as usize, mode);
-        let pixel = span(x, y, x, y);
-        return Marks {
-            dirty: pixel,
-            owed: pixel,
-        };
+        return span_marks(x, y, x, y);
     }
     no_marks()
 }

@@ -12,6 +12,11 @@ pub mod Layout
 pub mod Record
 pub mod States
 pub mod Loops
+pub mod Writes
 pub mod Points
+pub mod Lines
+pub mod Runs
+pub mod Slopes
+pub mod Boxes
 pub mod Ellipses
 pub mod EllipseSteps

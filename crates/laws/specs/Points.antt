@@ -16,7 +16,7 @@ use Rattle.model.specs.declared.DrawMode.{DrawMode}
 use Rattle.model.specs.declared.DrawMode.the-variants.{Clear, Or, Xor, Unknown}
 use Rattle.model.specs.Bits.{bitAt, withBit}
 use Rattle.model.specs.Pixels.{Screen, place, bit, onScreen, writePixel, draw, seen}
-use Rattle.model.specs.Rects.{none, fits}
+use Rattle.model.specs.Rects.{none, fits, lowered}
 use Rattle.model.specs.Marks.{drawn, drawnOn, within, owes}
 use Rattle.model.specs.Points.{pointOp, pixelRect, pointWrite, pointRect, point, checkPoint}
 use Rattle.laws.specs.Tests.{if-cases, by-test, by-lt, and-true}
@@ -65,6 +65,13 @@ place-in st h x y r o = omega (arith, place-lt st h x y (o .0) (o .1), r .sized)
 abbrev pub both : Rect → Marks
 both r = record { dirty = r; owed = r }
 
+-- a mark that is owed lowered
+abbrev pub bothLowered : ℕ → ℕ → Rect → Marks
+bothLowered st h r = record { dirty = r; owed = lowered (8 * st) h r }
+
+pub lowered-both : (st h : ℕ) {r m o : Rect} → m ≡ r → o ≡ lowered (8 * st) h m → _≡_ {A = Marks} (record { dirty = m; owed = o }) (bothLowered st h r)
+lowered-both st h {r} {m} {o} p q = let k : o ≡ lowered (8 * st) h r = q ∙ ap (lowered (8 * st) h) p in λ i. record { dirty = p i; owed = k i }
+
 -- a point's write lies in what it marks
 pub point-owes : (st h x y : ℕ) (d : DrawMode) → owes st h (pointRect st h x y) (seen st h (pointWrite x y d ∷ [])) ≡ pointRect st h x y
 unfolding owes within seen pointRect
@@ -78,12 +85,12 @@ point-fits st h x y hx hy =
     if-cases (λ (r : Rect). fits 256 0 256 r ≡ true) (onScreen st h x y)
     (λ e. fits-passes 256 0 256 (pixelRect x y) (inr (omega arith))) (λ e. fits-passes 256 0 256 none (inl refl))
 
-pub point-on : (st h x y : ℕ) (d : DrawMode) (s e : List ℕ) {t : Bool} {m : Rect} → t ≡ onScreen st h x y → t ≡ true → m ≡ pixelRect x y
-    → e ≡ writePixel st s (pointWrite x y d) → drawn (both m) e ≡ drawnOn st h (point st h x y d) s
+pub point-on : (st h x y : ℕ) (d : DrawMode) (s e : List ℕ) {t : Bool} {m : Marks} → t ≡ onScreen st h x y → t ≡ true → m ≡ both (pixelRect x y)
+    → e ≡ writePixel st s (pointWrite x y d) → drawn m e ≡ drawnOn st h (point st h x y d) s
 unfolding drawn drawnOn point owes within seen pointRect draw
 point-on st h x y d s e {m = m} p q r w =
     let o : onScreen st h x y ≡ true = cc in
-    rw (o, in-inside (pixelRect x y) x y (omega arith)) (λ i. record { dirty = r i; owed = r i; screen = w i })
+    rw (o, in-inside (pixelRect x y) x y (omega arith)) (λ i. record { dirty = r i .dirty; owed = r i .owed; screen = w i })
 
 pub point-off : (st h x y : ℕ) (d : DrawMode) (s : List ℕ) {t : Bool} {m : Marks} → t ≡ onScreen st h x y → t ≡ false → m ≡ both none
     → drawn m s ≡ drawnOn st h (point st h x y d) s

@@ -9,8 +9,8 @@ on-screen-requires c κs = search needs
 plot-requires : tie.Need-plot-requires
 plot-requires c κs = (c .before .before .before .before .pre, on-true _ _ _ _ (cc))
 
-span-requires : tie.Need-span-requires
-span-requires c κs = search needs
+span-marks-requires : tie.Need-span-marks-requires
+span-marks-requires c κs = search needs
 
 same-length : tie.Need-same-length
 same-length c = search needs
@@ -30,7 +30,7 @@ draw-point-spec =
     (tie.spec
     on-screen-requires
     plot-requires
-    span-requires
+    span-marks-requires
     same-length
     returns
     no-marks-requires

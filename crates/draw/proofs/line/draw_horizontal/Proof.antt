@@ -1,0 +1,20 @@
+use Rattle.laws.specs.Lines.{horizontal-marked}
+use borrow.Author.Needs.{needs}
+use Rattle.draw.proofs.line.draw_horizontal.Statement.{statement}
+use Rattle.draw.proofs.line.draw_horizontal.Tie as tie
+
+draw-hor-line-requires : tie.Need-draw-hor-line-requires
+draw-hor-line-requires c κs = search needs
+
+lowered-marks-requires : tie.Need-lowered-marks-requires
+lowered-marks-requires c κs = search needs
+
+same-length : tie.Need-same-length
+same-length c = search needs
+
+returns : tie.Need-returns
+returns c = search horizontal-marked
+
+pub draw-horizontal-spec : {M : Type 1} → statement M
+draw-horizontal-spec =
+    tie.close (tie.spec draw-hor-line-requires lowered-marks-requires same-length returns)

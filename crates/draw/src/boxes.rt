@@ -1,0 +1,93 @@
+// `draw_box`, filled and as an outline.
+ghost use mathlib.Core.Path.{_≡_};
+ghost use Prim.Native.Nat.{_≤_};
+ghost use Rattle.model.specs.Pixels.{Screen, draw, seen};
+ghost use Rattle.model.specs.Marks.{drawn, drawnOn};
+ghost use Rattle.model.specs.Boxes.{filledBox, outline, box};
+use crate::line::draw_hor_line;
+use crate::line::draw_ver_line;
+use crate::line::is_unknown;
+use crate::marks::clamp;
+use crate::marks::greatest;
+use crate::marks::least;
+use crate::marks::lowered_marks;
+use crate::run::draw_run;
+use model::DrawMode;
+use model::Marks;
+
+// Every row; those beyond the last line land on it again.
+fn fill_box(
+    stride: usize,
+    height: usize,
+    screen: &mut [u8],
+    left: u8,
+    top: u8,
+    right: u8,
+    bottom: u8,
+    mode: DrawMode,
+)
+    requires { ⌜ Screen stride height (now screen) ⌝ }
+    requires { ⌜ (left ≤ right) × (top ≤ bottom) ⌝ }
+    ensures { λ _. ⌜ now (screen .exit) ≡ draw stride (seen stride height (filledBox stride height left top right bottom mode)) (now (screen .entry)) ⌝ }
+{
+    let first = clamp(left as usize, 8 * stride);
+    let last = clamp(right as usize, 8 * stride);
+    let mut y = top as usize;
+    let mut count = ((bottom - top) as usize) + 1;
+    while 0 < count {
+        let line = clamp(y, height);
+        draw_run(stride, height, screen, first, last, line, mode);
+        y += 1;
+        count -= 1;
+    }
+}
+
+// Two horizontals, then two verticals unless Unknown.
+fn draw_outline(
+    stride: usize,
+    height: usize,
+    screen: &mut [u8],
+    left: u8,
+    top: u8,
+    right: u8,
+    bottom: u8,
+    mode: DrawMode,
+)
+    requires { ⌜ Screen stride height (now screen) ⌝ }
+    requires { ⌜ (left ≤ right) × (top ≤ bottom) ⌝ }
+    ensures { λ _. ⌜ now (screen .exit) ≡ draw stride (seen stride height (outline stride height left top right bottom mode)) (now (screen .entry)) ⌝ }
+{
+    draw_hor_line(stride, height, screen, left, right, top, mode);
+    draw_hor_line(stride, height, screen, left, right, bottom, mode);
+    if is_unknown(mode) {
+        return;
+    }
+    draw_ver_line(stride, height, screen, left, top, bottom, mode);
+    draw_ver_line(stride, height, screen, right, top, bottom, mode);
+}
+
+pub fn draw_box(
+    stride: usize,
+    height: usize,
+    screen: &mut [u8],
+    x1: u8,
+    y1: u8,
+    x2: u8,
+    y2: u8,
+    fill: bool,
+    mode: DrawMode,
+) -> Marks
+    requires { ⌜ Screen stride height (now screen) ⌝ }
+    ensures { λ r. ⌜ drawn r (now (screen .exit)) ≡ drawnOn stride height (box stride height x1 y1 x2 y2 fill mode) (now (screen .entry)) ⌝ }
+{
+    let left = least(x1, x2);
+    let top = least(y1, y2);
+    let right = greatest(x1, x2);
+    let bottom = greatest(y1, y2);
+    if fill {
+        fill_box(stride, height, screen, left, top, right, bottom, mode);
+        return lowered_marks(stride, height, left, top, right, bottom);
+    }
+    draw_outline(stride, height, screen, left, top, right, bottom, mode);
+    lowered_marks(stride, height, left, top, right, bottom)
+}

@@ -1,0 +1,129 @@
+-- Boxes: their writes lie in what they owe; row after row, and part after part, as the code draws them.
+use mathlib.Core.Path.{_≡_, refl, sym, ap, _∙_}
+use mathlib.Core.Bool.{Bool, true, false, cond}
+use mathlib.Core.List.{List, [], _++_}
+use Prim.Native.Nat.{ℕ, zero, suc, _+_, _-_, _*_, _≤_, _<_, min, max}
+use native.Mathlib.Omega.{arith}
+use Rattle.model.specs.declared.Rect.{Rect}
+use Rattle.model.specs.declared.Marks.{Marks}
+use Rattle.model.specs.declared.DrawMode.{DrawMode}
+use Rattle.model.specs.Pixels.{Screen, PixelWrite, draw, seen}
+use Rattle.model.specs.Rects.{lowered}
+use Rattle.model.specs.Marks.{drawn, drawnOn, within}
+use Rattle.model.specs.Lines.{isUnknown, spanRect, pixelRun, clamp, horizontal, vertical}
+use Rattle.model.specs.Boxes.{rows, filledBox, outline, boxOf, box}
+use Rattle.laws.specs.Tests.{by-test}
+use Rattle.laws.specs.Writes.{drawn-append, within-none, within-append, drawn-is}
+use Rattle.laws.specs.Points.{bothLowered}
+use Rattle.laws.specs.Lines.{horizontal-within, horizontal-drawn, vertical-within}
+
+-- ---- no write lies outside
+
+rows-within : (st h : ℕ) (r : Rect) (left right y n : ℕ) (d : DrawMode) → left ≤ right → r .left ≤ left → right < r .right → r .top ≤ y → y + n ≤ r .bottom
+    → within (lowered (8 * st) h r) (rows st h left right y n d) ≡ true
+unfolding rows
+rows-within st h r left right y zero d o a b e f = within-none _
+rows-within st h r left right y (suc n) d o a b e f =
+    within-append _ (horizontal st h left right y d) (rows st h left right (suc y) n d)
+    (horizontal-within st h r left right y d o a b e (omega arith))
+    (rows-within st h r left right (suc y) n d o a b (omega arith) (omega arith))
+
+module _ (st h left top right bottom : ℕ) (d : DrawMode) (across : left ≤ right) (down : top ≤ bottom) where
+  filled-within : within (lowered (8 * st) h (spanRect left top right bottom)) (filledBox st h left top right bottom d) ≡ true
+  unfolding filledBox
+  filled-within = rows-within st h (spanRect left top right bottom) left right top (suc (bottom - top)) d across (omega arith) (omega arith) (omega arith) (omega arith)
+
+  sides-within : within (lowered (8 * st) h (spanRect left top right bottom)) (vertical left top bottom d ++ vertical right top bottom d) ≡ true
+  unfolding lowered
+  sides-within =
+      within-append _ (vertical left top bottom d) (vertical right top bottom d)
+      (vertical-within _ left top bottom d down (omega arith) (omega arith) (omega arith) (omega arith))
+      (vertical-within _ right top bottom d down (omega arith) (omega arith) (omega arith) (omega arith))
+
+  outline-within : within (lowered (8 * st) h (spanRect left top right bottom)) (outline st h left top right bottom d) ≡ true
+  unfolding outline
+  outline-within =
+      within-append _ (horizontal st h left right top d) _
+      (horizontal-within st h (spanRect left top right bottom) left right top d across (omega arith) (omega arith) (omega arith) (omega arith))
+      (within-append _ (horizontal st h left right bottom d) _
+      (horizontal-within st h (spanRect left top right bottom) left right bottom d across (omega arith) (omega arith) (omega arith) (omega arith))
+      (by-test (isUnknown d) (λ t. rw t (within-none _)) (λ t. rw t sides-within)))
+
+  pub box-within : (fill : Bool) → within (lowered (8 * st) h (spanRect left top right bottom)) (cond fill (filledBox st h left top right bottom d) (outline st h left top right bottom d)) ≡ true
+  box-within true = filled-within
+  box-within false = outline-within
+
+-- ---- a filled box, row after row: what is left of it, drawn on what stands, gives the whole
+
+pub rows-turn : (st h left right y n : ℕ) (d : DrawMode) (s e t : List ℕ) {a b l : ℕ} → Screen st h s → left ≤ right → 0 < n
+    → a ≡ clamp left (8 * st) → b ≡ clamp right (8 * st) → l ≡ clamp y h → e ≡ draw st (pixelRun a l (suc (b - a)) d) s
+    → draw st (seen st h (rows st h left right y n d)) s ≡ t
+    → draw st (seen st h (rows st h left right (y + 1) (n - 1) d)) e ≡ t
+unfolding rows
+rows-turn st h left right y zero d s e t r o k p q w v u = absurd (omega arith)
+rows-turn st h left right y (suc n) d s e t r o k p q w v u =
+    let i : suc n - 1 ≡ n = omega arith in
+    let j : y + 1 ≡ suc y = omega arith in
+    let f = horizontal-drawn st h left right y d s e r o p q w v in
+    (λ k. draw st (seen st h (rows st h left right (j k) (i k) d)) (f k)) ∙ sym (drawn-append st h (horizontal st h left right y d) _ s) ∙ u
+
+pub rows-start : (st h left top right bottom : ℕ) (d : DrawMode) (s : List ℕ)
+    → draw st (seen st h (rows st h left right top (bottom - top + 1) d)) s ≡ draw st (seen st h (filledBox st h left top right bottom d)) s
+unfolding filledBox
+rows-start st h left top right bottom d s =
+    let i : bottom - top + 1 ≡ suc (bottom - top) = omega arith in
+    ap (λ (n : ℕ). draw st (seen st h (rows st h left right top n d)) s) i
+
+pub rows-end : (st h left right y n : ℕ) (d : DrawMode) (s t : List ℕ) → n ≤ 0 → draw st (seen st h (rows st h left right y n d)) s ≡ t → s ≡ t
+unfolding rows seen draw
+rows-end st h left right y zero d s t o u = u
+rows-end st h left right y (suc n) d s t o u = absurd (omega arith)
+
+-- ---- an outline, part after part
+
+module _ (st h left top right bottom : ℕ) (d : DrawMode) (s s₁ s₂ : List ℕ)
+    (first : s₁ ≡ draw st (seen st h (horizontal st h left right top d)) s)
+    (second : s₂ ≡ draw st (seen st h (horizontal st h left right bottom d)) s₁) where
+  sides : (ws : List PixelWrite) (e : List ℕ) → e ≡ draw st (seen st h ws) s₂
+      → e ≡ draw st (seen st h (horizontal st h left right top d ++ (horizontal st h left right bottom d ++ ws))) s
+  sides ws e w =
+      w ∙ ap (draw st (seen st h ws)) second ∙ sym (drawn-append st h (horizontal st h left right bottom d) ws s₁)
+      ∙ ap (draw st (seen st h (horizontal st h left right bottom d ++ ws))) first
+      ∙ sym (drawn-append st h (horizontal st h left right top d) (horizontal st h left right bottom d ++ ws) s)
+
+  pub outline-unknown : {t : Bool} → t ≡ isUnknown d → t ≡ true → s₂ ≡ draw st (seen st h (outline st h left top right bottom d)) s
+  unfolding outline seen draw
+  outline-unknown p q = let k : isUnknown d ≡ true = sym p ∙ q in rw k (sides [] s₂ refl)
+
+  pub outline-drawn : (s₃ e : List ℕ) {t : Bool} → t ≡ isUnknown d → t ≡ false
+      → s₃ ≡ draw st (seen st h (vertical left top bottom d)) s₂ → e ≡ draw st (seen st h (vertical right top bottom d)) s₃
+      → e ≡ draw st (seen st h (outline st h left top right bottom d)) s
+  unfolding outline
+  outline-drawn s₃ e p q w v =
+      let k : isUnknown d ≡ false = sym p ∙ q in
+      rw k (sides (vertical left top bottom d ++ vertical right top bottom d) e
+      (v ∙ ap (draw st (seen st h (vertical right top bottom d))) w ∙ sym (drawn-append st h (vertical left top bottom d) (vertical right top bottom d) s₂)))
+
+-- ---- with its marks
+
+box-marked : (st h left top right bottom : ℕ) (fill : Bool) (d : DrawMode) (s e : List ℕ) (m : Marks) → left ≤ right → top ≤ bottom
+    → m ≡ bothLowered st h (spanRect left top right bottom) → e ≡ draw st (seen st h (boxOf st h left top right bottom fill d .writes)) s
+    → drawn m e ≡ drawnOn st h (boxOf st h left top right bottom fill d) s
+unfolding boxOf
+box-marked st h left top right bottom fill d s e m o u p w =
+    drawn-is st h (boxOf st h left top right bottom fill d) s e m (box-within st h left top right bottom d o u fill) (λ i. p i .dirty) (λ i. p i .owed) w
+
+module _ (st h x1 y1 x2 y2 : ℕ) (d : DrawMode) (s e : List ℕ) {l t r b : ℕ} {m : Marks}
+    (pl : l ≡ min x1 x2) (pt : t ≡ min y1 y2) (pr : r ≡ max x1 x2) (pb : b ≡ max y1 y2)
+    (marks : m ≡ bothLowered st h (spanRect l t r b)) where
+  same-box : (fill : Bool) → drawnOn st h (boxOf st h l t r b fill d) s ≡ drawnOn st h (box st h x1 y1 x2 y2 fill d) s
+  unfolding box
+  same-box fill = λ i. drawnOn st h (boxOf st h (pl i) (pt i) (pr i) (pb i) fill d) s
+
+  pub box-filled : {fill : Bool} → fill ≡ true → e ≡ draw st (seen st h (filledBox st h l t r b d)) s → drawn m e ≡ drawnOn st h (box st h x1 y1 x2 y2 fill d) s
+  unfolding boxOf
+  box-filled {fill} f w = rw f (box-marked st h l t r b true d s e m (omega arith) (omega arith) marks w ∙ same-box true)
+
+  pub box-outlined : {fill : Bool} → fill ≡ false → e ≡ draw st (seen st h (outline st h l t r b d)) s → drawn m e ≡ drawnOn st h (box st h x1 y1 x2 y2 fill d) s
+  unfolding boxOf
+  box-outlined {fill} f w = rw f (box-marked st h l t r b false d s e m (omega arith) (omega arith) marks w ∙ same-box false)
