@@ -20,3 +20,4 @@ pub mod Slopes
 pub mod Boxes
 pub mod Ellipses
 pub mod EllipseSteps
+pub mod EllipseMarks
