@@ -63,13 +63,6 @@ whole-within st h (w ∷ ws) =
     (λ e. let o = on-true st h (w .x) (w .y) e in within-more (whole st h) w (seen st h ws) (omega arith) (whole-within st h ws))
     (λ e. whole-within st h ws)
 
--- a corner at most a radius away from the centre
-near-down : (z d : ℕ) → d ≤ z → z ≤ 255 → down z d ≡ z - d
-near-down z d l h = omega arith
-
-near-up : (z d : ℕ) → z + d ≤ 255 → up z d ≡ z + d
-near-up z d l = omega arith
-
 module _ (st h x y rx ry : ℕ) (d : DrawMode) (i : Inside x y rx ry) where
   corners-within : (q : Part) → Inner rx ry q → within (around st h x y rx ry) (corners x y d q) ≡ true
   unfolding corners

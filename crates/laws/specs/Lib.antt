@@ -21,3 +21,4 @@ pub mod Boxes
 pub mod Ellipses
 pub mod EllipseSteps
 pub mod EllipseMarks
+pub mod EllipseWalks
