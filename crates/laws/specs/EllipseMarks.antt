@@ -22,7 +22,7 @@ use Rattle.laws.specs.Pixels.{Each}
 use Rattle.laws.specs.Writes.{within-none, within-more, within-append, within-seen}
 use Rattle.laws.specs.Points.{on-true, point-fits}
 use Rattle.laws.specs.Lines.{horizontal-within}
-use Rattle.laws.specs.EllipseSteps.{Inner, parts-in, never-endless}
+use Rattle.laws.specs.EllipseSteps.{Round, Inner, parts-in, never-endless}
 
 -- ---- the mark
 
@@ -33,7 +33,7 @@ pub record Inside (x y rx ry : ℕ) : Type 0 where
   pub right : x + rx ≤ 255
   pub bottom : y + ry ≤ 255
 
-unwrapped : (x y rx ry : ℕ) → wraps x y rx ry ≡ false → Inside x y rx ry
+pub unwrapped : (x y rx ry : ℕ) → wraps x y rx ry ≡ false → Inside x y rx ry
 unfolding wraps
 unwrapped x y rx ry e =
     let p = neither (ltb x rx || ltb y ry) (ltb 255 (x + rx) || ltb 255 (y + ry)) e in
@@ -96,13 +96,13 @@ lowered-whole : (st h : ℕ) → lowered (8 * st) h (whole st h) ≡ whole st h
 unfolding lowered
 lowered-whole st h = λ i. record { left = zero-min (8 * st - 1) i; top = zero-min (h - 1) i; right = 8 * st; bottom = h }
 
-drawn-within : (st h x y rx ry : ℕ) (fill : Bool) (d : DrawMode) → rx ≤ 127 → ry ≤ 127 → 0 < max rx ry
+drawn-within : (st h x y rx ry : ℕ) (fill : Bool) (d : DrawMode) → Round rx ry
     → within (ellipseDrawn st h x y rx ry fill d .owed) (seen st h (ellipseDrawn st h x y rx ry fill d .writes)) ≡ true
 unfolding ellipseDrawn ellipseMark
-drawn-within st h x y rx ry fill d a b z =
+drawn-within st h x y rx ry fill d o =
     by-test (wraps x y rx ry)
     (λ e. rw e (whole-owed fill))
-    (λ e. rw e (within-seen st h _ _ (parts-within st h x y rx ry d (unwrapped x y rx ry e) fill (parts rx ry) (parts-in rx ry a b z))))
+    (λ e. rw e (within-seen st h _ _ (parts-within st h x y rx ry d (unwrapped x y rx ry e) fill (parts rx ry) (parts-in rx ry o))))
   where
     whole-owed : (f : Bool) → within (cond f (lowered (8 * st) h (whole st h)) (whole st h)) (seen st h (partsWrites st h x y fill d (parts rx ry))) ≡ true
     whole-owed true = rw (lowered-whole st h) (whole-within st h (partsWrites st h x y fill d (parts rx ry)))
@@ -110,11 +110,11 @@ drawn-within st h x y rx ry fill d a b z =
 
 -- ---- what RADIUS lets pass
 
--- a point, nothing, or radii up to 127, not both 0
+-- a point, nothing, or an ellipse that is walked
 pub data Shape (rx ry : ℕ) (fill : Bool) (d : DrawMode) : Type 0 where
   isDot : isPoint rx ry ≡ true → Shape rx ry fill d
   isVoid : isPoint rx ry ≡ false → isNothing fill d ≡ true → Shape rx ry fill d
-  isRound : isPoint rx ry ≡ false → isNothing fill d ≡ false → rx ≤ 127 → ry ≤ 127 → 0 < max rx ry → Shape rx ry fill d
+  isRound : isPoint rx ry ≡ false → isNothing fill d ≡ false → Round rx ry → Shape rx ry fill d
 
 not-both : (rx ry : ℕ) → isPoint rx ry ≡ false → 0 < max rx ry
 unfolding isPoint
@@ -125,7 +125,7 @@ unfolding radiiFit
 shape rx ry fill d e =
     by-test (isPoint rx ry) isDot
     (λ p. by-test (isNothing fill d) (isVoid p)
-    (λ n. let q = and-true (leb rx 127) (leb ry 127) (rw (p, n) at e) in isRound p n (leb-true rx 127 (q .0)) (leb-true ry 127 (q .1)) (not-both rx ry p)))
+    (λ n. let q = and-true (leb rx 127) (leb ry 127) (rw (p, n) at e) in isRound p n (record { x = leb-true rx 127 (q .0); y = leb-true ry 127 (q .1); some = not-both rx ry p })))
 
 -- ENDLESS is never due
 pub always-ends : (rx ry : ℕ) (fill : Bool) (d : DrawMode) → radiiFit rx ry fill d ≡ true → stepsFit rx ry fill d ≡ true
@@ -135,7 +135,7 @@ always-ends rx ry fill d e = go (shape rx ry fill d e)
     go : Shape rx ry fill d → ((isPoint rx ry || isNothing fill d) || leb (steps rx ry) 512) ≡ true
     go (isDot p) = rw p
     go (isVoid p n) = rw (p, n)
-    go (isRound p n a b z) = or-right (isPoint rx ry || isNothing fill d) (never-endless rx ry a b z)
+    go (isRound p n o) = or-right (isPoint rx ry || isNothing fill d) (never-endless rx ry o)
 
 -- ---- every ellipse
 
@@ -152,7 +152,7 @@ module _ (st h x y rx ry : ℕ) (fill : Bool) (d : DrawMode) where
       go : Shape rx ry fill d → within (ellipse st h x y rx ry fill d .owed) (seen st h (ellipse st h x y rx ry fill d .writes)) ≡ true
       go (isDot p) = rw p point-within
       go (isVoid p n) = rw (p, n) (within-seen st h none [] (within-none none))
-      go (isRound p n a b z) = rw (p, n) (drawn-within st h x y rx ry fill d a b z)
+      go (isRound p n o) = rw (p, n) (drawn-within st h x y rx ry fill d o)
 
   -- so the last clause of Marks never applies
   pub ellipse-owes : radiiFit rx ry fill d ≡ true

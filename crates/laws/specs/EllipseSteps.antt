@@ -11,7 +11,7 @@ use borrow.Author.Tests.{eq-eqb, le-leb, leb-true}
 use Rattle.laws.specs.Tests.{tests, if-cases, by-test, and-true, and-false, either}
 use Rattle.laws.specs.Pixels.{Each}
 use Rattle.laws.specs.Ellipses.{OnX, Radii, Walking, walking-start, x-moved, x-last, x-some, x-at-last, y-before, y-on, step-x, step-y}
-use Rattle.model.specs.Ellipses.{Walk, start, advanced, moves, early, xStep, yStep, xParts, yParts, Part, step, stepParts, ended, partsFrom, stepsFrom, parts, steps}
+use Rattle.model.specs.Ellipses.{Walk, start, advanced, moves, early, xStep, yStep, xParts, yParts, Part, step, stepParts, ended, partsFrom, stepsFrom, mostSteps, parts, steps}
 
 -- at most n steps are left
 pub record OnWay (r rx ry n : ℕ) (w : Walk) : Type 0 where
@@ -97,14 +97,20 @@ first-x r rx ry q c = rw (step-is-x r rx ry (start r rx) refl) (eq-eqb _ 0 (none
 abbrev pub stepCount : ℕ → ℕ → ℕ
 stepCount rx ry = cond (leb 2 (max rx ry) && leb 1 rx) (2 * max rx ry) 1
 
-pub radii : (rx ry : ℕ) → rx ≤ 127 → ry ≤ 127 → 0 < max rx ry → Radii (max rx ry) rx ry
-radii rx ry hx hy z = omega arith
+-- the radii of an ellipse that is walked
+pub record Round (rx ry : ℕ) : Type 0 where
+  pub x : rx ≤ 127
+  pub y : ry ≤ 127
+  pub some : 0 < max rx ry
 
-pub steps-are : (rx ry : ℕ) → rx ≤ 127 → ry ≤ 127 → 0 < max rx ry → steps rx ry ≡ stepCount rx ry
+pub radii : (rx ry : ℕ) {r : ℕ} → r ≡ max rx ry → Round rx ry → Radii r rx ry
+radii rx ry e o = omega arith
+
+pub steps-are : (rx ry : ℕ) → Round rx ry → steps rx ry ≡ stepCount rx ry
 unfolding steps
-steps-are rx ry hx hy z =
+steps-are rx ry o =
     let r = max rx ry in
-    let q = radii rx ry hx hy z in
+    let q = radii rx ry refl o in
     if-cases (λ (n : ℕ). steps rx ry ≡ n) (leb 2 r && leb 1 rx)
     (λ e. let p = and-true (leb 2 r) (leb 1 rx) e in
     counted 513 r rx ry (r + r) (start r rx) q (on-start r rx ry q) (leb-true 1 rx (p .1)) (leb-true 2 r (p .0)) (omega arith) ∙ omega arith)
@@ -112,10 +118,10 @@ steps-are rx ry hx hy z =
     (either (and-false (leb 2 r) (leb 1 rx) e) (λ f. inl (omega (arith, tests))) (λ f. inr (omega (arith, tests))))))
 
 -- so ENDLESS is never due
-pub never-endless : (rx ry : ℕ) → rx ≤ 127 → ry ≤ 127 → 0 < max rx ry → leb (steps rx ry) 512 ≡ true
-never-endless rx ry hx hy z =
-    rw (steps-are rx ry hx hy z)
-    (if-cases (λ (n : ℕ). leb n 512 ≡ true) (leb 2 (max rx ry) && leb 1 rx) (λ e. le-leb (2 * max rx ry) 512 (omega arith)) (λ e. refl))
+pub never-endless : (rx ry : ℕ) → Round rx ry → leb (steps rx ry) mostSteps ≡ true
+never-endless rx ry o =
+    rw (steps-are rx ry o)
+    (if-cases (λ (n : ℕ). leb n mostSteps ≡ true) (leb 2 (max rx ry) && leb 1 rx) (λ e. le-leb (2 * max rx ry) mostSteps (omega arith)) (λ e. refl))
 
 -- ---- the parts
 
@@ -168,8 +174,9 @@ parts-from (suc k) r rx ry n w q o =
     go (goes m t e o′) f = rw t (f m o′)
 
 -- no part exceeds a radius
-pub parts-in : (rx ry : ℕ) → rx ≤ 127 → ry ≤ 127 → 0 < max rx ry → Each (Inner rx ry) (parts rx ry)
+pub parts-in : (rx ry : ℕ) → Round rx ry → Each (Inner rx ry) (parts rx ry)
 unfolding parts
-parts-in rx ry hx hy z =
-    let q = radii rx ry hx hy z in
-    (omega arith, parts-from 512 (max rx ry) rx ry (max rx ry + max rx ry) (start (max rx ry) rx) q (on-start (max rx ry) rx ry q))
+parts-in rx ry o =
+    let r = max rx ry in
+    let q = radii rx ry refl o in
+    (omega arith, parts-from mostSteps r rx ry (r + r) (start r rx) q (on-start r rx ry q))

@@ -6,7 +6,7 @@ use Prim.Native.Nat.{ℕ, zero, suc, _+_, _-_, _/_, _≤_, _<_, max}
 use native.Mathlib.Omega.{arith}
 use Rattle.model.specs.declared.DrawMode.{DrawMode}
 use Rattle.model.specs.Pixels.{PixelWrite, draw, seen}
-use Rattle.model.specs.Ellipses.{Walk, Part, part, start, step, stepParts, ended, partsFrom, parts, partWrites, partsWrites}
+use Rattle.model.specs.Ellipses.{Walk, Part, part, start, step, stepParts, ended, partsFrom, mostSteps, parts, partWrites, partsWrites}
 use Rattle.laws.specs.Tests.{clash}
 use Rattle.laws.specs.Writes.{drawn-append}
 use Rattle.laws.specs.Ellipses.{Radii}
@@ -54,19 +54,21 @@ pub record Painting (st h x y r rx ry : ℕ) (fill : Bool) (d : DrawMode) (w : W
   pub rest : painted st h x y fill d (partsFrom most r rx ry w) s ≡ t
 
 module _ (st h x y r rx ry : ℕ) (fill : Bool) (d : DrawMode) where
-  pub painting-start : Radii r rx ry → r ≡ max rx ry → (s e : List ℕ) → e ≡ draw st (seen st h (partWrites st h x y fill d (part rx 0))) s
-      → Painting st h x y r rx ry fill d (start r rx) e (painted st h x y fill d (parts rx ry) s)
-  unfolding parts partsWrites
-  painting-start q m s e k = record {
-    most = 512;
-    left = r + r;
-    way = on-start r rx ry q;
-    enough = omega arith;
-    rest =
-        ap (painted st h x y fill d (partsFrom 512 r rx ry (start r rx))) (k ∙ sym (painted-one st h x y fill d (part rx 0) s))
-        ∙ sym (painted-append st h x y fill d (part rx 0 ∷ []) (partsFrom 512 r rx ry (start r rx)) s)
-        ∙ ap (λ (n : ℕ). painted st h x y fill d (part rx 0 ∷ partsFrom 512 n rx ry (start n rx)) s) m;
-  }
+  -- the walk begins
+  pub painting-start : Radii r rx ry → {w : Walk} (s : List ℕ) → w ≡ start r rx
+      → Painting st h x y r rx ry fill d w s (painted st h x y fill d (partsFrom mostSteps r rx ry w) s)
+  painting-start q s e =
+      rw e (record { most = mostSteps; left = r + r; way = on-start r rx ry q; enough = omega arith; rest = refl })
+
+  -- and with the first part before it, it is the whole
+  pub painting-whole : {w : Walk} (s e : List ℕ) → r ≡ max rx ry → w ≡ start r rx → e ≡ draw st (seen st h (partWrites st h x y fill d (part rx 0))) s
+      → painted st h x y fill d (partsFrom mostSteps r rx ry w) e ≡ painted st h x y fill d (parts rx ry) s
+  unfolding parts
+  painting-whole {w} s e m f k =
+      ap (painted st h x y fill d (partsFrom mostSteps r rx ry w)) (k ∙ sym (painted-one st h x y fill d (part rx 0) s))
+      ∙ sym (painted-append st h x y fill d (part rx 0 ∷ []) (partsFrom mostSteps r rx ry w) s)
+      ∙ ap (λ (v : Walk). painted st h x y fill d (part rx 0 ∷ partsFrom mostSteps r rx ry v) s) f
+      ∙ ap (λ (n : ℕ). painted st h x y fill d (part rx 0 ∷ partsFrom mostSteps n rx ry (start n rx)) s) m
 
   -- a step's parts drawn, the rest is left
   turned-rest : (n : ℕ) (w : Walk) (s e t : List ℕ) → e ≡ painted st h x y fill d (stepParts r rx ry w) s
@@ -90,9 +92,10 @@ module _ (st h x y r rx ry : ℕ) (fill : Bool) (d : DrawMode) where
     where
       go : Next r rx ry (k .left) w → Painting st h x y r rx ry fill d (step r rx ry w) e t × (stepsLeft r (step r rx ry w) < stepsLeft r w)
       go (ends g c) = clash (ended (step r rx ry w)) g f
-      go (goes m g c o) =
-          (goes-on (k .most) m w s e t p (k .rest) (omega (arith, k .enough)) f o,
-          omega (arith, left-is r rx ry (k .left) w (k .way), left-is r rx ry m (step r rx ry w) o))
+      go (goes m g c o) = (
+        goes-on (k .most) m w s e t p (k .rest) (omega (arith, k .enough)) f o,
+        omega (arith, left-is r rx ry (k .left) w (k .way), left-is r rx ry m (step r rx ry w) o),
+      )
 
   pub painting-end : (w : Walk) (s e t : List ℕ) → Painting st h x y r rx ry fill d w s t
       → e ≡ painted st h x y fill d (stepParts r rx ry w) s → ended (step r rx ry w) ≡ true → e ≡ t
@@ -101,3 +104,15 @@ module _ (st h x y r rx ry : ℕ) (fill : Bool) (d : DrawMode) where
       go : (n : ℕ) → painted st h x y fill d (partsFrom n r rx ry w) s ≡ t → k .left ≤ n → e ≡ t
       go zero u l = absurd (omega (arith, k .way .left))
       go (suc n) u l = sym (painted-none st h x y fill d e) ∙ (rw f at (turned-rest n w s e t p u))
+
+  -- the same of the state and the parts that the code has, after its test of the end
+  module _ (q : Radii r rx ry) {w v : Walk} {ps : List Part} {b : Bool} {s e t : List ℕ} (k : Painting st h x y r rx ry fill d w s t)
+      (f : v ≡ step r rx ry w) (g : ps ≡ stepParts r rx ry w) (p : e ≡ painted st h x y fill d ps s) (o : b ≡ ended v) where
+    painted-so : e ≡ painted st h x y fill d (stepParts r rx ry w) s
+    painted-so = p ∙ ap (λ (l : List Part). painted st h x y fill d l s) g
+
+    pub painting-next : b ≡ false → Painting st h x y r rx ry fill d v e t × (stepsLeft r v < stepsLeft r w)
+    painting-next n = rw f (painting-turn q w s e t k painted-so (sym (o ∙ ap ended f) ∙ n))
+
+    pub painting-last : b ≡ true → e ≡ t
+    painting-last n = painting-end w s e t k painted-so (sym (o ∙ ap ended f) ∙ n)

@@ -22,3 +22,4 @@ pub mod Ellipses
 pub mod EllipseSteps
 pub mod EllipseMarks
 pub mod EllipseWalks
+pub mod EllipseDrawn
