@@ -210,6 +210,10 @@ ellipse st h x y rx ry fill d =
     (cond (isNothing fill d) nothing
     (ellipseDrawn st h x y rx ry fill d))
 
+-- `draw_circle`
+abbrev pub circle : ℕ → ℕ → ℕ → ℕ → ℕ → Bool → DrawMode → Drawing
+circle st h x y r fill d = ellipse st h x y r r fill d
+
 -- ---- RADIUS and ENDLESS: tested only after these returns
 
 unfoldable pub radiiFit : ℕ → ℕ → Bool → DrawMode → Bool
