@@ -1,4 +1,4 @@
--- Bytes by their bits: the bits of `&`, `|`, `^` and of a complement; two bytes with equal bits are equal, and two screens with equal pixels are.
+-- Bytes by their bits: the bits of `&`, `|`, `^`, of a complement and of a masked change; two bytes with equal bits are equal, and two screens with equal pixels are.
 use mathlib.Core.Path.{_≡_, refl, sym, ap, ap₂, _∙_}
 use mathlib.Core.Bool.{Bool, true, false, cond, not, xor, _&&_, _||_, Bool·beq, and-true, and-false, or-true, or-false}
 use mathlib.Core.List.{List}
@@ -66,7 +66,7 @@ pub record Masked (m : ℕ) (f : ℕ → Bool → Bool) (b v : ℕ) : Type 0 whe
   pub bits : (k : ℕ) → k < 8 → bitAt v k ≡ cond (bitAt m k) (f k (bitAt b k)) (bitAt b k)
 
 -- the bits of the mask taken from another byte
-unfoldable pub mixed : ℕ → ℕ → ℕ → ℕ
+abbrev pub mixed : ℕ → ℕ → ℕ → ℕ
 mixed m from onto = bitOr (bitAnd from m) (bitAnd onto (255 - m))
 
 or-cond : (s t : Bool) → (s || t) ≡ cond t true s
@@ -105,7 +105,6 @@ module _ (b m : ℕ) (hb : b < 256) (hm : m < 256) where
   flip-masked = record { small = xor-lt 8 b m hb hm; bits = λ k h. bitAt-xor b m k ∙ xor-cond (bitAt b k) (bitAt m k) }
 
   pub mix-masked : (f : ℕ) → f < 256 → Masked m (λ k v. bitAt f k) b (mixed m f b)
-  unfolding mixed
   mix-masked f hf = record {
     small = or-lt 8 (bitAnd f m) (bitAnd b (255 - m)) (and-lt 8 f m hf hm) kept-small;
     bits = λ k h.

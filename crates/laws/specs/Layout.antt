@@ -1,13 +1,14 @@
 -- Numbers, rectangles, words and flags as bytes: what is read and written again, and what is written and read again.
 use mathlib.Core.Path.{_≡_, refl, sym, ap, _∙_}
-use mathlib.Core.List.{List, [], _∷_, _++_, append-assoc, map}
+use mathlib.Core.List.{List, [], _∷_, _++_, append-assoc, append-nil, map}
 use mathlib.Core.Bool.{Bool, true, false}
 use Prim.Native.Nat.{ℕ, zero, suc, _+_, _*_, _/_, _%_, _<_, _≤_}
 use native.Mathlib.Nat.{add-zero, div-div-eq-div-mul}
 use native.Mathlib.Omega.{arith}
 use lib.Dec.{leb}
-use lib.ListN.{length, getD, drop, length-drop}
-use lib.Seq.{drop-cons, drop-drop, getD-drop}
+use lib.ListN.{length, getD, take, drop, length-drop}
+use native.Mathlib.Numerals.{add-one}
+use lib.Seq.{take-suc, drop-cons, drop-drop, getD-drop}
 use borrow.Author.Tests.{leb-true}
 use Rattle.model.specs.declared.Rect.{Rect}
 use Rattle.model.specs.Record.{two, four, rectAt, rectsAt, wordsAt, fourBytes, rectBytes, rectsBytes, wordsBytes, flagOf, flagByte, flagsFit, Bytes, Words}
@@ -216,3 +217,18 @@ length-rects (q ∷ qs) = omega (arith, length-rects qs)
 pub length-words : (ws : List ℕ) → length (wordsBytes ws) ≡ 4 * length ws
 length-words [] = refl
 length-words (w ∷ ws) = omega (arith, length-words ws)
+
+-- ---- one word of several
+
+pub word-at : (n : ℕ) (r : List ℕ) (k i : ℕ) → i < n → getD (wordsAt n r k) i 0 ≡ four r (k + 4 * i)
+word-at zero r k i h = absurd (omega arith)
+word-at (suc n) r k zero h = let e : k ≡ k + 4 * 0 = omega arith in ap (four r) e
+word-at (suc n) r k (suc i) h = let e : k + 4 + 4 * i ≡ k + 4 * suc i = omega arith in word-at n r (k + 4) i (omega arith) ∙ ap (four r) e
+
+words-snoc : (ws : List ℕ) (w : ℕ) → wordsBytes (ws ++ (w ∷ [])) ≡ wordsBytes ws ++ fourBytes w
+words-snoc [] w = append-nil (fourBytes w)
+words-snoc (v ∷ ws) w = ap (λ (l : List ℕ). fourBytes v ++ l) (words-snoc ws w) ∙ sym (append-assoc (fourBytes v) (wordsBytes ws) (fourBytes w))
+
+-- one word more
+pub words-more : (ws : List ℕ) (i : ℕ) → i < length ws → wordsBytes (take (i + 1) ws) ≡ wordsBytes (take i ws) ++ fourBytes (getD ws i 0)
+words-more ws i h = ap (λ (k : ℕ). wordsBytes (take k ws)) (add-one i) ∙ ap wordsBytes (take-suc ws i 0 h) ∙ words-snoc (take i ws) (getD ws i 0)

@@ -1,5 +1,6 @@
 -- Horizontal and vertical lines: where their writes lie, and which of them fall on the screen.
 use mathlib.Core.Path.{_≡_, refl, sym, ap, _∙_}
+use mathlib.Core.Logic.{inr}
 use mathlib.Core.Bool.{true, false}
 use mathlib.Core.List.{List, [], _∷_}
 use Prim.Native.Nat.{ℕ, zero, suc, _+_, _-_, _*_, _≤_, _<_, min}
@@ -9,13 +10,18 @@ use Rattle.model.specs.declared.Rect.{Rect}
 use Rattle.model.specs.declared.Marks.{Marks}
 use Rattle.model.specs.declared.DrawMode.{DrawMode}
 use Rattle.model.specs.Pixels.{Screen, PixelWrite, onScreen, writePixel, draw, seen}
-use Rattle.model.specs.Rects.{lowered}
+use Rattle.model.specs.Rects.{lowered, fits}
 use Rattle.model.specs.Marks.{within, drawn, drawnOn}
 use Rattle.model.specs.Points.{pointWrite}
 use Rattle.model.specs.Lines.{spanRect, runOp, pixelRun, clamp, horizontal, horizontalLine, pixelColumn, vertical, verticalLine}
+use Rattle.laws.specs.Rects.{fits-passes}
 use Rattle.laws.specs.Masks.{rowWrites}
 use Rattle.laws.specs.Writes.{within-none, within-more, drawn-is}
 use Rattle.laws.specs.Points.{both, bothLowered}
+
+-- a mark of bytes passes STATE
+pub span-fits : (left top right bottom : ℕ) → left ≤ right → top ≤ bottom → right < 256 → bottom < 256 → fits 256 0 256 (spanRect left top right bottom) ≡ true
+span-fits left top right bottom a b e f = fits-passes 256 0 256 (spanRect left top right bottom) (inr (omega arith))
 
 -- ---- what falls on the screen
 

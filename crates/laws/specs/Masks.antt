@@ -5,35 +5,35 @@ use mathlib.Core.Logic.{inl, inr}
 use mathlib.Core.Bool.{Bool, true, false, cond, _&&_, Bool·beq, and-true}
 use mathlib.Core.List.{List, [], _∷_}
 use Prim.Native.Nat.{ℕ, zero, suc, _+_, _-_, _*_, _/_, _%_, _^_, _≤_, _<_}
+use native.Mathlib.Nat.{div-le-self}
 use native.Mathlib.Omega.{arith}
 use lib.Dec.{leb, ltb}
 use lib.Bits.{bitAnd, and-lt}
 use lib.ListN.{length, getD, set, length-set}
 use lib.Seq.{getD-set-same, getD-set-other}
+use borrow.Author.Tests.{le-leb, lt-leb, lt-ltb, le-ltb}
 use Rattle.model.specs.Bits.{bitAt}
 use Rattle.model.specs.Pixels.{place, bit, put, PixelWrite, writePixel, draw, copyRun}
 use Rattle.model.specs.Record.{Bytes}
 use Rattle.laws.specs.Tests.{by-lt, by-eq}
 use Rattle.laws.specs.Tables.{every, every-at, every₂-at}
-use borrow.Author.Tests.{le-leb, lt-leb, lt-ltb, le-ltb}
-use native.Mathlib.Nat.{div-le-self}
 use Rattle.laws.specs.Bytes.{same-bool, bitAt-and, Masked, bytes-set, bytes-put, screens-equal}
 use Rattle.laws.specs.Pixels.{place-line, length-put, put-same, put-other}
 
 -- ---- the masks
 
 -- the pixels of x's byte from x on
-unfoldable pub startMask : ℕ → ℕ
+abbrev pub startMask : ℕ → ℕ
 startMask x = 255 / 2 ^ (x % 8)
 
 -- the pixels of x's byte up to x
-unfoldable pub endMask : ℕ → ℕ
+abbrev pub endMask : ℕ → ℕ
 endMask x = 255 - 127 / 2 ^ (x % 8)
 
 -- the pixels a up to b, b not included, lie in byte k of a line, and m has just their bits
 pub record Mask (k a b m : ℕ) : Type 0 where
   pub from : 8 * k ≤ a
-  pub upto : b ≤ 8 * k + 8
+  pub upto : b ≤ 8 * (k + 1)
   pub small : m < 256
   pub has : (x : ℕ) → x / 8 ≡ k → bitAt m (7 - x % 8) ≡ (leb a x && ltb x b)
 
@@ -63,30 +63,26 @@ same-byte a x e =
     (λ l. le-leb (a % 8) (x % 8) (omega arith) ∙ sym (le-leb a x l))
 
 pub start-bit : (a x : ℕ) → x / 8 ≡ a / 8 → bitAt (startMask a) (7 - x % 8) ≡ leb a x
-unfolding startMask
 start-bit a x e = same-bool _ _ (every₂-at 8 8 start-rule start-all (a % 8) (x % 8) (omega arith) (omega arith)) ∙ same-byte a x e
 
 pub end-bit : (b x : ℕ) → x / 8 ≡ b / 8 → bitAt (endMask b) (7 - x % 8) ≡ leb x b
-unfolding endMask
 end-bit b x e = same-bool _ _ (every₂-at 8 8 end-rule end-all (b % 8) (x % 8) (omega arith) (omega arith)) ∙ same-byte x b (sym e)
 
 start-small : (a : ℕ) → startMask a < 256
-unfolding startMask
 start-small a = omega (arith, div-le-self 255 (2 ^ (a % 8)))
 
 end-small : (b : ℕ) → endMask b < 256
-unfolding endMask
 end-small b = omega arith
 
 leb-suc : (x b : ℕ) → leb x b ≡ ltb x (b + 1)
 leb-suc x b = by-lt b x (λ l. lt-leb x b l ∙ sym (le-ltb x (b + 1) (omega arith))) (λ l. le-leb x b l ∙ sym (lt-ltb x (b + 1) (omega arith)))
 
-pub start-mask : (a : ℕ) → Mask (a / 8) a (8 * (a / 8) + 8) (startMask a)
+pub start-mask : (a : ℕ) → Mask (a / 8) a (8 * (a / 8 + 1)) (startMask a)
 start-mask a = record {
   from = omega arith;
   upto = omega arith;
   small = start-small a;
-  has = λ x e. rw (lt-ltb x (8 * (a / 8) + 8) (omega arith)) (start-bit a x e ∙ sym (and-true (leb a x)));
+  has = λ x e. rw (lt-ltb x (8 * (a / 8 + 1)) (omega arith)) (start-bit a x e ∙ sym (and-true (leb a x)));
 }
 
 pub end-mask : (b : ℕ) → Mask (b / 8) (8 * (b / 8)) (b + 1) (endMask b)
@@ -106,12 +102,12 @@ both-masks a b h = record {
       bitAt-and (startMask a) (endMask b) (7 - x % 8) ∙ ap₂ _&&_ (start-bit a x e) (end-bit b x (e ∙ h) ∙ leb-suc x b);
 }
 
-pub whole-mask : (k : ℕ) → Mask k (8 * k) (8 * k + 8) 255
+pub whole-mask : (k : ℕ) → Mask k (8 * k) (8 * (k + 1)) 255
 whole-mask k = record {
   from = omega arith;
   upto = omega arith;
   small = omega arith;
-  has = λ x e. rw (le-leb (8 * k) x (omega arith), lt-ltb x (8 * k + 8) (omega arith)) (every-at 8 (bitAt 255) whole-all (7 - x % 8) (omega arith));
+  has = λ x e. rw (le-leb (8 * k) x (omega arith), lt-ltb x (8 * (k + 1)) (omega arith)) (every-at 8 (bitAt 255) whole-all (7 - x % 8) (omega arith));
 }
 
 -- ---- a run
@@ -145,11 +141,11 @@ run-join st y a b c op p q r ab bc cw f g = record {
 
 -- the first byte from a on, the whole bytes between, the last byte up to b
 pub run-line : (st y a b : ℕ) (op : ℕ → Bool → Bool) (p p₁ p₂ p₃ : List ℕ) → a / 8 < b / 8 → b < 8 * st
-    → Run st y a (8 * (a / 8) + 8) op p p₁ → Run st y (8 * (a / 8) + 8) (8 * (b / 8)) op p₁ p₂ → Run st y (8 * (b / 8)) (b + 1) op p₂ p₃
+    → Run st y a (8 * (a / 8 + 1)) op p p₁ → Run st y (8 * (a / 8 + 1)) (8 * (b / 8)) op p₁ p₂ → Run st y (8 * (b / 8)) (b + 1) op p₂ p₃
     → Run st y a (b + 1) op p p₃
 run-line st y a b op p p₁ p₂ p₃ l hb f g h =
     run-join st y a (8 * (b / 8)) (b + 1) op p p₂ p₃ (omega arith) (omega arith) (omega arith)
-    (run-join st y a (8 * (a / 8) + 8) (8 * (b / 8)) op p p₁ p₂ (omega arith) (omega arith) (omega arith) f g) h
+    (run-join st y a (8 * (a / 8 + 1)) (8 * (b / 8)) op p p₁ p₂ (omega arith) (omega arith) (omega arith) f g) h
 
 -- two runs over the same bytes with the same change leave the same bytes
 pub run-equal : (st y a b : ℕ) (op : ℕ → Bool → Bool) (p q r : List ℕ) → 0 < st → Run st y a b op p q → Run st y a b op p r → q ≡ r

@@ -53,3 +53,23 @@ window-other b s m c n h (inr o) =
     ∙ ap (λ (k : ℕ). take n (drop k ((take b m ++ s) ++ drop (b + length s) m))) e
     ∙ ap (take n) (drop-append-add (take b m ++ s) (drop (b + length s) m) (c - (b + length s)) ∙ drop-drop (c - (b + length s)) (b + length s) m)
     ∙ ap (λ (k : ℕ). take n (drop k m)) f
+
+-- a window right after a list: what stands before it stays, what follows it is what followed
+pub append-window : (a b l : List ℕ) (n : ℕ) → length a ≡ n → withWindow n b (a ++ l) ≡ a ++ (b ++ drop (length b) l)
+unfolding withWindow
+append-window a b l n e =
+    ap (λ (x : List ℕ). x ++ (b ++ drop (n + length b) (a ++ l))) (take-at a l n e)
+    ∙ ap (λ (k : ℕ). a ++ (b ++ drop (k + length b) (a ++ l))) (sym e)
+    ∙ ap (λ (x : List ℕ). a ++ (b ++ x)) (drop-append-add a l (length b))
+
+-- a window put right after another is one window
+pub window-extend : (at n : ℕ) (a b d : List ℕ) → length a ≡ n → at ≤ length d → withWindow (at + n) b (withWindow at a d) ≡ withWindow at (a ++ b) d
+unfolding withWindow
+window-extend at n a b d e h =
+    let l = length a in
+    let f : at + l + length b ≡ at + length (a ++ b) = omega (arith, length-append a b) in
+    ap (withWindow (at + n) b) (sym (append-assoc (take at d) a (drop (at + l) d)))
+    ∙ append-window (take at d ++ a) b (drop (at + l) d) (at + n) (omega (arith, length-append (take at d) a, length-take-le at d h))
+    ∙ append-assoc (take at d) a (b ++ drop (length b) (drop (at + l) d))
+    ∙ ap (λ (x : List ℕ). take at d ++ x) (sym (append-assoc a b (drop (length b) (drop (at + l) d))))
+    ∙ ap (λ (x : List ℕ). take at d ++ ((a ++ b) ++ x)) (drop-drop (length b) (at + l) d ∙ ap (λ (k : ℕ). drop k d) f)

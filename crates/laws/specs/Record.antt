@@ -44,7 +44,7 @@ encode-parts g h p r k = ap (λ (l : List ℕ). bytesOfHead h ++ (bytesOfPending
 head-again : (r : List ℕ) → ((i : ℕ) → getD r i 0 < 256) → bytesOfHead (headOf r) ≡ elements 18 0 r
 head-again r b = simp (low, high, b)
 
-pending-again : (g : Geometry) (r : List ℕ) (i : ℕ) → Bytes r → i + pendingBytes g ≤ length r
+pub pending-again : (g : Geometry) (r : List ℕ) (i : ℕ) → Bytes r → i + pendingBytes g ≤ length r
     → bytesOfPending (pendingOf g r i) ++ drop (i + pendingBytes g) r ≡ drop i r
 pending-again g r i b h =
     let n = g .bands in
@@ -57,6 +57,11 @@ pending-again g r i b h =
     ∙ ap (λ (l : List ℕ). rectBytes (rectAt r j) ++ l) (four-again r (j + 8) b (omega arith))
     ∙ rect-again r j b (omega arith))
     ∙ rects-again n r i b (omega arith)
+
+-- the head that stands there, stored again
+pub head-stored : (g : Geometry) (r : List ℕ) → Passing g r → bytesOfHead (headOf r) ++ drop pendingAt r ≡ r
+unfolding Bytes
+head-stored g r p = ap (λ (l : List ℕ). l ++ drop pendingAt r) (head-again r (p .bytes)) ∙ elements-drop 18 0 r (omega (arith, p .sized))
 
 pub encode-decode : (g : Geometry) (r : List ℕ) → Passing g r → encode (decode g r) ≡ r
 unfolding decode Bytes

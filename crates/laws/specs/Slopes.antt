@@ -8,15 +8,14 @@ use Prim.Native.Nat.{ℕ, zero, suc, _+_, _-_, _*_, _%_, _≤_, _<_, min, max}
 use native.Mathlib.Nat.{mul-le-mul-left, mul-le-mul-right, add-mul-mod-self-right}
 use native.Mathlib.Omega.{arith}
 use lib.Dec.{leb, ltb}
-use borrow.Author.Tests.{leb-true, lt-ltb, le-ltb, eq-eqb, ne-eqb}
+use borrow.Author.Tests.{leb-true, lt-ltb, le-ltb}
 use Rattle.model.specs.declared.Rect.{Rect}
 use Rattle.model.specs.declared.Marks.{Marks}
 use Rattle.model.specs.declared.DrawMode.{DrawMode}
 use Rattle.model.specs.Pixels.{draw, seen}
-use Rattle.model.specs.Rects.{none}
-use Rattle.model.specs.Marks.{Drawn, drawn, drawnOn, within, owes}
+use Rattle.model.specs.Marks.{drawn, drawnOn, within}
 use Rattle.model.specs.Points.{pointWrite}
-use Rattle.model.specs.Lines.{isUnknown, spanRect, horizontalLine, verticalLine, Slope, slopeOf, errorSum, stepped, nextError, slope, sloped, slopedLine, line}
+use Rattle.model.specs.Lines.{spanRect, Slope, slopeOf, errorSum, stepped, nextError, slope, sloped, slopedLine, line}
 use Rattle.laws.specs.Tests.{tests, by-test, by-lt}
 use Rattle.laws.specs.Writes.{drawn-append, within-none, within-more, drawn-is}
 use Rattle.laws.specs.Points.{both}
@@ -161,31 +160,3 @@ unfolding slopedLine
 sloped-marked st h x1 y1 x2 y2 d s e o hx h1 h2 p q r w =
     let k = r ∙ (λ i. both (spanRect x1 (p i) x2 (q i))) in
     drawn-is st h (slopedLine x1 y1 x2 y2 d) s e _ (sloped-within x1 y1 x2 y2 d o hx h1 h2) (λ i. k i .dirty) (λ i. k i .owed) w
-
--- ---- `draw_line`, case by case
-
-module _ (st h x1 y1 x2 y2 : ℕ) (d : DrawMode) (s : List ℕ) where
-  pub line-horizontal : {a b : ℕ} {o : Drawn} → y1 ≡ y2 → a ≡ min x1 x2 → b ≡ max x1 x2 → o ≡ drawnOn st h (horizontalLine st h a b y1 d) s
-      → o ≡ drawnOn st h (line st h x1 y1 x2 y2 d) s
-  unfolding line
-  line-horizontal e p q w = rw (eq-eqb y1 y2 e) (w ∙ (λ i. drawnOn st h (horizontalLine st h (p i) (q i) y1 d) s))
-
-  pub line-unknown : {t : Bool} {m : Marks} → (y1 ≡ y2 → ⊥) → t ≡ isUnknown d → t ≡ true → m ≡ both none
-      → drawn m s ≡ drawnOn st h (line st h x1 y1 x2 y2 d) s
-  unfolding line drawn drawnOn owes within seen draw
-  line-unknown n p q w = rw (ne-eqb y1 y2 n, ← p, q, w)
-
-  pub line-vertical : {t : Bool} {a b : ℕ} {o : Drawn} → (y1 ≡ y2 → ⊥) → t ≡ isUnknown d → t ≡ false → x1 ≡ x2 → a ≡ min y1 y2 → b ≡ max y1 y2
-      → o ≡ drawnOn st h (verticalLine x1 a b d) s → o ≡ drawnOn st h (line st h x1 y1 x2 y2 d) s
-  unfolding line
-  line-vertical n p q e k l w = rw (ne-eqb y1 y2 n, ← p, q, eq-eqb x1 x2 e) (w ∙ (λ i. drawnOn st h (verticalLine x1 (k i) (l i) d) s))
-
-  pub line-leftwards : {t : Bool} {o : Drawn} → (y1 ≡ y2 → ⊥) → t ≡ isUnknown d → t ≡ false → (x1 ≡ x2 → ⊥) → x2 < x1
-      → o ≡ drawnOn st h (slopedLine x2 y2 x1 y1 d) s → o ≡ drawnOn st h (line st h x1 y1 x2 y2 d) s
-  unfolding line
-  line-leftwards n p q e l w = rw (ne-eqb y1 y2 n, ← p, q, ne-eqb x1 x2 e, lt-ltb x2 x1 l) w
-
-  pub line-rightwards : {t : Bool} {o : Drawn} → (y1 ≡ y2 → ⊥) → t ≡ isUnknown d → t ≡ false → (x1 ≡ x2 → ⊥) → x1 ≤ x2
-      → o ≡ drawnOn st h (slopedLine x1 y1 x2 y2 d) s → o ≡ drawnOn st h (line st h x1 y1 x2 y2 d) s
-  unfolding line
-  line-rightwards n p q e l w = rw (ne-eqb y1 y2 n, ← p, q, ne-eqb x1 x2 e, le-ltb x2 x1 l) w

@@ -1,1 +1,4 @@
 pub mod Bands
+pub mod Entering
+pub mod Updates
+pub mod Opening

@@ -8,7 +8,7 @@ ghost use Prim.Native.Nat.{_+_, _*_, _≤_};
 ghost use lib.ListN.{length, take, drop};
 ghost use Rattle.model.specs.Geometry.{base};
 ghost use Rattle.model.specs.Memory.{withWindow, zeros};
-ghost use Rattle.model.specs.Record.{two, four, rectAt, headOf, pendingOf, bytesOfHead, bytesOfPending, wordsBytes};
+ghost use Rattle.model.specs.Record.{two, four, rectAt, headOf, pendingOf, bytesOfHead, bytesOfPending, fourBytes, wordsBytes, keysAt};
 
 pub const RECORD_BYTES: usize = 170;
 
@@ -177,6 +177,30 @@ pub fn clear(part: &mut [u8])
     let mut i: usize = 0;
     while i < n {
         part[i] = 0;
+        i += 1;
+    }
+}
+
+fn four_bytes(n: u32) -> [u8; 4]
+    ensures { λ r. ⌜ r ≡ fourBytes n ⌝ }
+{
+    [
+        (n % 256) as u8,
+        (n / 256 % 256) as u8,
+        (n / 65536 % 256) as u8,
+        (n / 16777216 % 256) as u8,
+    ]
+}
+
+// The key words, one after another.
+pub fn store_keys(rec: &mut [u8], keys: [u32; 8])
+    requires { ⌜ (length (now rec) ≡ 170) × (length keys ≡ 8) ⌝ }
+    ensures { λ _. ⌜ now (rec .exit) ≡ withWindow (keysAt base) (wordsBytes keys) (now (rec .entry)) ⌝ }
+{
+    let mut i: usize = 0;
+    while i < 8 {
+        let bytes = four_bytes(keys[i]);
+        put_bytes(rec, KEYS + 4 * i, &bytes);
         i += 1;
     }
 }

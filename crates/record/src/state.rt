@@ -7,7 +7,7 @@ ghost use mathlib.Core.Path.{_≡_};
 ghost use mathlib.Core.Bool.{_&&_};
 ghost use lib.ListN.{length, drop};
 ghost use Rattle.model.specs.Geometry.{base};
-ghost use Rattle.model.specs.Record.{windows, stateFits, flagsFit, valid};
+ghost use Rattle.model.specs.Record.{headOf, windows, stateFits, flagsFit, valid};
 
 // WINDOW: both windows lie in memory and share no byte.
 pub fn windows_fit(graphics: u16, text: u16) -> bool
@@ -51,12 +51,11 @@ fn flags_fit(flags: &[u8]) -> bool
     ok
 }
 
-// Whether the record passes STATE.
-pub fn is_valid(rec: &[u8]) -> bool
-    requires { ⌜ length (now rec) ≡ 170 ⌝ }
+// Whether the record, whose head is h, passes STATE.
+pub fn is_valid(rec: &[u8], h: Head) -> bool
+    requires { ⌜ (length (now rec) ≡ 170) × (h ≡ headOf (now rec)) ⌝ }
     ensures { λ r. ⌜ r ≡ valid base (now (rec .entry)) ⌝ }
 {
-    let h = layout::load_head(rec);
     let p = layout::load_pending(rec, layout::PENDING);
     state_fits(h, p) & flags_fit(&rec[layout::FLAGS..])
 }

@@ -1,18 +1,14 @@
+use mathlib.Core.Path.{ap, _∙_}
 use Prim.Native.Nat.{_-_}
 use native.Mathlib.Omega.{arith}
-use lib.ListN.{drop, length-drop}
+use lib.ListN.{length, drop, length-drop}
 use lib.Seq.{take-all}
+use Rattle.model.specs.declared.Pending.{Pending}
 use Rattle.model.specs.Record.{flagsFit}
 use Rattle.record.proofs.Bands.{is-valid}
-use mathlib.Core.Path.{ap, _∙_}
-use lib.ListN.{length}
-use Rattle.model.specs.declared.Pending.{Pending}
 use borrow.Author.Needs.{needs}
 use Rattle.record.proofs.state.is_valid.Statement.{statement}
 use Rattle.record.proofs.state.is_valid.Tie as tie
-
-load-head-requires : tie.Need-load-head-requires
-load-head-requires c κs = search needs
 
 load-pending-requires : tie.Need-load-pending-requires
 load-pending-requires c κs = search needs
@@ -33,16 +29,15 @@ flags-fit-requires : tie.Need-flags-fit-requires
 flags-fit-requires c κs = search needs
 
 returns : tie.Need-returns
-returns c =
-    let r = c .before .before .before .before .before .before .args .rec .now in
-    is-valid r (c .before .before .before .before .load-head .ensures) (c .before .before .before .load-pending .ensures) (c .before .before .state-fits .ensures)
+returns c = let s = c .before .before .before .before .before in
+    let r = s .args .rec .now in
+    is-valid r (s .pre .1) (c .before .before .before .load-pending .ensures) (c .before .before .state-fits .ensures)
     (c .flags-fit .ensures ∙ ap flagsFit (take-all (length r - 70) (drop 70 r) (simp length-drop (omega arith))))
 
 pub is-valid-spec : {M : Type 1} → statement M
 is-valid-spec =
     tie.close
     (tie.spec
-    load-head-requires
     load-pending-requires
     state-fits-requires
     sub-flags-fit

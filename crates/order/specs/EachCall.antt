@@ -1,0 +1,66 @@
+-- Every accepted call: one clause says that it leaves a good state and that the panel's state follows by its effect.
+use mathlib.Core.Path.{_≡_, refl}
+use mathlib.Core.List.{List}
+use Prim.Native.Nat.{ℕ, zero, suc}
+use native.Mathlib.Omega.{arith}
+use lib.ListN.{length}
+use Rattle.model.specs.Geometry.{Geometry, height, screenBytes}
+use Rattle.model.specs.Rects.{none}
+use Rattle.model.specs.Refusals.{refusal, ruled}
+use Rattle.model.specs.Marks.{withDirty}
+use Rattle.model.specs.Points.{drawMode, point}
+use Rattle.model.specs.Text.{withRow, withColumn, withPrintMode}
+use Rattle.model.specs.Calls.{Call, opening, reset, drawPoint, checkPixel, writeByte, getRow, getColumn, setRow, setColumn, setPrintMode, takeDirtyArea, send, Lent, answered, refusals, refused, done, outcome}
+use Rattle.model.specs.Lists.{accepted, Typed, Item, here, elsewhere, after, opens, effect, effectAt, itemEffect}
+use Rattle.laws.specs.Calls.{accepted-pass}
+use Rattle.order.specs.Sim.{Simulates}
+use Rattle.order.specs.Step.{Glass, Good, Step, view, same-step}
+use Rattle.order.specs.Opens.{open-step, reset-step}
+use Rattle.order.specs.Draws.{drawing-step, point-fits}
+use Rattle.order.specs.Pokes.{poke-step}
+use Rattle.order.specs.Heads.{changed-step, row-fits, column-fits, print-fits, clean-fits}
+use Rattle.order.specs.Sent.{send-step}
+
+module _ (g : Geometry) (k : Glass g) where
+  -- an opening needs no good state before it
+  pub opening-step : (graphics text version : ℕ) (keys : List ℕ) (l : Lent) → Typed (opening graphics text version keys)
+      → accepted g (opening graphics text version keys) l → length (l .panel) ≡ screenBytes g
+      → Step g l opens (done g (opening graphics text version keys) l .left)
+  unfolding refusals done answered
+  opening-step graphics text version keys l t a p =
+      let b = accepted-pass (refusals g (opening graphics text version keys) l) (omega arith) a in
+      open-step g k graphics text version keys l (b .1 .0) (b .1 .1 .0) (t .0) (t .1) p
+
+  pub call-step : (c : Call) (l : Lent) → Typed c → Good g l → accepted g c l → Step g l (effect g c l) (done g c l .left)
+  unfolding effect refusals done answered withRow withColumn withPrintMode
+  call-step (opening graphics text version keys) l t q a = opening-step graphics text version keys l t a (q .panel)
+  call-step reset l t q a = reset-step g k l q
+  call-step (drawPoint x y mode) l t q a = drawing-step g k (point (g .stride) (height g) x y (drawMode mode)) l q (point-fits g k x y (drawMode mode))
+  call-step (checkPixel x y) l t q a = same-step g l q
+  call-step (writeByte b v) l t q a = poke-step g k b v l q
+  call-step getRow l t q a = same-step g l q
+  call-step getColumn l t q a = same-step g l q
+  call-step (setRow n) l t q a =
+      let b = accepted-pass (refusals g (setRow n) l) (omega arith) a in
+      changed-step g k (withRow n) l q (row-fits g n (b .1 .1 .0)) (λ h. refl)
+  call-step (setColumn n) l t q a =
+      let b = accepted-pass (refusals g (setColumn n) l) (omega arith) a in
+      changed-step g k (withColumn n) l q (column-fits g n (b .1 .1 .0)) (λ h. refl)
+  call-step (setPrintMode n) l t q a =
+      let b = accepted-pass (refusals g (setPrintMode n) l) (omega arith) a in
+      changed-step g k (withPrintMode n) l q (print-fits g n (b .1 .1 .0)) (λ h. refl)
+  call-step takeDirtyArea l t q a = changed-step g k (withDirty none) l q (clean-fits g) (λ h. refl)
+  call-step send l t q a = send-step g k l q
+
+  -- a refused call leaves all as it was, and so does one that was lent other buffers
+  pub item-step : (l : Lent) (i : Item g) → Good g l → Step g l (itemEffect g l i) (after g l i)
+  unfolding after itemEffect effectAt outcome ruled refused answered
+  item-step l (here c t) q = go (refusal (refusals g c l)) refl
+    where
+      go : (n : ℕ) → refusal (refusals g c l) ≡ n → Step g l (effectAt n (effect g c l)) (ruled n (refused c l) (done g c l) .left)
+      go zero e = call-step c l t q e
+      go (suc n) e = same-step g l q
+  item-step l (elsewhere c o r) q = same-step g l q
+
+  pub simulates : Simulates g (Good g) (after g) (view g) (itemEffect g)
+  simulates = record { good = λ l i q. item-step l i q .good; follows = λ l i q. item-step l i q .follows }

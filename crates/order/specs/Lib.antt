@@ -1,0 +1,18 @@
+-- Pending, PanelState, Held and Sim speak of one panel and of effects on it, over any geometry; Formed to EachCall of the calls, a file for each family;
+-- Accepted and Order of their lists. Theorem is what a reader wants.
+pub mod Pending
+pub mod PanelState
+pub mod Held
+pub mod Sim
+pub mod Formed
+pub mod Step
+pub mod Opens
+pub mod Draws
+pub mod Pokes
+pub mod Heads
+pub mod Sent
+pub mod EachCall
+pub mod Parts
+pub mod Accepted
+pub mod Order
+pub mod Theorem

@@ -1,0 +1,118 @@
+-- What holds after an accepted opening and every list of items, over any geometry.
+use mathlib.Core.Path.{_≡_, refl, sym, ap, _∙_}
+use mathlib.Core.Logic.{_↔_}
+use mathlib.Core.Bool.{_&&_}
+use mathlib.Core.List.{List, [], _∷_}
+use Prim.Native.Nat.{ℕ, zero, suc, _+_, _-_, _≤_}
+use native.Mathlib.Omega.{arith}
+use lib.ListN.{length, replicate}
+use borrow.Author.Tests.{eq-eqb}
+use Rattle.model.specs.declared.Pending.{Pending}
+use Rattle.model.specs.Geometry.{Geometry, height, screenBytes, memoryBytes}
+use Rattle.model.specs.Record.{decode, recordBytes}
+use Rattle.model.specs.Refusals.{ruled}
+use Rattle.model.specs.Open.{nothingPending}
+use Rattle.model.specs.Sends.{sendNumbers}
+use Rattle.model.specs.Calls.{Call, opening, send, Lent, answered, refusals, done, outcome}
+use Rattle.model.specs.Lists.{accepted, Typed, Item, here, after, run, opens, effect, itemEffect, affected, reckoned, linesLeft, differing}
+use Rattle.laws.specs.Calls.{pass-accepted}
+use Rattle.order.specs.Pending.{idle-iff, lines-bound}
+use Rattle.order.specs.Held.{Held, held-open, none-left}
+use Rattle.order.specs.Sim.{good-all, held-all, pending-all, lines-all}
+use Rattle.order.specs.Step.{Glass, Good, Step, view}
+use Rattle.order.specs.EachCall.{opening-step, simulates}
+use Rattle.order.specs.Accepted.{acceptedCall, acceptedCalls, leftBy, left-run, run-all, reckoned-all, only-sends, after-accepted, effect-accepted}
+
+-- what holds of the lent bytes between calls
+pub record Standing (g : Geometry) (l : Lent) : Type 0 where
+  pub good : Good g l
+  pub held : Held g (view g l)
+
+module _ (g : Geometry) (k : Glass g) where
+  -- ---- after every list
+
+  pub standing-run : (l : Lent) (is : List (Item g)) → Standing g l → Standing g (run g l is)
+  standing-run l is s =
+      rw (run-all g l is)
+      (record {
+        good = good-all g (Good g) (after g) (view g) (itemEffect g) (simulates g k) l is (s .good);
+        held = held-all g (Good g) (after g) (view g) (itemEffect g) (simulates g k) l is (s .good) (s .held);
+      })
+
+  pub pending-run : (l : Lent) (is : List (Item g)) → Standing g l → decode g (run g l is .rec) .pending ≡ reckoned g (decode g (l .rec) .pending) l is
+  pending-run l is s =
+      ap (λ (m : Lent). decode g (m .rec) .pending) (run-all g l is)
+      ∙ pending-all g (Good g) (after g) (view g) (itemEffect g) (simulates g k) l is (s .good)
+      ∙ sym (reckoned-all g (decode g (l .rec) .pending) l is)
+
+  -- ---- after the opening, lent any record, any memory and a panel
+
+  module _ (graphics text version : ℕ) (keys : List ℕ) (t : Typed (opening graphics text version keys)) (l : Lent) (a : accepted g (opening graphics text version keys) l) (p : length (l .panel) ≡ screenBytes g) where
+    first : Step g l opens (after g l (here (opening graphics text version keys) t))
+    first = rw (after-accepted g (opening graphics text version keys) t l a) (opening-step g k graphics text version keys l t a p)
+
+    pub standing-open : Standing g (after g l (here (opening graphics text version keys) t))
+    unfolding affected
+    standing-open = record { good = first .good; held = held-open g (view g (after g l (here (opening graphics text version keys) t))) (first .good .panel) (first .follows .pending) }
+
+    -- owed and in hand are empty at first; the opening is the first item of the list
+    pub pending-open : (is : List (Item g)) → decode g (run g l (here (opening graphics text version keys) t ∷ is) .rec) .pending
+        ≡ reckoned g (nothingPending g) l (here (opening graphics text version keys) t ∷ is)
+    unfolding run reckoned affected effect
+    pending-open is =
+        let l′ = after g l (here (opening graphics text version keys) t) in
+        pending-run l′ is standing-open
+        ∙ ap (λ (q : Pending). reckoned g q l′ is)
+        (first .follows .pending ∙ sym (ap (affected g (nothingPending g)) (effect-accepted g (opening graphics text version keys) t l a)))
+
+  -- ---- what holds then
+
+  module _ (l : Lent) (s : Standing g l) where
+    -- a send is accepted
+    pub sendable : accepted g send l
+    unfolding refusals
+    sendable = pass-accepted (refusals g send l) (
+      (λ i. eq-eqb (length (l .rec)) (recordBytes g) (s .good .passing .sized) i
+          && (eq-eqb (length (l .memory)) memoryBytes (s .good .memory) i && eq-eqb (length (l .panel)) (screenBytes g) (s .good .panel) i)),
+      (s .good .passing .passes, tt),
+    )
+
+    pub send-code : outcome g send l .code ≡ 0
+    unfolding outcome ruled done answered
+    send-code = rw sendable
+
+    pub send-numbers : outcome g send l .numbers ≡ sendNumbers (decode g (l .rec) .pending)
+    unfolding outcome ruled done answered
+    send-numbers = rw sendable
+
+    pub bound : linesLeft (decode g (l .rec) .pending) ≤ (g .band - 1) + height g
+    bound = lines-bound g (decode g (l .rec) .pending) (s .held .fitting) (s .held .low)
+
+    -- and answers four zeros exactly where no line is left
+    pub idle-lines : (outcome g send l .numbers ≡ 0 ∷ 0 ∷ 0 ∷ 0 ∷ []) ↔ (linesLeft (decode g (l .rec) .pending) ≡ 0)
+    idle-lines = rw send-numbers (idle-iff g (decode g (l .rec) .pending) (s .held .fitting))
+
+  -- ---- a further list whose accepted calls are sends
+
+  -- a row of sends is such a list
+  pub row-of-sends : (l : Lent) → Standing g l → (n : ℕ) → acceptedCalls g l (replicate n (here send tt)) ≡ replicate n send
+  unfolding acceptedCalls acceptedCall ruled run
+  row-of-sends l s zero = refl
+  row-of-sends l s (suc n) = rw (sendable l s) (ap (λ (cs : List Call). send ∷ cs) (row-of-sends (after g l (here send tt)) (standing-run l (here send tt ∷ []) s) n))
+
+  -- none of them: the bytes are as they were, and the next send answers from them
+  pub none-more : (l : Lent) (more : List (Item g)) → acceptedCalls g l more ≡ [] → run g l more ≡ l
+  unfolding leftBy
+  none-more l more e = left-run g l more ∙ ap (leftBy g l) e
+
+  module _ (l : Lent) (s : Standing g l) (more : List (Item g)) (n : ℕ) (e : acceptedCalls g l more ≡ replicate n send) where
+    pub lines-more : linesLeft (decode g (run g l more .rec) .pending) ≡ linesLeft (decode g (l .rec) .pending) - n
+    lines-more =
+        let q = only-sends g l more n e in
+        ap (λ (m : Lent). linesLeft (decode g (m .rec) .pending)) (run-all g l more)
+        ∙ lines-all g (Good g) (after g) (view g) (itemEffect g) (simulates g k) l more (s .good) (s .held) (q .quiet)
+        ∙ ap (λ (c : ℕ). linesLeft (decode g (l .rec) .pending) - c) (q .counted)
+
+    pub level : linesLeft (decode g (l .rec) .pending) ≤ n → differing g (view g (run g l more) .screen) (view g (run g l more) .panel) ≡ 0
+    level h =
+        none-left g (view g (run g l more)) (standing-run l more s .held) (omega (arith, lines-more))

@@ -1,0 +1,100 @@
+-- Calls in any order: what is promised of the record, memory and panel bytes after an accepted open and every list of calls.
+-- Call and outcome stand in crates/model/specs/Calls.antt; Item, run, reckoned, linesLeft, InAny, Differs and differing in Lists.antt there; acceptedCalls and
+-- leftBy in Accepted.antt here; takes, lentTo and answeredBack in Parts.antt. docs/THEOREM.md says it in words.
+use mathlib.Core.Path.{_≡_, refl, _∙_}
+use mathlib.Core.Logic.{_⊎_, _↔_}
+use mathlib.Core.Bool.{true}
+use mathlib.Core.List.{List, [], _∷_}
+use Prim.Native.Nat.{ℕ, _-_, _≤_, _<_}
+use native.Mathlib.Omega.{arith}
+use lib.ListN.{length, replicate}
+use Rattle.model.specs.declared.Pending.{Pending}
+use Rattle.model.specs.Geometry.{base}
+use Rattle.model.specs.Memory.{screenOf}
+use Rattle.model.specs.Rects.{In}
+use Rattle.model.specs.Record.{decode, valid}
+use Rattle.model.specs.Open.{nothingPending}
+use Rattle.model.specs.Calls.{Call, opening, send, Lent, lent, outcome}
+use Rattle.model.specs.Lists.{accepted, Typed, Item, here, run, reckoned, linesLeft, InAny, Differs, differing}
+use Rattle.order.specs.Step.{Glass}
+use Rattle.order.specs.Accepted.{acceptedCalls, leftBy, left-run}
+use Rattle.order.specs.Parts.{takes, lentTo, answeredBack, outcome-parts}
+use Rattle.order.specs.Order.{Standing, standing-run, standing-open, pending-open, sendable, send-code, bound, idle-lines, none-more, lines-more, level, row-of-sends}
+
+-- owed, in hand and lines sent as the record has them; L; the screen
+abbrev pub pendingIn : Lent → Pending
+pendingIn l = decode base (l .rec) .pending
+
+abbrev pub linesIn : Lent → ℕ
+linesIn l = linesLeft (pendingIn l)
+
+abbrev pub screenIn : Lent → List ℕ
+screenIn l = screenOf base (decode base (l .rec) .head .graphics) (l .memory)
+
+-- what is promised of the bytes l that stand after a list of items, the first of which was lent the bytes start
+pub record Promised (start : Lent) (items : List (Item base)) (l : Lent) : Type 0 where
+  -- the bytes have the lengths that LENT asks for
+  pub record-length : length (l .rec) ≡ 170
+  pub memory-length : length (l .memory) ≡ 65536
+  pub panel-length : length (l .panel) ≡ 1600
+  -- the record passes STATE
+  pub passes : valid base (l .rec) ≡ true
+  -- so a send that is lent these bytes is accepted
+  pub sendable : accepted base send l
+  -- owed, in hand and lines sent are those reckoned from the list, which start from nothing
+  pub pending : pendingIn l ≡ reckoned base (nothingPending base) start items
+  -- record, memory and panel are what the accepted calls leave, one after another; refused ones leave all bytes
+  pub left-by : l ≡ leftBy base start (acceptedCalls base start items)
+  -- L is at most 159
+  pub bound : linesIn l ≤ 159
+  -- a pixel that differs on screen and panel lies in hand or is owed
+  pub places : (x y : ℕ) → x < 160 → y < 80 → Differs base (screenIn l) (l .panel) x y → In (pendingIn l .hand) x y ⊎ InAny (pendingIn l .owed) x y
+  -- refused calls may follow: the first send after them is done, and answers idle, which is four zeros, exactly when L is 0
+  pub idle : (more : List (Item base)) → acceptedCalls base l more ≡ []
+      → (outcome base send (run base l more) .code ≡ 0) × ((outcome base send (run base l more) .numbers ≡ 0 ∷ 0 ∷ 0 ∷ 0 ∷ []) ↔ (linesIn l ≡ 0))
+  -- refused calls and n accepted sends may follow, in any order: each send lowers L by one until it is 0 ..
+  pub lines : (more : List (Item base)) (n : ℕ) → acceptedCalls base l more ≡ replicate n send → linesIn (run base l more) ≡ linesIn l - n
+  -- .. and no pixel differs after them where n is L or more
+  pub level : (more : List (Item base)) (n : ℕ) → acceptedCalls base l more ≡ replicate n send → linesIn l ≤ n
+      → differing base (screenIn (run base l more)) (run base l more .panel) ≡ 0
+  -- L sends in a row are such a list
+  pub level-row : let l′ = run base l (replicate (linesIn l) (here send tt)) in differing base (screenIn l′) (l′ .panel) ≡ 0
+
+glass : Glass base
+glass = record { small = record { wide = omega arith; high = omega arith }; stride = omega arith; row = omega arith; fits = omega arith }
+
+promised : (start : Lent) (items : List (Item base)) (l : Lent) → l ≡ run base start items → pendingIn l ≡ reckoned base (nothingPending base) start items
+    → Standing base l → Promised start items l
+promised start items l e p s =
+    record {
+      record-length = s .good .passing .sized;
+      memory-length = s .good .memory;
+      panel-length = s .good .panel;
+      passes = s .good .passing .passes;
+      sendable = sendable base glass l s;
+      pending = p;
+      left-by = e ∙ left-run base start items;
+      bound = omega (arith, bound base glass l s);
+      places = s .held .covered;
+      idle = λ more n.
+          let i = idle-lines base glass l s in
+          rw (none-more base glass l more n) (send-code base glass l s, (λ e. omega (arith, i .0 e), λ z. i .1 (omega arith)));
+      lines = lines-more base glass l s;
+      level = λ more n e h. level base glass l s more n e (omega arith);
+      level-row = level base glass l s (replicate (linesIn l) (here send tt)) (linesIn l) (row-of-sends base glass l s (linesIn l)) (omega arith);
+    }
+
+-- the theorem: an accepted open, lent any record r, any memory m and a panel p of any bytes, and then every list of items
+pub calls-in-any-order : (graphics text version : ℕ) (keys : List ℕ) (t : Typed (opening graphics text version keys)) (r m p : List ℕ)
+    → accepted base (opening graphics text version keys) (lent r m p) → length p ≡ 1600 → (items : List (Item base))
+    → let list = here (opening graphics text version keys) t ∷ items in Promised (lent r m p) list (run base (lent r m p) list)
+unfolding run
+calls-in-any-order graphics text version keys t r m p a n items =
+    let list = here (opening graphics text version keys) t ∷ items in
+    promised (lent r m p) list (run base (lent r m p) list) refl
+    (pending-open base glass graphics text version keys t (lent r m p) a n items)
+    (standing-run base glass _ items (standing-open base glass graphics text version keys t (lent r m p) a n))
+
+-- A list gives each call all three buffers. A call that is lent only those that it takes answers the same and leaves the same in them, and the others stay.
+pub lent-parts : (c : Call) (l : Lent) → outcome base c l ≡ answeredBack (takes c) l (outcome base c (lentTo (takes c) l))
+lent-parts = outcome-parts base

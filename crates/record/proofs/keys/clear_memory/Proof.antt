@@ -1,0 +1,27 @@
+use mathlib.Core.Path.{_∙_}
+use native.Mathlib.Omega.{arith}
+use lib.ListN.{length-set}
+use Rattle.model.specs.Record.{wordsAt}
+use Rattle.laws.specs.Keys.{clears-memory}
+use borrow.Author.Needs.{needs}
+use Rattle.record.proofs.keys.clear_memory.Statement.{statement}
+use Rattle.record.proofs.keys.clear_memory.Tie as tie
+
+clear-requires : tie.Need-clear-requires
+clear-requires c κs = search needs
+
+slice-write-memory : tie.Need-slice-write-memory
+slice-write-memory c = search needs
+
+write-keys-requires : tie.Need-write-keys-requires
+write-keys-requires c κs = (c .before .before .before .before .before .before .before .pre .0, simp length-set (omega (arith, c .before .before .before .clear .kept .0, c .before .before .before .before .before .before .before .pre .1)))
+
+same-length : tie.Need-same-length
+same-length c = c .before .before .write-keys .kept .1 .0 ∙ simp length-set (c .before .before .before .before .before .before .clear .kept .0)
+
+returns : tie.Need-returns
+returns c = clears-memory (wordsAt 8 (c .before .before .before .before .before .before .before .before .before .before .args .rec .now) 38) (c .before .before .before .before .before .before .before .before .before .before .args .memory .now) (c .before .before .before .before .before .before .before .before .before .before .pre .1) (c .before .before .before .before .before .before .clear .ensures) (c .before .before .write-keys .ensures)
+
+pub clear-memory-spec : {M : Type 1} → statement M
+clear-memory-spec =
+    tie.close (tie.spec clear-requires slice-write-memory write-keys-requires same-length returns)

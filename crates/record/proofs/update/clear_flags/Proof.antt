@@ -1,0 +1,27 @@
+use Rattle.record.proofs.Opening.{flags-cleared}
+use borrow.Author.Needs.{needs}
+use Rattle.record.proofs.update.clear_flags.Statement.{statement}
+use Rattle.record.proofs.update.clear_flags.Tie as tie
+
+sub-clear : tie.Need-sub-clear
+sub-clear c = search needs
+
+part-clear-start : tie.Need-part-clear-start
+part-clear-start c = search needs
+
+part-clear-end : tie.Need-part-clear-end
+part-clear-end c = search needs
+
+clear-requires : tie.Need-clear-requires
+clear-requires c κs = search needs
+
+same-length : tie.Need-same-length
+same-length c = search needs
+
+returns : tie.Need-returns
+returns c = search flags-cleared
+
+pub clear-flags-spec : {M : Type 1} → statement M
+clear-flags-spec =
+    tie.close
+    (tie.spec sub-clear part-clear-start part-clear-end clear-requires same-length returns)

@@ -1,0 +1,63 @@
+// A line of the screen copied to the panel by bytes: whole bytes, with a mask at each edge.
+use model::Rect;
+ghost use mathlib.Core.Path.{_≡_};
+ghost use Prim.Native.Nat.{_<_};
+ghost use lib.ListN.{length, getD, set};
+ghost use Rattle.laws.specs.Masks.{startMask, endMask};
+ghost use Rattle.laws.specs.Bytes.{mixed};
+ghost use Rattle.model.specs.Sends.{copyLine};
+ghost use Rattle.send.specs.Line.{Line};
+
+// The mask of the pixels from x on, in the byte of x.
+fn start_mask(x: usize) -> u8
+    ensures { λ r. ⌜ r ≡ startMask x ⌝ }
+{
+    255 >> (x % 8)
+}
+
+// The mask of the pixels up to x, in the byte of x.
+fn end_mask(x: usize) -> u8
+    ensures { λ r. ⌜ r ≡ endMask x ⌝ }
+{
+    !(127 >> (x % 8))
+}
+
+// Copies the masked bits of byte `at`; its other bits stay.
+fn copy_masked(screen: &[u8], panel: &mut [u8], at: usize, mask: u8)
+    requires { ⌜ (at < length (now screen)) × (at < length (now panel)) ⌝ }
+    ensures { λ _. ⌜ now (panel .exit) ≡ set (now (panel .entry)) at (mixed mask (getD (now (screen .entry)) at 0) (getD (now (panel .entry)) at 0)) ⌝ }
+{
+    panel[at] = (screen[at] & mask) | (panel[at] & !mask);
+}
+
+// Copies whole bytes.
+fn copy_bytes(from: &[u8], onto: &mut [u8])
+    requires { ⌜ length (now from) ≡ length (now onto) ⌝ }
+    ensures { λ _. ⌜ now (onto .exit) ≡ now (from .entry) ⌝ }
+{
+    let mut i: usize = 0;
+    while i < from.len() {
+        onto[i] = from[i];
+        i += 1;
+    }
+}
+
+// Copies the pixels of the rectangle's top line, from its left to its right; all other bits of the panel stay.
+pub fn copy_line(stride: usize, height: usize, screen: &[u8], panel: &mut [u8], r: Rect)
+    requires { ⌜ Line stride height (now screen) (now panel) r ⌝ }
+    ensures { λ _. ⌜ now (panel .exit) ≡ copyLine stride r (now (screen .entry)) (now (panel .entry)) ⌝ }
+{
+    let left = r.left as usize;
+    let last = r.right as usize - 1;
+    let row = stride * (r.top as usize);
+    let first = row + left / 8;
+    let end = row + last / 8;
+    if first == end {
+        copy_masked(screen, panel, first, start_mask(left) & end_mask(last));
+        return;
+    }
+    copy_masked(screen, panel, first, start_mask(left));
+    let from = first + 1;
+    copy_bytes(&screen[from..end], &mut panel[from..end]);
+    copy_masked(screen, panel, end, end_mask(last));
+}
