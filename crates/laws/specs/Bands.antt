@@ -1,15 +1,16 @@
 -- The laws of a list of rectangles kept by bands: a mark added to it, its first taken from it.
-use mathlib.Core.Path.{_≡_, refl, sym, ap}
+use mathlib.Core.Path.{_≡_, refl, sym, ap, _∙_}
 use mathlib.Core.Logic.{_⊎_, inl, inr}
 use mathlib.Core.Bool.{true}
 use mathlib.Core.List.{List, [], _∷_}
-use Prim.Native.Nat.{ℕ, suc, _+_, _-_, _*_, _≤_, _<_}
+use Prim.Native.Nat.{ℕ, suc, _+_, _-_, _*_, _≤_, _<_, min}
 use native.Mathlib.Omega.{arith}
 use lib.ListN.{length}
 use Rattle.laws.specs.Tests.{if-cases, clash, by-test, by-lt, either}
 use Rattle.model.specs.declared.Rect.{Rect}
-use Rattle.model.specs.Rects.{none, In, isEmpty, cut, linesOf}
-use Rattle.laws.specs.Rects.{Fits, empty-none, is-some, in-not-none, join-left, join-right, join-fits, cut-fits, cut-in}
+use borrow.Author.Tests.{le-ltb}
+use Rattle.model.specs.Rects.{none, In, isEmpty, join, cut, linesOf}
+use Rattle.laws.specs.Rects.{Fits, join-none, empty-none, is-some, in-not-none, join-left, join-right, join-fits, cut-fits, cut-in}
 use Rattle.model.specs.Marks.{joinOwed}
 use Rattle.model.specs.Sends.{firstOwed, restOwed}
 use Rattle.model.specs.Lists.{owedLines, InAny}
@@ -118,3 +119,14 @@ pub one-rest : (w lo hi : ℕ) (o : Rect) → Fits w lo hi o → restOwed (o ∷
 unfolding restOwed
 one-rest w lo hi o f =
     if-cases (λ (l : List Rect). l ≡ none ∷ []) (isEmpty o) (λ e. ap (λ (r : Rect). r ∷ []) (empty-none o e)) (λ e. refl)
+
+-- ---- an empty mark adds nothing
+
+cut-none : (w lo hi : ℕ) → cut w lo hi none ≡ none
+unfolding cut
+cut-none w lo hi = rw (le-ltb 0 (min 0 w) (omega arith))
+
+pub joinOwed-none : (w b lo : ℕ) (rs : List Rect) → joinOwed w b lo none rs ≡ rs
+unfolding joinOwed
+joinOwed-none w b lo [] = refl
+joinOwed-none w b lo (r ∷ rs) = λ i. (ap (join r) (cut-none w lo (lo + b)) ∙ join-none r) i ∷ joinOwed-none w b (lo + b) rs i

@@ -8,13 +8,17 @@ use lib.ListN.{length, drop, replicate, length-append, drop-of-length-le}
 use lib.Seq.{drop-drop}
 use Rattle.model.specs.declared.Head.{Head}
 use Rattle.model.specs.declared.Pending.{Pending}
-use Rattle.model.specs.Geometry.{Geometry, cells}
+use Rattle.model.specs.Geometry.{Geometry, width, cells}
+use Rattle.model.specs.Rects.{none}
+use Rattle.model.specs.Marks.{withDirty, updateDirty, owing, marked}
 use Rattle.model.specs.Memory.{withWindow, zeros}
 use Rattle.model.specs.Record.{decode, encode, headOf, pendingOf, bytesOfHead, bytesOfPending, rectAt, four, wordsBytes, rectBytes, rectsBytes, fourBytes, flagByte, withHead, pendingAt, pendingBytes, flagsAt}
 use Rattle.laws.specs.Layout.{rects-at, rect-from, four-from, length-rects, length-words}
 use Rattle.laws.specs.Memory.{append-window}
+use Rattle.laws.specs.Rects.{join-none}
+use Rattle.laws.specs.Bands.{joinOwed-none}
 use Rattle.laws.specs.Loops.{length-zeros}
-use Rattle.laws.specs.Record.{Passing, encode-parts, head-stored, pending-again}
+use Rattle.laws.specs.Record.{Passing, encode-decode, encode-parts, head-stored, pending-again}
 
 pub length-pending : (g : Geometry) (p : Pending) → length (p .owed) ≡ g .bands → length (bytesOfPending p) ≡ pendingBytes g
 length-pending g p e =
@@ -83,3 +87,17 @@ put-all g h p ks l e f n =
     ∙ ap (λ (x : List ℕ). ((a ++ b) ++ c) ++ x) (append-nil z ∙ sym (flags-zero (cells g)))
     ∙ append-assoc (a ++ b) c (map flagByte (replicate (cells g) false))
     ∙ append-assoc a b (c ++ map flagByte (replicate (cells g) false))
+
+-- ---- an empty mark leaves a record as it was
+
+pub unmarked : (g : Geometry) (r : List ℕ) → Passing g r → encode (marked g none none (decode g r)) ≡ r
+unfolding marked updateDirty owing
+unmarked g r k =
+    let s = decode g r in
+    (λ i. encode (record {
+      head = withDirty (join-none (s .head .dirty) i) (s .head);
+      pending = record { owed = joinOwed-none (width g) (g .band) 0 (s .pending .owed) i; hand = s .pending .hand; sent = s .pending .sent };
+      keys = s .keys;
+      flags = s .flags;
+    }))
+    ∙ encode-decode g r k

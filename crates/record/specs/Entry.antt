@@ -2,7 +2,7 @@
 use mathlib.Core.Path.{_≡_}
 use mathlib.Core.List.{List, [], _∷_}
 use mathlib.Core.Bool.{Bool, true}
-use Prim.Native.Nat.{ℕ}
+use Prim.Native.Nat.{ℕ, _≤_}
 use lib.ListN.{length}
 use Rattle.model.specs.declared.Head.{Head}
 use Rattle.model.specs.Geometry.{base}
@@ -16,6 +16,8 @@ pub record Known (r : List ℕ) (h : Head) : Type 0 where
   pub sized : length r ≡ recordBytes base
   pub passes : valid base r ≡ true
   pub head : h ≡ headOf r
+  pub graphics : h .graphics ≤ 63935
+  pub text : h .text ≤ 65435
 
 -- the answer of the entry: a refusal's number, or 0 and the head
 pub record Entered (others : Bool) (r : List ℕ) (e : Entry) : Type 0 where

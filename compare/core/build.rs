@@ -1,0 +1,30 @@
+//! Links the core's static library, and says which calls of calls.txt it has.
+//! A new call of the core is one more line in calls.txt.
+
+use calls::Call;
+use std::path::{Path, PathBuf};
+use std::{env, fs};
+
+fn main() {
+    let folder = library_folder();
+    println!("cargo:rerun-if-env-changed=CAPTION_LIBRARY");
+    println!("cargo:rerun-if-changed={}", folder.join("libcaption.a").display());
+    println!("cargo:rerun-if-changed=calls.txt");
+    println!("cargo:rustc-link-search=native={}", folder.display());
+    println!("cargo:rustc-link-lib=static:-bundle=caption");
+
+    let names = Call::NAMES.map(|name| format!("{name:?}")).join(", ");
+    println!("cargo:rustc-check-cfg=cfg(has, values({names}))");
+    for name in fs::read_to_string("calls.txt").unwrap().lines() {
+        assert!(Call::number_of(name).is_some(), "calls.txt: there is no call {name}");
+        println!("cargo:rustc-cfg=has=\"{name}\"");
+    }
+}
+
+/// CAPTION_LIBRARY, or where `rt staticlib caption` leaves it.
+fn library_folder() -> PathBuf {
+    match env::var_os("CAPTION_LIBRARY") {
+        Some(folder) => PathBuf::from(folder),
+        None => Path::new(&env::var("CARGO_MANIFEST_DIR").unwrap()).join("../../target/staticlib"),
+    }
+}

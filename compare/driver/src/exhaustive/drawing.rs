@@ -1,0 +1,114 @@
+//! Points, lines, boxes, ellipses and bitmaps over the edges of the glass and of a byte.
+
+use super::{bytes, from_record, opened, pairs, record, unmarked};
+use crate::list::List;
+use calls::Call;
+
+const EDGES: [u8; 11] = [0, 1, 7, 8, 79, 80, 127, 128, 159, 160, 255];
+const MODES: [u8; 4] = [0, 1, 2, 3];
+
+pub fn lists() -> impl Iterator<Item = List> {
+    from_record(record(1, 0, 0), unmarked(points()))
+        .chain(from_record(record(1, 0, 0), unmarked(lines())))
+        .chain(from_record(record(1, 0, 0), unmarked(boxes())))
+        .chain(from_record(record(1, 0, 0), unmarked(ellipses())))
+        .chain(from_record(record(1, 0, 0), unmarked(circles())))
+        .chain(from_record(record(1, 0, 0), unmarked(bitmaps())))
+        .chain(from_record(record(1, 0, 0), unmarked(bitmap_sources())))
+        .chain(with_sends())
+}
+
+fn all_points() -> impl Iterator<Item = (u8, u8)> {
+    bytes().flat_map(|y| bytes().map(move |x| (x, y)))
+}
+
+/// Every point in every mode, and in the first unlisted one.
+fn points() -> impl Iterator<Item = Call> {
+    (0..=4).flat_map(|mode| all_points().map(move |(x, y)| Call::DrawPoint { x, y, mode }))
+}
+
+/// From each corner of the coordinates to every end in every mode, and in Xor from two places of
+/// the glass.
+fn lines() -> impl Iterator<Item = Call> {
+    let corners = pairs(&[(0, 0), (255, 0), (0, 255), (255, 255)], &MODES);
+    let starts = corners.into_iter().chain([((159, 79), 2), ((70, 33), 2)]);
+    starts.flat_map(|((x1, y1), mode)| {
+        all_points().map(move |(x2, y2)| Call::DrawLine { x1, y1, x2, y2, mode })
+    })
+}
+
+/// All boxes over the edge coordinates.
+fn boxes() -> impl Iterator<Item = Call> {
+    let corners = pairs(&EDGES, &EDGES);
+    pairs(&corners, &corners).into_iter().flat_map(|((x1, y1), (x2, y2))| {
+        pairs(&[0, 1], &MODES).into_iter().map(move |(fill, mode)| Call::DrawBox {
+            x1,
+            y1,
+            x2,
+            y2,
+            fill,
+            mode,
+        })
+    })
+}
+
+/// All radii, filled and not, in every mode, around edge centres in turn.
+fn ellipses() -> impl Iterator<Item = Call> {
+    let centres = pairs(&EDGES, &EDGES);
+    let mut turn = 0;
+    (0..=127).flat_map(|rx| (0..=127).map(move |ry| (rx, ry))).flat_map(move |(rx, ry)| {
+        let mut calls = vec![];
+        for (fill, mode) in pairs(&[0, 1], &MODES) {
+            turn = (turn + 37) % centres.len();
+            let (x, y) = centres[turn];
+            calls.push(Call::DrawEllipse { x, y, rx, ry, fill, mode });
+        }
+        calls
+    })
+}
+
+/// All circles around all edge centres, and the first refused radius.
+fn circles() -> impl Iterator<Item = Call> {
+    (0..=128).flat_map(|r| {
+        pairs(&EDGES, &EDGES).into_iter().flat_map(move |(x, y)| {
+            [0, 1].map(|fill| Call::DrawCircle { x, y, r, fill, mode: (x ^ y ^ r) % 4 })
+        })
+    })
+}
+
+/// Bitmaps over the left, right, upper and lower edge.
+fn bitmaps() -> impl Iterator<Item = Call> {
+    let columns: Vec<i32> = (-26..=18).chain(140..=162).collect();
+    let rows = [-3, -1, 0, 77, 79, 80];
+    pairs(&columns, &rows).into_iter().flat_map(|(x, y)| {
+        pairs(&[1, 7, 8, 9, 16, 17, 25], &[0, 1, 2, 3, 4, 5]).into_iter().map(move |(width, mode)| {
+            Call::PaintBitmap { address: 4096 + 8 * (x & 127) as u16, x, y, width, height: 3, mode }
+        })
+    })
+}
+
+/// Sources that end at the end of memory and just beside it, for every width.
+fn bitmap_sources() -> impl Iterator<Item = Call> {
+    bytes().flat_map(|width| {
+        pairs(&[0, 1, 2, 80, 255], &[-1, 0, 1]).into_iter().map(move |(height, beside)| {
+            let size = (width as i32 + 7) / 8 * height as i32;
+            let address = (65_536 - size + beside).clamp(0, 65_535) as u16;
+            Call::PaintBitmap { address, x: 3, y: 5, width, height, mode: 4 }
+        })
+    })
+}
+
+/// Lists from an open, with sends between drawings over the edges.
+fn with_sends() -> impl Iterator<Item = List> {
+    let open = Call::Open { graphics_base: 4096, text_base: 8192, version: 1, keys: [0; 8] };
+    let corners = pairs(&EDGES, &EDGES);
+    let calls = corners.into_iter().flat_map(|(x, y)| {
+        pairs(&[0, 5, 127], &MODES).into_iter().flat_map(move |(r, mode)| {
+            let line = Call::DrawLine { x1: x, y1: y, x2: y, y2: x, mode };
+            let circle = Call::DrawCircle { x, y, r, fill: mode % 2, mode };
+            let sends = std::iter::repeat_n(Call::Send, (x ^ y) as usize % 90);
+            [line, circle].into_iter().chain(sends)
+        })
+    });
+    opened(open, calls)
+}

@@ -1,0 +1,71 @@
+//! Lists that go through whole ranges.
+
+mod drawing;
+mod numbers;
+mod records;
+mod text;
+
+use crate::list::{Lending, List, Start, Step};
+use calls::Call;
+use calls::layout::*;
+
+/// All of them, one after another.
+pub fn lists() -> impl Iterator<Item = List> {
+    drawing::lists().chain(text::lists()).chain(records::lists()).chain(numbers::lists())
+}
+
+/// Calls in a list at most.
+const CALLS: usize = 128;
+
+/// `panelrun`'s windows.
+const WINDOWS: (u16, u16) = (4096, 8192);
+
+/// A valid record with nothing marked and nothing in hand.
+fn record(version: u8, screen_mode: u8, print_mode: u8) -> Vec<u8> {
+    let mut record = vec![0; RECORD];
+    record[GRAPHICS_BASE..][..2].copy_from_slice(&WINDOWS.0.to_le_bytes());
+    record[TEXT_BASE..][..2].copy_from_slice(&WINDOWS.1.to_le_bytes());
+    record[SCREEN_MODE] = screen_mode;
+    record[PRINT_MODE] = print_mode;
+    record[VERSION] = version;
+    record
+}
+
+/// Cut a stream of steps into lists that start from this record, over bytes of changing seeds.
+fn from_record(record: Vec<u8>, steps: impl Iterator<Item = Step>) -> impl Iterator<Item = List> {
+    let mut steps = steps;
+    let mut seed = 0;
+    std::iter::from_fn(move || {
+        let part: Vec<Step> = steps.by_ref().take(CALLS).collect();
+        seed += 1;
+        (!part.is_empty()).then(|| List { start: Start { record: Some(record.clone()), seed }, steps: part })
+    })
+}
+
+/// Calls whose own marks show.
+fn unmarked(calls: impl Iterator<Item = Call>) -> impl Iterator<Item = Step> {
+    calls.map(|call| Step { call, lending: Lending::Unmarked })
+}
+
+/// Cut a stream of calls into lists that each start with this open, so that demand 3 is due.
+fn opened(open: Call, calls: impl Iterator<Item = Call>) -> impl Iterator<Item = List> {
+    let mut calls = calls;
+    let mut seed = 0;
+    std::iter::from_fn(move || {
+        let part: Vec<Call> = calls.by_ref().take(CALLS).collect();
+        seed += 1;
+        (!part.is_empty()).then(|| {
+            let all = std::iter::once(open.clone()).chain(part);
+            List { start: Start::unopened(seed), steps: all.map(Step::from).collect() }
+        })
+    })
+}
+
+/// Every pair of two lists.
+fn pairs<A: Copy, B: Copy>(one: &[A], other: &[B]) -> Vec<(A, B)> {
+    one.iter().flat_map(|a| other.iter().map(|b| (*a, *b))).collect()
+}
+
+fn bytes() -> impl Iterator<Item = u8> + Clone {
+    0..=255
+}

@@ -1,0 +1,71 @@
+//! Every number that a call can be told where it is one byte, every poked address, and points
+//! checked all over the glass and beside it.
+
+use super::{bytes, from_record, opened, record};
+use crate::list::{List, Step};
+use calls::Call;
+
+pub fn lists() -> impl Iterator<Item = List> {
+    let told = told().map(Step::from);
+    let checked = checked_points().map(Step::from);
+    from_record(record(1, 0, 0), told).chain(from_record(record(1, 0, 0), checked)).chain(pokes())
+}
+
+/// Every mode, version, flag, row and column, listed or not.
+fn told() -> impl Iterator<Item = Call> {
+    bytes().flat_map(|number| {
+        let mut calls = vec![
+            Call::SetRow { row: number },
+            Call::SetColumn { column: number },
+            Call::SetScreenMode { mode: number },
+            Call::DrawPoint { x: 5, y: 5, mode: number },
+            Call::DrawLine { x1: 0, y1: 0, x2: 9, y2: 5, mode: number },
+            Call::DrawBox { x1: 0, y1: 0, x2: 9, y2: 5, fill: 0, mode: number },
+            Call::DrawBox { x1: 0, y1: 0, x2: 9, y2: 5, fill: number, mode: 2 },
+            Call::DrawBox { x1: 0, y1: 0, x2: 9, y2: 5, fill: number, mode: number },
+            Call::DrawCircle { x: 9, y: 9, r: 0, fill: 1, mode: number },
+            Call::DrawCircle { x: 9, y: 9, r: 0, fill: number, mode: 1 },
+            Call::DrawCircle { x: 9, y: 9, r: number, fill: 0, mode: 3 },
+            Call::DrawCircle { x: 9, y: 9, r: number, fill: 1, mode: 3 },
+            Call::DrawEllipse { x: 9, y: 9, rx: 4, ry: 3, fill: number, mode: 2 },
+            Call::DrawEllipse { x: 9, y: 9, rx: 4, ry: 3, fill: 1, mode: number },
+            Call::DrawEllipse { x: 9, y: 9, rx: 0, ry: number, fill: 1, mode: 1 },
+            Call::DrawEllipse { x: 9, y: 9, rx: number, ry: 0, fill: 0, mode: 1 },
+            Call::PaintBitmap { address: 4096, x: 1, y: 1, width: 0, height: 3, mode: number },
+            Call::PaintBitmap { address: 4096, x: 1, y: 1, width: 9, height: 3, mode: number },
+            Call::PaintBitmap { address: 65_535, x: 1, y: 1, width: 9, height: 3, mode: number },
+            Call::Open { graphics_base: 0, text_base: 1600, version: number, keys: [7; 8] },
+            Call::Open { graphics_base: 0, text_base: 1599, version: number, keys: [7; 8] },
+        ];
+        for from in 0..3 {
+            calls.extend([Call::SetPrintMode { mode: from }, Call::SetPrintMode { mode: number }]);
+        }
+        calls
+    })
+}
+
+fn checked_points() -> impl Iterator<Item = Call> {
+    let near = (-2..=82).flat_map(|y| (-2..=162).map(move |x| (x, y)));
+    let far = [i32::MIN, i32::MIN + 5, -256, 255, 256, 65_536 + 5, i32::MAX - 5, i32::MAX];
+    let beside = far.into_iter().flat_map(|n| [(n, 5), (5, n), (n, n)]);
+    near.chain(beside).map(|(x, y)| Call::CheckPoint { x, y })
+}
+
+/// Every address poked, with the windows at both ends of memory, on key addresses and around
+/// 0xe000.
+fn pokes() -> impl Iterator<Item = List> {
+    let layouts = [
+        (0, 1600, [0x8000_0001; 8]),
+        (63_935, 0, [u32::MAX; 8]),
+        (0xe000 - 800, 0xe000 - 900, [0; 8]),
+        (100, 65_435, [0x00ff_ff00; 8]),
+    ];
+    layouts.into_iter().flat_map(|(graphics_base, text_base, keys)| {
+        let open = Call::Open { graphics_base, text_base, version: 0, keys };
+        let pokes = (0..=65_535).map(|address: u16| {
+            let byte = (address as u8).wrapping_mul(7) ^ (address >> 8) as u8 ^ 0xa5;
+            Call::WriteByte { address, byte }
+        });
+        opened(open, pokes)
+    })
+}

@@ -1,0 +1,127 @@
+//! Records and lengths around what STATE and LENT test, for every call.
+
+use super::{from_record, pairs, record};
+use crate::list::{Lending, List, Other, Step};
+use calls::layout::*;
+use calls::{Call, FontsLent};
+
+pub fn lists() -> impl Iterator<Item = List> {
+    let mut valid = record(1, 0, 0);
+    // A rectangle in each place, so that one changed byte can break it.
+    for (place, rect) in [(DIRTY, [1, 2, 200, 100]), (OWED, [3, 4, 150, 70]), (IN_HAND, [5, 6, 155, 75])] {
+        put_rect(&mut valid, place, rect);
+    }
+    from_record(valid.clone(), changed_bytes())
+        .chain(from_record(valid.clone(), lengths()))
+        .chain(from_record(valid.clone(), rects()))
+        .chain(from_record(valid.clone(), bases()))
+        .chain(from_record(valid, hands()))
+}
+
+fn put_rect(record: &mut [u8], place: usize, rect: [u16; 4]) {
+    for (at, byte) in rect_bytes(place, rect) {
+        record[at] = byte;
+    }
+}
+
+fn rect_bytes(place: usize, rect: [u16; 4]) -> Vec<(usize, u8)> {
+    let bytes = rect.into_iter().flat_map(u16::to_le_bytes);
+    bytes.enumerate().map(|(k, byte)| (place + k, byte)).collect()
+}
+
+/// One accepted call of each kind.
+fn each_call() -> Vec<Call> {
+    vec![
+        Call::Open { graphics_base: 4096, text_base: 8192, version: 1, keys: [0; 8] },
+        Call::Reset,
+        Call::DrawPoint { x: 1, y: 1, mode: 1 },
+        Call::DrawLine { x1: 0, y1: 0, x2: 9, y2: 5, mode: 2 },
+        Call::DrawBox { x1: 0, y1: 0, x2: 9, y2: 5, fill: 1, mode: 2 },
+        Call::DrawCircle { x: 9, y: 9, r: 4, fill: 0, mode: 2 },
+        Call::DrawEllipse { x: 9, y: 9, rx: 4, ry: 2, fill: 1, mode: 2 },
+        Call::CheckPoint { x: 3, y: 3 },
+        Call::PaintBitmap { address: 4096, x: 1, y: 1, width: 9, height: 3, mode: 4 },
+        Call::Print { text: b"ab".to_vec() },
+        Call::Newline,
+        Call::Cls,
+        Call::Flush { fonts: FontsLent::whole(vec![]) },
+        Call::GetRow,
+        Call::GetColumn,
+        Call::SetRow { row: 2 },
+        Call::SetColumn { column: 3 },
+        Call::SetScreenMode { mode: 1 },
+        Call::SetPrintMode { mode: 1 },
+        Call::BlinkCursor,
+        Call::ClearCursor,
+        Call::WriteByte { address: 4100, byte: 9 },
+        Call::TakeDirtyArea,
+        Call::Send,
+    ]
+}
+
+fn lent(call: &Call, other: Other) -> Step {
+    Step { call: call.clone(), lending: Lending::Other(other) }
+}
+
+fn changed(call: &Call, record_bytes: Vec<(usize, u8)>) -> Step {
+    lent(call, Other { record_bytes, ..Other::same() })
+}
+
+/// Every record byte with every value, the calls in turn.
+fn changed_bytes() -> impl Iterator<Item = Step> {
+    let calls = each_call();
+    (0..RECORD).flat_map(move |place| {
+        let calls = calls.clone();
+        super::bytes().map(move |byte| {
+            let call = &calls[(place * 7 + byte as usize) % calls.len()];
+            changed(call, vec![(place, byte)])
+        })
+    })
+}
+
+/// Wrong and right lengths for every call.
+fn lengths() -> impl Iterator<Item = Step> {
+    let around = |right: usize| [0, 1, right - 1, right, right + 1, 2 * right];
+    each_call().into_iter().flat_map(move |call| {
+        let records = (0..=2 * RECORD).map(|record_len| Other { record_len, ..Other::same() });
+        let memories = around(MEMORY).map(|memory_len| Other { memory_len, ..Other::same() });
+        let panels = around(PANEL).map(|panel_len| Other { panel_len, ..Other::same() });
+        let others: Vec<Other> = records.chain(memories).chain(panels).collect();
+        others.into_iter().map(move |other| lent(&call, other))
+    })
+}
+
+/// Rectangles with every side at its edges.
+fn rects() -> impl Iterator<Item = Step> {
+    let edges = [0, 1, 79, 80, 81, 160, 161, 256, 257];
+    let corners = pairs(&edges, &edges);
+    [DIRTY, OWED, IN_HAND].into_iter().flat_map(move |place| {
+        pairs(&corners, &corners).into_iter().map(move |((left, top), (right, bottom))| {
+            changed(&Call::GetRow, rect_bytes(place, [left, top, right, bottom]))
+        })
+    })
+}
+
+/// Bases at the ends of memory and windows that just touch or just share a byte, in the record
+/// and told to open.
+fn bases() -> impl Iterator<Item = Step> {
+    let graphics = [0, 1, 100, 101, 4096, 8192, 63_834, 63_835, 63_934, 63_935, 63_936, 65_535];
+    graphics.into_iter().flat_map(|graphics_base: u16| {
+        let beside = [-1701i32, -101, -100, -99, -1, 0, 1, 99, 100, 1598, 1599, 1600, 1601];
+        let near = beside.into_iter().map(move |by| graphics_base as i32 + by);
+        let texts = near.chain([0, 65_434, 65_435, 65_436, 65_535]);
+        texts.filter_map(|text| u16::try_from(text).ok()).flat_map(move |text_base| {
+            let words = [graphics_base, text_base].map(u16::to_le_bytes);
+            let record_bytes = words.concat().into_iter().enumerate().collect();
+            let open = Call::Open { graphics_base, text_base, version: 0, keys: [1; 8] };
+            [changed(&Call::GetColumn, record_bytes), lent(&open, Other::same())]
+        })
+    })
+}
+
+/// Every left and right of a line in hand, sent; and every top and bottom.
+fn hands() -> impl Iterator<Item = Step> {
+    let across = (0..160).flat_map(|left| (left + 1..=160).map(move |right| [left, left % 80, right, 80]));
+    let down = (0..80).flat_map(|top| (top + 1..=80).map(move |bottom| [7, top, 130, bottom]));
+    across.chain(down).map(|rect| changed(&Call::Send, rect_bytes(IN_HAND, rect)))
+}

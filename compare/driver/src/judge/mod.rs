@@ -1,0 +1,266 @@
+//! The judge: gives a list to reference, model and core, and says where they differ.
+
+mod demand3;
+mod difference;
+pub mod panics;
+mod reckon;
+mod sends;
+
+pub use difference::Difference;
+
+use crate::core_side::Answering;
+use crate::list::{Lending, List, Other, Step};
+use crate::tally::Tally;
+use calls::layout::*;
+use calls::{Answer, Buffers, Call, Refusal};
+use difference::{compare_answers, compare_bytes, compare_records};
+use reckon::Reckoner;
+use reference::{Reference, Told};
+
+/// Memory is compared whole after this many calls, and at the end of a list; between that the
+/// screen, the text and the poked byte are.
+const WHOLE_EVERY: u32 = 64;
+
+pub struct Judge {
+    reference: Reference,
+    own: Sides,
+    /// Copies for calls that are lent other buffers.
+    other: Sides,
+    core: Option<Answering>,
+    reckoner: Reckoner,
+    /// Compare memory whole after every call.
+    thorough: bool,
+    since_whole: u32,
+}
+
+/// The bytes that model and core are lent.
+struct Sides {
+    model: Buffers,
+    core: Buffers,
+}
+
+impl Sides {
+    fn new() -> Self {
+        Self { model: Buffers::zero(), core: Buffers::zero() }
+    }
+}
+
+type Judged<T> = Result<T, Difference>;
+
+impl Judge {
+    pub fn new(core: Option<Answering>, thorough: bool) -> Self {
+        Self {
+            reference: Reference::default(),
+            own: Sides::new(),
+            other: Sides::new(),
+            core,
+            reckoner: Reckoner::default(),
+            thorough,
+            since_whole: 0,
+        }
+    }
+
+    /// Run a list from its start to its end.
+    pub fn judge(&mut self, list: &List, tally: &mut Tally) -> Judged<()> {
+        self.start(list);
+        for (place, step) in list.steps.iter().enumerate() {
+            self.step(step, tally).map_err(|difference| difference.at(place))?;
+        }
+        tally.lists += 1;
+        self.end(list, tally).map_err(|difference| difference.at(list.steps.len()))
+    }
+
+    fn start(&mut self, list: &List) {
+        list.start.fill(&mut self.own.model);
+        self.own.core.follow(&self.own.model);
+        self.reckoner = Reckoner::default();
+        if let Some(record) = &list.start.record {
+            self.reference.load(record, &self.own.model.memory);
+            self.reckoner = Reckoner::of_record(record);
+        }
+    }
+
+    fn end(&mut self, list: &List, tally: &mut Tally) -> Judged<()> {
+        self.compare_memory_whole()?;
+        if list.start.record.is_none() && !list.steps.is_empty() {
+            self.demand3(tally)?;
+        }
+        Ok(())
+    }
+
+    fn step(&mut self, step: &Step, tally: &mut Tally) -> Judged<()> {
+        let answer = match &step.lending {
+            Lending::Own => self.own_step(&step.call, tally)?,
+            Lending::Unmarked => {
+                self.empty_marks();
+                self.own_step(&step.call, tally)?
+            }
+            Lending::Other(other) => self.other_step(&step.call, other, tally)?,
+        };
+        tally.answered(&step.call, &answer);
+        Ok(())
+    }
+
+    fn empty_marks(&mut self) {
+        for side in [&mut self.own.model, &mut self.own.core] {
+            side.record[DIRTY..IN_HAND].fill(0);
+        }
+        self.reference.set_dirty([0; 4]);
+        self.reckoner.empty_owed();
+    }
+
+    /// A call lent what the last accepted one left.
+    fn own_step(&mut self, call: &Call, tally: &mut Tally) -> Judged<Answer> {
+        let before = Before::of(&self.own.model);
+        let answer = model::answer(call, self.own.model.lend());
+        if answer.accepted() {
+            let next = self.reckoner.next_line();
+            self.reckoner.take(call, &before.record, &self.own.model.memory);
+            self.reckoner.compare(&self.own.model.record)?;
+            if *call == Call::Send {
+                self.check_send(next, &answer, &before)?;
+            } else {
+                self.reference_step(call, &answer, &before, tally)?;
+            }
+        } else {
+            before.compare(&self.own.model)?;
+            self.reference_on_refusal(call, &answer)?;
+        }
+        self.core_step(call, &answer, tally)?;
+        self.compare_memory(call, &answer)?;
+        Ok(answer)
+    }
+
+    /// The reference does an accepted call and stands as the model does.
+    fn reference_step(
+        &mut self,
+        call: &Call,
+        answer: &Answer,
+        before: &Before,
+        tally: &mut Tally,
+    ) -> Judged<()> {
+        if !self.reference.can_follow(call) {
+            self.reference.load(&self.own.model.record, &self.own.model.memory);
+            return Ok(());
+        }
+        let panic_due = panics::due(call);
+        match self.reference.call(call) {
+            Told::Panicked if panic_due => {
+                // Document 01 lets the port finish: it marks what the reference hadn't marked yet.
+                let dirty = four(&self.reference.record(), DIRTY);
+                difference::compare_dirty(dirty, four(&before.record, DIRTY))?;
+                self.reference.set_dirty(four(&self.own.model.record, DIRTY));
+            }
+            Told::Panicked => return Err(Difference::new("the reference panicked")),
+            Told::Answer(_) if panic_due => return Err(Difference::new("the reference did not panic")),
+            Told::Answer(numbers) => {
+                compare_answers("reference", &Answer::done(numbers), "model", answer)?;
+            }
+        }
+        tally.reference_compared(call, panic_due);
+        let mut record = self.reference.record();
+        record[ADDED].copy_from_slice(&self.own.model.record[ADDED]);
+        compare_records("reference", &record, "model", &self.own.model.record)
+    }
+
+    /// Where the reference can be asked at all about a refused call, it panics and does nothing.
+    fn reference_on_refusal(&mut self, call: &Call, answer: &Answer) -> Judged<()> {
+        if answer.code == Refusal::Source as u32 && self.reference.call(call) != Told::Panicked {
+            return Err(Difference::new("SOURCE, and the reference did not panic"));
+        }
+        Ok(())
+    }
+
+    fn core_step(&mut self, call: &Call, answer: &Answer, tally: &mut Tally) -> Judged<()> {
+        let Some(core) = self.core else { return Ok(()) };
+        match core(call, self.own.core.lend()) {
+            None => self.own.core.follow(&self.own.model),
+            Some(given) => {
+                tally.core_compared(call);
+                compare_answers("model", answer, "core", &given)?;
+                compare_records("model", &self.own.model.record, "core", &self.own.core.record)?;
+                compare_bytes("panel", 0, "model", &self.own.model.panel, "core", &self.own.core.panel)?;
+            }
+        }
+        Ok(())
+    }
+
+    /// A call lent a copy with other lengths or other record bytes.
+    fn other_step(&mut self, call: &Call, other: &Other, tally: &mut Tally) -> Judged<Answer> {
+        other.copy(&self.own.model, &mut self.other.model);
+        let answer = model::answer(call, self.other.model.lend());
+        if let Some(core) = self.core {
+            other.copy(&self.own.model, &mut self.other.core);
+            if let Some(given) = core(call, self.other.core.lend()) {
+                tally.core_compared(call);
+                compare_answers("model", &answer, "core", &given)?;
+                compare_buffers("model", &self.other.model, "core", &self.other.core)?;
+            }
+        }
+        if !answer.accepted() {
+            other.copy(&self.own.model, &mut self.other.core);
+            compare_buffers("before", &self.other.core, "model", &self.other.model)?;
+        }
+        Ok(answer)
+    }
+
+    /// What a call can have changed of memory, and after a refusal all of it.
+    fn compare_memory(&mut self, call: &Call, answer: &Answer) -> Judged<()> {
+        self.since_whole += 1;
+        if self.thorough || !answer.accepted() || self.since_whole >= WHOLE_EVERY {
+            return self.compare_memory_whole();
+        }
+        let record = &self.own.model.record;
+        let graphics_base = word(record, GRAPHICS_BASE) as usize;
+        let text_base = word(record, TEXT_BASE) as usize;
+        self.compare_part(graphics_base, SCREEN)?;
+        self.compare_part(text_base, CELLS)?;
+        if let Call::WriteByte { address, .. } = *call {
+            self.compare_part(address as usize, 1)?;
+        }
+        Ok(())
+    }
+
+    fn compare_memory_whole(&mut self) -> Judged<()> {
+        self.since_whole = 0;
+        self.compare_part(0, MEMORY)
+    }
+
+    fn compare_part(&self, start: usize, len: usize) -> Judged<()> {
+        let part = start..start + len;
+        let model = &self.own.model.memory[part.clone()];
+        let reference = &self.reference.memory()[part.clone()];
+        compare_bytes("memory", start, "reference", reference, "model", model)?;
+        if self.core.is_some() {
+            compare_bytes("memory", start, "model", model, "core", &self.own.core.memory[part])?;
+        }
+        Ok(())
+    }
+}
+
+fn compare_buffers(one: &str, a: &Buffers, other: &str, b: &Buffers) -> Judged<()> {
+    compare_bytes("lent record", 0, one, &a.record, other, &b.record)?;
+    compare_bytes("lent memory", 0, one, &a.memory, other, &b.memory)?;
+    compare_bytes("lent panel", 0, one, &a.panel, other, &b.panel)
+}
+
+/// Record and panel before a call. A refused call leaves memory as the reference has it, which is
+/// not called then.
+struct Before {
+    record: [u8; RECORD],
+    panel: [u8; PANEL],
+}
+
+impl Before {
+    fn of(buffers: &Buffers) -> Self {
+        let mut before = Self { record: [0; RECORD], panel: [0; PANEL] };
+        before.record.copy_from_slice(&buffers.record);
+        before.panel.copy_from_slice(&buffers.panel);
+        before
+    }
+
+    fn compare(&self, after: &Buffers) -> Judged<()> {
+        compare_records("before", &self.record, "model", &after.record)?;
+        compare_bytes("panel", 0, "before", &self.panel, "model", &after.panel)
+    }
+}

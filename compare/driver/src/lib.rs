@@ -1,0 +1,12 @@
+//! Drives reference, model and core with the same lists of calls and compares what they answer
+//! and leave.
+
+pub mod core_side;
+pub mod exhaustive;
+pub mod judge;
+pub mod list;
+pub mod random;
+pub mod replay;
+pub mod run;
+pub mod shrink;
+pub mod tally;

@@ -1,0 +1,13 @@
+//! Random lists of calls, biased to edges. The same seed gives the same lists.
+
+mod calls;
+mod lendings;
+mod lists;
+mod numbers;
+mod records;
+mod source;
+mod texts;
+
+pub use lists::list;
+pub use numbers::Windows;
+pub use source::Random;

@@ -1,0 +1,145 @@
+//! A stored list of calls and what the reference makes of it, for a program that replays it on
+//! the core. README.md says how the two files look.
+//!
+//! Only calls of the core that the reference has too, and only such as document 01 accepts and the
+//! reference does without a panic and as document 01 says. The answers are the reference's alone.
+
+use crate::judge::panics;
+use crate::random::{Random, Windows};
+use calls::layout::{ADDED, RECORD};
+use calls::{Buffers, Call, FontsLent};
+use reference::{Reference, Told};
+use std::fmt::Write;
+
+const IN_CORE: &str = include_str!("../../core/calls.txt");
+
+const LISTS: u64 = 12;
+const CALLS_IN_LIST: usize = 250;
+
+/// The bytes of one stored call.
+const STORED: usize = 16;
+
+pub struct Replay {
+    /// The stored calls, `STORED` bytes each.
+    pub stdin: Vec<u8>,
+    /// A line for each: the answer's five numbers and the checksum.
+    pub stdout: String,
+}
+
+pub fn make() -> Replay {
+    let mut replay = Replay { stdin: vec![], stdout: String::new() };
+    let mut reference = Reference::default();
+    for seed in 0..LISTS {
+        replay.add_list(&mut Random::new(seed), &mut reference);
+    }
+    replay
+}
+
+impl Replay {
+    /// An open, calls that are accepted, one after another, and a reset.
+    fn add_list(&mut self, random: &mut Random, reference: &mut Reference) {
+        let numbers = replayed_numbers();
+        let windows = random.windows();
+        let mut state = Buffers::zero();
+        let open = open(random, windows);
+        model::answer(&open, state.lend());
+        self.add(&open, reference);
+        for _ in 0..CALLS_IN_LIST {
+            let number = random.pick(&numbers);
+            let call = fit(random.call(number, windows));
+            let done_alike = !panics::due(&call) && reference.can_follow(&call);
+            if done_alike && model::answer(&call, state.lend()).accepted() {
+                self.add(&call, reference);
+            }
+        }
+        self.add(&Call::Reset, reference);
+    }
+
+    fn add(&mut self, call: &Call, reference: &mut Reference) {
+        let Told::Answer([a, b, c, d]) = reference.call(call) else {
+            unreachable!("{call:?}: the reference panicked")
+        };
+        self.stdin.extend(stored(call));
+        let sum = checksum(reference);
+        writeln!(self.stdout, "0 {a} {b} {c} {d} {sum}").expect("a string takes all");
+    }
+}
+
+/// The calls that come after open: those that the core and the reference have. Reset would wipe
+/// what the others did; it comes last in each list.
+fn replayed_numbers() -> Vec<usize> {
+    let names = IN_CORE.lines().filter(|name| !["open", "reset", "send"].contains(name));
+    names.map(|name| Call::number_of(name).expect("calls.txt names calls")).collect()
+}
+
+/// An open whose key words fit into a stored call.
+fn open(random: &mut Random, windows: Windows) -> Call {
+    let [first, .., last] = random.key_words();
+    Call::Open {
+        graphics_base: windows.graphics_base,
+        text_base: windows.text_base,
+        version: random.below(2) as u8,
+        keys: [first, 0, 0, 0, 0, 0, 0, last],
+    }
+}
+
+/// A call as far as its stored form holds it.
+fn fit(call: Call) -> Call {
+    match call {
+        Call::Print { mut text } => {
+            text.truncate(STORED - 2);
+            Call::Print { text }
+        }
+        Call::Flush { .. } => Call::Flush { fonts: FontsLent::whole(vec![]) },
+        call => call,
+    }
+}
+
+/// The number of the call, then what it is told in the order of the C interface, least byte
+/// first; the rest is zero.
+fn stored(call: &Call) -> [u8; STORED] {
+    let mut bytes = vec![call.number() as u8];
+    match *call {
+        Call::Open { graphics_base, text_base, version, keys } => {
+            bytes.extend(graphics_base.to_le_bytes());
+            bytes.extend(text_base.to_le_bytes());
+            bytes.push(version);
+            bytes.extend(keys[0].to_le_bytes());
+            bytes.extend(keys[7].to_le_bytes());
+        }
+        Call::DrawPoint { x, y, mode } => bytes.extend([x, y, mode]),
+        Call::DrawLine { x1, y1, x2, y2, mode } => bytes.extend([x1, y1, x2, y2, mode]),
+        Call::DrawBox { x1, y1, x2, y2, fill, mode } => bytes.extend([x1, y1, x2, y2, fill, mode]),
+        Call::DrawCircle { x, y, r, fill, mode } => bytes.extend([x, y, r, fill, mode]),
+        Call::DrawEllipse { x, y, rx, ry, fill, mode } => bytes.extend([x, y, rx, ry, fill, mode]),
+        Call::CheckPoint { x, y } => bytes.extend([x.to_le_bytes(), y.to_le_bytes()].concat()),
+        Call::PaintBitmap { address, x, y, width, height, mode } => {
+            bytes.extend(address.to_le_bytes());
+            bytes.extend([x.to_le_bytes(), y.to_le_bytes()].concat());
+            bytes.extend([width, height, mode]);
+        }
+        Call::Print { ref text } => {
+            bytes.push(text.len() as u8);
+            bytes.extend(text);
+        }
+        Call::SetRow { row: number }
+        | Call::SetColumn { column: number }
+        | Call::SetScreenMode { mode: number }
+        | Call::SetPrintMode { mode: number } => bytes.push(number),
+        Call::WriteByte { address, byte } => {
+            bytes.extend(address.to_le_bytes());
+            bytes.push(byte);
+        }
+        _ => {}
+    }
+    bytes.resize(STORED, 0);
+    std::array::from_fn(|place| bytes[place])
+}
+
+/// From 0 on: times 31 plus the next byte, modulo 2^32, over the record bytes that the reference
+/// has fields for and then all of memory.
+fn checksum(reference: &Reference) -> u32 {
+    let record = reference.record();
+    let bytes = record[..ADDED.start].iter().chain(&record[ADDED.end..RECORD]).chain(reference.memory());
+    bytes.fold(0, |sum: u32, byte| sum.wrapping_mul(31).wrapping_add(*byte as u32))
+}

@@ -1,0 +1,181 @@
+//! The shortest list that shows a difference: calls are left out and numbers made smaller as
+//! long as a difference stays.
+
+use crate::core_side::Answering;
+use crate::judge::{Difference, Judge};
+use crate::list::{Lending, List, Start};
+use crate::tally::Tally;
+use calls::layout::*;
+use calls::{Call, FontsLent};
+use std::ops::Range;
+
+/// A list that differs, no longer than the given one, and its difference. `None` if it doesn't
+/// differ.
+pub fn shrink(list: &List, core: Option<Answering>) -> Option<(List, Difference)> {
+    let mut judge = Judge::new(core, true);
+    let mut differs = |list: &List| judge.judge(list, &mut Tally::default()).err();
+    let mut difference = differs(list)?;
+    let mut list = list.clone();
+    list.steps.truncate(difference.place + 1);
+    loop {
+        let mut candidates = shorter(&list).into_iter().chain(simpler(&list));
+        match candidates.find_map(|candidate| differs(&candidate).map(|found| (candidate, found))) {
+            Some(smaller) => (list, difference) = smaller,
+            None => return Some((list, difference)),
+        }
+    }
+}
+
+/// Without some of the steps. The first call of a list that starts unopened stays.
+fn shorter(list: &List) -> Vec<List> {
+    let first = if list.start.record.is_none() { 1 } else { 0 };
+    let without = |part: Range<usize>| {
+        let mut shorter = list.clone();
+        shorter.steps.drain(part);
+        shorter
+    };
+    parts(first..list.steps.len()).into_iter().map(without).collect()
+}
+
+/// What can be left out: large parts first, then one by one.
+fn parts(all: Range<usize>) -> Vec<Range<usize>> {
+    let mut parts = vec![];
+    let mut size = all.len();
+    while size > 0 {
+        parts.extend(all.clone().step_by(size).map(|start| start..(start + size).min(all.end)));
+        size /= 2;
+    }
+    parts
+}
+
+/// The same steps with one thing smaller.
+fn simpler(list: &List) -> Vec<List> {
+    let starts = simpler_starts(&list.start).into_iter();
+    let mut lists: Vec<List> = starts.map(|start| List { start, steps: list.steps.clone() }).collect();
+    for (place, step) in list.steps.iter().enumerate() {
+        if step.lending != Lending::Own {
+            let mut simpler = list.clone();
+            simpler.steps[place].lending = Lending::Own;
+            lists.push(simpler);
+        }
+        let first_open = place == 0 && list.start.record.is_none();
+        let calls = if first_open { plain_opens(&step.call) } else { smaller_calls(&step.call) };
+        for call in calls {
+            let mut simpler = list.clone();
+            simpler.steps[place].call = call;
+            lists.push(simpler);
+        }
+    }
+    lists
+}
+
+/// Zeros for bytes of a seed; `panelrun`'s windows and zeros in the fields of a record.
+fn simpler_starts(start: &Start) -> Vec<Start> {
+    let mut starts = vec![Start { seed: 0, ..start.clone() }];
+    if let Some(record) = &start.record {
+        let mut plain = [0; RECORD];
+        plain[GRAPHICS_BASE..ROW].copy_from_slice(&[0, 16, 0, 32]);
+        let ends = [0, ROW, COLUMN, SCREEN_MODE, PRINT_MODE, CURSOR, VERSION, DIRTY];
+        let ends = [&ends[..], &[OWED, IN_HAND, LINES_SENT, KEYS, FLAGS, RECORD]].concat();
+        for field in ends.windows(2) {
+            let mut simpler = record.clone();
+            simpler[field[0]..field[1]].copy_from_slice(&plain[field[0]..field[1]]);
+            starts.push(Start { record: Some(simpler), ..*start });
+        }
+    }
+    starts.retain(|simpler| simpler != start);
+    starts
+}
+
+/// The first call of an unopened list stays an accepted open: without keys, or `panelrun`'s.
+fn plain_opens(call: &Call) -> Vec<Call> {
+    let plain = Call::Open { graphics_base: 4096, text_base: 8192, version: 1, keys: [0; 8] };
+    let mut opens = vec![plain.clone()];
+    if let Call::Open { graphics_base, text_base, version, .. } = *call {
+        opens.push(Call::Open { graphics_base, text_base, version, keys: [0; 8] });
+    }
+    opens.retain(|open| *call != plain && open != call);
+    opens
+}
+
+/// Values that count as smaller.
+trait Smaller: Sized {
+    fn smaller(&self) -> Vec<Self>;
+}
+
+macro_rules! smaller_numbers {
+    ($($number:ty),*) => {$(
+        impl Smaller for $number {
+            fn smaller(&self) -> Vec<Self> {
+                let one_less = *self - (*self > 0) as $number;
+                let mut values = vec![0, *self / 2, *self - *self / 8, one_less];
+                values.retain(|value| value != self);
+                values
+            }
+        }
+    )*};
+}
+
+smaller_numbers!(u8, u16, i32, usize);
+
+impl Smaller for Vec<u8> {
+    fn smaller(&self) -> Vec<Self> {
+        let without = |part: Range<usize>| [&self[..part.start], &self[part.end..]].concat();
+        parts(0..self.len()).into_iter().map(without).collect()
+    }
+}
+
+impl Smaller for [u32; 8] {
+    fn smaller(&self) -> Vec<Self> {
+        if *self == [0; 8] { vec![] } else { vec![[0; 8]] }
+    }
+}
+
+/// Whole fonts and no extra list, or a shorter extra list.
+impl Smaller for FontsLent {
+    fn smaller(&self) -> Vec<Self> {
+        let whole = Self::whole(vec![]);
+        let lists = self.extra_list.smaller().into_iter();
+        let shorter = lists.map(|extra_list| Self { extra_list, ..self.clone() });
+        [whole].into_iter().chain(shorter).filter(|simpler| simpler != self).collect()
+    }
+}
+
+macro_rules! smaller_fields {
+    ($call:expr, $($variant:ident { $($field:ident),* })*) => {
+        match $call {
+            $(Call::$variant { $($field),* } => {
+                let mut smaller = vec![];
+                $(for value in $field.smaller() {
+                    let mut call = $call.clone();
+                    if let Call::$variant { $field, .. } = &mut call {
+                        *$field = value;
+                    }
+                    smaller.push(call);
+                })*
+                smaller
+            })*
+            _ => vec![],
+        }
+    };
+}
+
+fn smaller_calls(call: &Call) -> Vec<Call> {
+    smaller_fields!(call,
+        Open { graphics_base, text_base, version, keys }
+        DrawPoint { x, y, mode }
+        DrawLine { x1, y1, x2, y2, mode }
+        DrawBox { x1, y1, x2, y2, fill, mode }
+        DrawCircle { x, y, r, fill, mode }
+        DrawEllipse { x, y, rx, ry, fill, mode }
+        CheckPoint { x, y }
+        PaintBitmap { address, x, y, width, height, mode }
+        Print { text }
+        Flush { fonts }
+        SetRow { row }
+        SetColumn { column }
+        SetScreenMode { mode }
+        SetPrintMode { mode }
+        WriteByte { address, byte }
+    )
+}

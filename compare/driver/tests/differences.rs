@@ -1,0 +1,103 @@
+//! The smallest inputs of docs/DIFFERENCES.md: what the reference does, and what the model, and
+//! so document 01 as it is read here, says.
+
+use calls::layout::*;
+use calls::{Answer, Buffers, Call, FontsLent};
+use reference::{Reference, Told};
+
+const OPEN: Call = Call::Open { graphics_base: 4096, text_base: 8192, version: 1, keys: [0; 8] };
+
+/// Reference and model after the same open.
+struct Both {
+    reference: Reference,
+    model: Buffers,
+}
+
+impl Both {
+    fn opened() -> Self {
+        let mut both = Self { reference: Reference::default(), model: Buffers::zero() };
+        both.call(&OPEN);
+        both
+    }
+
+    fn call(&mut self, call: &Call) -> (Told, Answer) {
+        (self.reference.call(call), model::answer(call, self.model.lend()))
+    }
+
+    /// The reference panics, the model finishes with the same pixels and this dirty area.
+    fn panics(call: Call, dirty: [u16; 4]) {
+        let mut both = Self::opened();
+        assert_eq!(both.call(&call), (Told::Panicked, Answer::done([0; 4])), "{call:?}");
+        assert_eq!(both.reference.memory(), both.model.memory);
+        assert_eq!(four(&both.reference.record(), DIRTY), [0; 4]);
+        assert_eq!(four(&both.model.record, DIRTY), dirty);
+    }
+}
+
+#[test]
+fn the_reference_panics_and_the_port_finishes() {
+    Both::panics(Call::DrawLine { x1: 254, y1: 0, x2: 255, y2: 1, mode: 1 }, [254, 0, 256, 2]);
+    Both::panics(Call::DrawEllipse { x: 255, y: 1, rx: 0, ry: 1, fill: 0, mode: 1 }, [255, 0, 256, 80]);
+    for (x, y) in [(i32::MAX, 0), (0, i32::MAX)] {
+        Both::panics(Call::PaintBitmap { address: 0, x, y, width: 1, height: 1, mode: 0 }, [0; 4]);
+    }
+}
+
+#[test]
+fn the_port_refuses() {
+    let text_on_screen = Call::Open { graphics_base: 0, text_base: 1599, version: 0, keys: [0; 8] };
+    let too_high = Call::Open { graphics_base: 63_936, text_base: 0, version: 0, keys: [0; 8] };
+    let no_fonts = FontsLent { ascii8: 0, ascii16: 0, gb: 0, emoji: 0, extra_list: vec![], extra_font: 0 };
+    let one_byte_list = FontsLent::whole(vec![0]);
+    for (call, code) in [
+        (Call::Flush { fonts: one_byte_list }, 1),
+        (text_on_screen, 3),
+        (too_high, 3),
+        (Call::SetRow { row: 5 }, 4),
+        (Call::SetColumn { column: 20 }, 4),
+        (Call::DrawPoint { x: 0, y: 0, mode: 4 }, 4),
+        (Call::PaintBitmap { address: 0, x: 0, y: 0, width: 0, height: 0, mode: 5 }, 4),
+        (Call::DrawCircle { x: 0, y: 0, r: 0, fill: 2, mode: 0 }, 4),
+        (Call::PaintBitmap { address: 65_535, x: 0, y: 0, width: 9, height: 1, mode: 0 }, 5),
+        (Call::DrawCircle { x: 0, y: 0, r: 128, fill: 0, mode: 0 }, 6),
+        (Call::Flush { fonts: no_fonts }, 7),
+    ] {
+        let mut both = Both::opened();
+        model::answer(&Call::Print { text: b"a".to_vec() }, both.model.lend());
+        let before = both.model.clone();
+        assert_eq!(model::answer(&call, both.model.lend()), Answer { code, numbers: [0; 4] }, "{call:?}");
+        assert_eq!(both.model, before);
+    }
+}
+
+#[test]
+fn set_row_5_is_taken_by_the_reference() {
+    let mut reference = Reference::default();
+    reference.call(&OPEN);
+    reference.call(&Call::SetRow { row: 5 });
+    assert_eq!(reference.call(&Call::GetRow), Told::Answer([5, 0, 0, 0]));
+    reference.call(&Call::BlinkCursor);
+    assert_eq!(reference.memory()[4096 + SCREEN], 0xff, "it inverts bytes behind the screen");
+}
+
+#[test]
+fn flush_past_the_last_cell() {
+    let mut both = Both::opened();
+    both.call(&Call::WriteByte { address: 8192 + 19, byte: 128 });
+    both.call(&Call::WriteByte { address: 8192 + 100, byte: b'a' });
+    let flush = Call::Flush { fonts: FontsLent::whole(vec![]) };
+    assert_eq!(both.call(&flush), (Told::Answer([0; 4]), Answer::done([0; 4])));
+    assert_eq!(both.reference.memory(), both.model.memory, "the reference was lent zeros there");
+}
+
+#[test]
+fn gb_rows_10_to_15_show_rows_4_to_9() {
+    let shown = |text: &[u8]| {
+        let mut both = Both::opened();
+        both.call(&Call::Print { text: text.to_vec() });
+        both.call(&Call::Flush { fonts: FontsLent::whole(vec![]) });
+        assert_eq!(both.reference.memory(), both.model.memory);
+        both.model.memory[4096..4096 + SCREEN].to_vec()
+    };
+    assert_eq!(shown(&[0xaa, 0xa1]), shown(&[0xa4, 0xa1]));
+}

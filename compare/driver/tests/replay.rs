@@ -1,0 +1,83 @@
+//! The stored list holds all that is needed to replay it: the model reads it back and comes to
+//! the reference's answers and checksums.
+
+use calls::layout::{ADDED, RECORD};
+use calls::{Buffers, Call, FontsLent};
+use driver::replay;
+
+fn word(bytes: &[u8], place: usize) -> u16 {
+    u16::from_le_bytes([bytes[place], bytes[place + 1]])
+}
+
+fn signed(bytes: &[u8], place: usize) -> i32 {
+    i32::from_le_bytes([bytes[place], bytes[place + 1], bytes[place + 2], bytes[place + 3]])
+}
+
+fn call_of(stored: &[u8]) -> Call {
+    let [a, b, c, d, e, f] = std::array::from_fn(|place| stored[1 + place]);
+    match Call::NAMES[stored[0] as usize] {
+        "open" => Call::Open {
+            graphics_base: word(stored, 1),
+            text_base: word(stored, 3),
+            version: e,
+            keys: [signed(stored, 6) as u32, 0, 0, 0, 0, 0, 0, signed(stored, 10) as u32],
+        },
+        "reset" => Call::Reset,
+        "draw_point" => Call::DrawPoint { x: a, y: b, mode: c },
+        "draw_line" => Call::DrawLine { x1: a, y1: b, x2: c, y2: d, mode: e },
+        "draw_box" => Call::DrawBox { x1: a, y1: b, x2: c, y2: d, fill: e, mode: f },
+        "draw_circle" => Call::DrawCircle { x: a, y: b, r: c, fill: d, mode: e },
+        "draw_ellipse" => Call::DrawEllipse { x: a, y: b, rx: c, ry: d, fill: e, mode: f },
+        "check_point" => Call::CheckPoint { x: signed(stored, 1), y: signed(stored, 5) },
+        "paint_bitmap" => Call::PaintBitmap {
+            address: word(stored, 1),
+            x: signed(stored, 3),
+            y: signed(stored, 7),
+            width: stored[11],
+            height: stored[12],
+            mode: stored[13],
+        },
+        "print" => Call::Print { text: stored[2..2 + a as usize].to_vec() },
+        "newline" => Call::Newline,
+        "cls" => Call::Cls,
+        "flush" => Call::Flush { fonts: FontsLent::whole(vec![]) },
+        "get_row" => Call::GetRow,
+        "get_column" => Call::GetColumn,
+        "set_row" => Call::SetRow { row: a },
+        "set_column" => Call::SetColumn { column: a },
+        "set_screen_mode" => Call::SetScreenMode { mode: a },
+        "set_print_mode" => Call::SetPrintMode { mode: a },
+        "blink_cursor" => Call::BlinkCursor,
+        "clear_cursor" => Call::ClearCursor,
+        "write_byte" => Call::WriteByte { address: word(stored, 1), byte: c },
+        "take_dirty_area" => Call::TakeDirtyArea,
+        name => unreachable!("{name} is not replayed"),
+    }
+}
+
+fn checksum(state: &Buffers) -> u32 {
+    let record = &state.record;
+    let parts = [&record[..ADDED.start], &record[ADDED.end..RECORD], &state.memory];
+    parts.concat().iter().fold(0, |sum: u32, byte| sum.wrapping_mul(31).wrapping_add(*byte as u32))
+}
+
+#[test]
+fn the_model_replays_the_stored_list() {
+    let replay = replay::make();
+    let mut state = Buffers::zero();
+    let lines: Vec<&str> = replay.stdout.lines().collect();
+    assert_eq!(replay.stdin.len(), 16 * lines.len());
+    for (stored, line) in replay.stdin.chunks(16).zip(lines) {
+        let call = call_of(stored);
+        let answer = model::answer(&call, state.lend());
+        let [a, b, c, d] = answer.numbers;
+        let said = format!("{} {a} {b} {c} {d} {}", answer.code, checksum(&state));
+        assert_eq!(said, line, "{call:?}");
+    }
+}
+
+#[test]
+fn the_list_is_made_alike_each_time() {
+    let (one, other) = (replay::make(), replay::make());
+    assert_eq!((one.stdin, one.stdout), (other.stdin, other.stdout));
+}

@@ -1,0 +1,20 @@
+//! An independent reading of document 01: what every call answers and leaves, on any lent bytes.
+//! Written from document 01 and its readings, pixel by pixel and step by step, to be compared
+//! with the reference where that has the call, and with the core on everything.
+
+mod answer;
+mod bitmap;
+mod boxes;
+mod canvas;
+mod cursor;
+mod ellipse;
+mod flush;
+mod glyph;
+mod lines;
+mod modes;
+mod record;
+mod rect;
+mod send;
+mod text;
+
+pub use answer::answer;

@@ -1,0 +1,135 @@
+//! Document 01's known pictures, each with dirty and owed empty before it.
+
+use calls::layout::*;
+use calls::{Answer, Buffers, Call};
+
+struct Screen(Buffers);
+
+const GRAPHICS: usize = 4096;
+
+impl Screen {
+    fn new() -> Self {
+        let mut screen = Self(Buffers::zero());
+        screen.call(Call::Open { graphics_base: 4096, text_base: 8192, version: 1, keys: [0; 8] });
+        for _ in 0..80 {
+            screen.call(Call::Send);
+        }
+        assert_eq!(screen.owed(), [0; 4]);
+        screen
+    }
+
+    fn call(&mut self, call: Call) -> Answer {
+        model::answer(&call, self.0.lend())
+    }
+
+    fn dirty(&self) -> [u16; 4] {
+        four(&self.0.record, DIRTY)
+    }
+
+    fn owed(&self) -> [u16; 4] {
+        four(&self.0.record, OWED)
+    }
+
+    /// All pixels that are set.
+    fn pixels(&self) -> Vec<(usize, usize)> {
+        let screen = &self.0.memory[GRAPHICS..GRAPHICS + SCREEN];
+        let all = (0..HEIGHT).flat_map(|y| (0..WIDTH).map(move |x| (x, y)));
+        all.filter(|(x, y)| screen[y * LINE + x / 8] & 0x80 >> (x % 8) != 0).collect()
+    }
+}
+
+#[test]
+fn points() {
+    let mut screen = Screen::new();
+    let before = screen.0.clone();
+    screen.call(Call::DrawPoint { x: 160, y: 0, mode: 1 });
+    assert_eq!(screen.0, before);
+    screen.call(Call::DrawPoint { x: 5, y: 5, mode: 3 });
+    assert_eq!((screen.dirty(), screen.owed()), ([5, 5, 6, 6], [5, 5, 6, 6]));
+    assert_eq!(screen.pixels(), []);
+}
+
+#[test]
+fn lines() {
+    let mut screen = Screen::new();
+    screen.call(Call::DrawLine { x1: 200, y1: 90, x2: 210, y2: 90, mode: 1 });
+    assert_eq!(screen.pixels(), [(159, 79)]);
+    assert_eq!((screen.dirty(), screen.owed()), ([200, 90, 211, 91], [159, 79, 160, 80]));
+
+    let mut screen = Screen::new();
+    screen.call(Call::DrawLine { x1: 0, y1: 0, x2: 2, y2: 1, mode: 1 });
+    assert_eq!(screen.pixels(), [(0, 0), (1, 0), (2, 1)]);
+}
+
+#[test]
+fn boxes() {
+    let mut screen = Screen::new();
+    screen.call(Call::DrawBox { x1: 0, y1: 78, x2: 7, y2: 80, fill: 1, mode: 2 });
+    assert_eq!(screen.pixels(), (0..8).map(|x| (x, 78)).collect::<Vec<_>>());
+}
+
+#[test]
+fn circles() {
+    let mut screen = Screen::new();
+    screen.call(Call::DrawCircle { x: 10, y: 10, r: 1, fill: 0, mode: 1 });
+    assert_eq!(screen.pixels(), [(9, 10), (11, 10)]);
+
+    let mut screen = Screen::new();
+    screen.call(Call::DrawCircle { x: 10, y: 10, r: 2, fill: 0, mode: 1 });
+    let mut parts = vec![];
+    for (dx, dy) in [(2, 0), (2, 1), (2, 2), (0, 2)] {
+        for x in [10 - dx, 10 + dx] {
+            for y in [10 - dy, 10 + dy] {
+                parts.push((x, y));
+            }
+        }
+    }
+    parts.sort_by_key(|(x, y)| (*y, *x));
+    parts.dedup();
+    assert_eq!(screen.pixels(), parts);
+
+    for (r, code) in [(127, 0), (128, 6)] {
+        assert_eq!(screen.call(Call::DrawCircle { x: 10, y: 10, r, fill: 0, mode: 1 }).code, code);
+    }
+}
+
+#[test]
+fn bitmaps() {
+    let mut screen = Screen::new();
+    screen.0.memory[9000] = 0x81;
+    screen.0.memory[GRAPHICS] = 0xfc;
+    let paint = |address, x, width| Call::PaintBitmap { address, x, y: 0, width, height: 1, mode: 0 };
+    screen.call(paint(9000, -1, 8));
+    assert_eq!(screen.pixels(), [(6, 0)]);
+    assert_eq!(screen.dirty(), [0, 0, 7, 1]);
+    assert_eq!(screen.call(paint(65_535, 0, 9)).code, 5);
+    assert_eq!(screen.call(paint(65_534, 0, 9)).code, 0);
+}
+
+#[test]
+fn bases() {
+    let mut screen = Screen::new();
+    for (graphics_base, code) in [(63_935, 0), (63_936, 3)] {
+        let open = Call::Open { graphics_base, text_base: 0, version: 0, keys: [0; 8] };
+        assert_eq!(screen.call(open).code, code);
+    }
+}
+
+#[test]
+fn scripts() {
+    let open = Call::Open { graphics_base: 4096, text_base: 8192, version: 1, keys: [0; 8] };
+    let point = Call::DrawPoint { x: 3, y: 0, mode: 1 };
+    let sent = Answer::done([1, 0, 0, 160]);
+    let mut screen = Screen(Buffers::zero());
+    screen.call(open.clone());
+    screen.call(point.clone());
+    assert_eq!(screen.call(Call::Send), sent);
+    assert_eq!(screen.0.panel[0], 0x10);
+
+    let mut screen = Screen(Buffers::zero());
+    screen.call(open);
+    assert_eq!(screen.call(Call::Send), sent);
+    screen.call(point);
+    assert_eq!(screen.0.panel[0], 0);
+    assert_eq!(screen.owed(), [3, 0, 4, 1]);
+}
