@@ -12,6 +12,10 @@ pub const DRAW_LINE: u8 = 3;
 
 pub const DRAW_BOX: u8 = 4;
 
+pub const DRAW_CIRCLE: u8 = 5;
+
+pub const DRAW_ELLIPSE: u8 = 6;
+
 pub const CHECK_POINT: u8 = 7;
 
 pub const GET_ROW: u8 = 13;

@@ -1,5 +1,4 @@
 -- `replay::replay_all` is safe and ends: the turns that are left fall, and nobody changes the lengths of record and memory.
-use Prim.Native.Nat.{ℕ}
 use mathlib.Core.Path.{_≡_}
 use borrow.Author.Needs.{needs}
 use native.Mathlib.Omega.{arith}

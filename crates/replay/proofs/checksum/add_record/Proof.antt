@@ -1,3 +1,4 @@
+-- The sum stays below 2^32, whether a byte is added or not; what is left of the record falls.
 use native.Mathlib.Omega.{arith}
 use mathlib.Core.Logic.{⊎-elim}
 use borrow.Author.Needs.{needs}
@@ -5,9 +6,6 @@ use Prim.Native.Nat.{_<_, _-_}
 use lib.ListN.{length}
 use Rattle.replay.proofs.checksum.add_record.Statement.{statement}
 use Rattle.replay.proofs.checksum.add_record.Tie as tie
-use Rattle.replay.proofs.checksum.add_record.Reads as reads
-use Rattle.replay.proofs.checksum.add_record.Lts as lts
-use Rattle.replay.proofs.checksum.add_byte.Reads as add-byte-reads
 
 abbrev Inv-loop : tie.InvT-loop
 Inv-loop rec sum₀ i₀ sum i = sum < 4294967296
@@ -15,31 +13,24 @@ Inv-loop rec sum₀ i₀ sum i = sum < 4294967296
 abbrev μ-loop : tie.MeasureT-loop
 μ-loop rec sum₀ i₀ sum i = length rec - i
 
--- src/checksum.rt:21:5
 loop-holds : tie.Need-loop-holds Inv-loop μ-loop
 loop-holds c = search needs
 
--- src/checksum.rt:23:33
 shared-slice-read-add-byte : tie.Need-shared-slice-read-add-byte Inv-loop μ-loop
 shared-slice-read-add-byte c = search needs
 
--- src/checksum.rt:23:13
 add-byte-requires : tie.Need-add-byte-requires Inv-loop μ-loop
 add-byte-requires c κs = search needs
 
--- src/checksum.rt:25:9
 add-i : tie.Need-add-i Inv-loop μ-loop
 add-i c = search needs
 
--- src/checksum.rt:21:5
 loop-less : tie.Need-loop-less Inv-loop μ-loop
 loop-less c = search needs
 
--- src/checksum.rt:21:5
 loop-again : tie.Need-loop-again Inv-loop μ-loop
 loop-again c = ⊎-elim (λ w. omega arith) (λ w. omega arith) (c .if1 .came)
 
--- src/checksum.rt:16:1
 returns : tie.Need-returns Inv-loop μ-loop
 returns c = search needs
 
