@@ -46,7 +46,7 @@ fn clamp_mark(z: u16, size: usize) -> u16
     clamp(z as usize, size) as u16
 }
 
-fn lower(stride: usize, height: usize, q: Rect) -> Rect
+pub fn lower(stride: usize, height: usize, q: Rect) -> Rect
     requires { ⌜ (0 < stride) × (stride ≤ 32) × (0 < height) × (height ≤ 256) ⌝ }
     ensures { λ r. ⌜ r ≡ lowered (8 * stride) height q ⌝ }
 {

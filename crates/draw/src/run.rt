@@ -5,7 +5,7 @@ ghost use lib.ListN.{length};
 ghost use Rattle.model.specs.Pixels.{Screen, draw};
 ghost use Rattle.model.specs.Lines.{pixelRun};
 ghost use Rattle.laws.specs.Masks.{startMask, endMask};
-ghost use Rattle.laws.specs.Runs.{maskByte, masked};
+ghost use Rattle.laws.specs.Runs.{clears, flips, allOrNone, maskByte, masked, maskedBytes};
 use model::DrawMode;
 
 // The pixels of x's byte from x on.
@@ -24,15 +24,35 @@ fn end_mask(x: usize) -> u8
     !(127u8 >> k)
 }
 
+// All pixels of a byte where the mode clears those that it draws, before it inverts any; else none.
+fn clears(mode: DrawMode) -> u8
+    ensures { λ r. ⌜ r ≡ allOrNone (clears mode) ⌝ }
+{
+    match mode {
+        DrawMode::Clear => 255,
+        DrawMode::Or => 255,
+        DrawMode::Xor => 0,
+        DrawMode::Unknown => 0,
+    }
+}
+
+// All pixels of a byte where the mode inverts those that it draws; else none.
+fn flips(mode: DrawMode) -> u8
+    ensures { λ r. ⌜ r ≡ allOrNone (flips mode) ⌝ }
+{
+    match mode {
+        DrawMode::Clear => 0,
+        DrawMode::Or => 255,
+        DrawMode::Xor => 255,
+        DrawMode::Unknown => 255,
+    }
+}
+
+// A byte with the pixels of the mask drawn. There is no branch, so that whole rows are drawn many bytes at a time.
 fn mask_byte(mode: DrawMode, b: u8, mask: u8) -> u8
     ensures { λ r. ⌜ r ≡ maskByte mode b mask ⌝ }
 {
-    match mode {
-        DrawMode::Clear => b & !mask,
-        DrawMode::Or => b | mask,
-        DrawMode::Xor => b ^ mask,
-        DrawMode::Unknown => b ^ mask,
-    }
+    (b & !(mask & clears(mode))) ^ (mask & flips(mode))
 }
 
 fn draw_mask(screen: &mut [u8], at: usize, mask: u8, mode: DrawMode)
@@ -43,25 +63,15 @@ fn draw_mask(screen: &mut [u8], at: usize, mask: u8, mode: DrawMode)
     screen[at] = b;
 }
 
-// The whole bytes of line y from `from` up to `to`.
-fn draw_bytes(
-    stride: usize,
-    height: usize,
-    screen: &mut [u8],
-    y: usize,
-    from: usize,
-    to: usize,
-    mode: DrawMode,
-)
-    requires { ⌜ Screen stride height (now screen) ⌝ }
-    requires { ⌜ (from ≤ to) × (to ≤ stride) × (y < height) ⌝ }
-    ensures { λ _. ⌜ now (screen .exit) ≡ draw stride (pixelRun (8 * from) y (8 * (to - from)) mode) (now (screen .entry)) ⌝ }
+// The bytes from `from` up to `to`, whole.
+pub fn draw_bytes(screen: &mut [u8], from: usize, to: usize, mode: DrawMode)
+    requires { ⌜ (from ≤ to) × (to ≤ length (now screen)) ⌝ }
+    ensures { λ _. ⌜ now (screen .exit) ≡ maskedBytes (now (screen .entry)) from (to - from) mode ⌝ }
 {
-    let line = stride * y;
-    let mut k = from;
-    while k < to {
-        draw_mask(screen, line + k, 255, mode);
-        k += 1;
+    let mut at = from;
+    while at < to {
+        draw_mask(screen, at, 255, mode);
+        at += 1;
     }
 }
 
@@ -89,6 +99,6 @@ pub fn draw_run(
         return;
     }
     draw_mask(screen, line + first, start, mode);
-    draw_bytes(stride, height, screen, y, first + 1, last, mode);
+    draw_bytes(screen, line + first + 1, line + last, mode);
     draw_mask(screen, line + last, end, mode);
 }

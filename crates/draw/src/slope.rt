@@ -13,7 +13,7 @@ use model::DrawMode;
 fn reaches(error: u8, dist: u8, longer: u8) -> bool
     ensures { λ r. ⌜ r ≡ leb longer (errorSum error dist) ⌝ }
 {
-    longer <= std::num::wrapping_add_u8(error, dist)
+    std::num::wrapping_add_u8(error, dist) >= longer
 }
 
 // The error sum after its turn.

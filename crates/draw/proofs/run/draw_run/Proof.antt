@@ -37,10 +37,16 @@ draw-mask-requires-2 : tie.Need-draw-mask-requires-2
 draw-mask-requires-2 c κs = omega (arith, line-in _ _ (c .before .before .before .before .before .args .y) (c .before .before .before .before .before .pre .0) (c .before .before .before .before .before .pre .1 .2))
 
 add-draw-bytes : tie.Need-add-draw-bytes
-add-draw-bytes c = search needs
+add-draw-bytes c = omega (arith, line-in _ _ (c .before .before .before .before .before .before .before .before .before .args .y) (c .before .before .before .before .before .before .before .before .before .pre .0) (c .before .before .before .before .before .before .before .before .before .pre .1 .2))
+
+add-draw-bytes-2 : tie.Need-add-draw-bytes-2
+add-draw-bytes-2 c = omega (arith, line-in _ _ (c .before .before .before .before .before .before .before .before .before .args .y) (c .before .before .before .before .before .before .before .before .before .pre .0) (c .before .before .before .before .before .before .before .before .before .pre .1 .2))
+
+add-draw-bytes-3 : tie.Need-add-draw-bytes-3
+add-draw-bytes-3 c = omega (arith, line-in _ _ (c .before .before .before .before .before .before .before .before .before .args .y) (c .before .before .before .before .before .before .before .before .before .pre .0) (c .before .before .before .before .before .before .before .before .before .pre .1 .2))
 
 draw-bytes-requires : tie.Need-draw-bytes-requires
-draw-bytes-requires c κs = search needs
+draw-bytes-requires c κs = omega (arith, line-in _ _ (c .before .before .before .before .before .before .before .before .before .args .y) (c .before .before .before .before .before .before .before .before .before .pre .0) (c .before .before .before .before .before .before .before .before .before .pre .1 .2))
 
 add-draw-mask-3 : tie.Need-add-draw-mask-3
 add-draw-mask-3 c = omega (arith, line-in _ _ (c .before .before .before .before .before .before .before .before .before .before .before .before .before .args .y) (c .before .before .before .before .before .before .before .before .before .before .before .before .before .pre .0) (c .before .before .before .before .before .before .before .before .before .before .before .before .before .pre .1 .2))
@@ -55,7 +61,7 @@ returns-2 : tie.Need-returns-2
 unfolding Bytes
 returns-2 c =
     let a = c .before .before .before .before .before .before .before .before .before .before .before .before .before .before .before .before in
-    many-bytes _ _ _ _ _ _ _ _ _ _ (a .pre .0) (λ i. omega (arith, c .before .before .before .before .before .before .before .before .before .before .before .before .before .before .before .slice-known .given i)) (λ i. omega (arith, c .before .before .before .before .slice-known4 .given i)) (a .pre .1)
+    many-bytes _ _ _ _ _ _ _ _ _ _ (a .pre .0) (λ i. omega (arith, c .before .before .before .before .before .before .before .before .before .before .before .before .before .before .before .slice-known .given i)) (a .pre .1)
     (c .before .before .before .before .before .before .before .before .before .before .before .before .before .before .start-mask .ensures) (c .before .before .before .before .before .before .before .before .before .before .before .before .before .end-mask .ensures) (c .before .before .before .before .before .before .before .before .before .before .before .before .if1 .left)
     (c .before .before .before .before .before .before .before .before .before .before .draw-mask2 .ensures) (c .before .before .before .before .before .before .draw-bytes .ensures) (c .before .before .draw-mask3 .ensures)
 
@@ -73,6 +79,8 @@ draw-run-spec =
     add-draw-mask-2
     draw-mask-requires-2
     add-draw-bytes
+    add-draw-bytes-2
+    add-draw-bytes-3
     draw-bytes-requires
     add-draw-mask-3
     draw-mask-requires-3
