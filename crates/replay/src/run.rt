@@ -3,6 +3,7 @@ use crate::answer;
 use crate::answer::Answer;
 use crate::call;
 use caption::dirty;
+use caption::ellipses;
 use caption::lines;
 use caption::open;
 use caption::points;
@@ -48,6 +49,8 @@ fn run_draw(rec: &mut [u8], memory: &mut [u8], stored: &[u8; 16]) -> u32 {
         call::DRAW_POINT => points::caption_draw_point(rec, memory, a, b, c),
         call::DRAW_LINE => lines::caption_draw_line(rec, memory, a, b, c, d, e),
         call::DRAW_BOX => lines::caption_draw_box(rec, memory, a, b, c, d, e, f),
+        call::DRAW_CIRCLE => ellipses::caption_draw_circle(rec, memory, a, b, c, d, e),
+        call::DRAW_ELLIPSE => ellipses::caption_draw_ellipse(rec, memory, a, b, c, d, e, f),
         _ => UNKNOWN,
     }
 }
