@@ -10,7 +10,8 @@ use crate::marks::least;
 use crate::marks::lowered_marks;
 use crate::marks::no_marks;
 use crate::marks::span_marks;
-use crate::point::plot;
+use crate::point::plot_mask;
+use crate::point::point_mask;
 use crate::run::draw_run;
 use crate::slope::draw_slope;
 use model::DrawMode;
@@ -60,10 +61,11 @@ fn draw_column(
     requires { ⌜ (x < 8 * stride) × (top + count ≤ height) ⌝ }
     ensures { λ _. ⌜ now (screen .exit) ≡ draw stride (pixelColumn x top count mode) (now (screen .entry)) ⌝ }
 {
+    let mask = point_mask(x);
     let mut y = top;
     let mut points = count;
     while 0 < points {
-        plot(stride, height, screen, x, y, mode);
+        plot_mask(stride, height, screen, x, y, mask, mode);
         y += 1;
         points -= 1;
     }

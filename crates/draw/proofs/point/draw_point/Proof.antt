@@ -6,8 +6,11 @@ use Rattle.draw.proofs.point.draw_point.Tie as tie
 on-screen-requires : tie.Need-on-screen-requires
 on-screen-requires c κs = search needs
 
-plot-requires : tie.Need-plot-requires
-plot-requires c κs = (c .before .before .before .before .pre, on-true _ _ _ _ (cc))
+point-mask-requires : tie.Need-point-mask-requires
+point-mask-requires c κs = search needs
+
+plot-mask-requires : tie.Need-plot-mask-requires
+plot-mask-requires c κs = (c .before .before .before .before .before .pre, (on-true _ _ _ _ (cc), c .before .point-mask .ensures))
 
 span-marks-requires : tie.Need-span-marks-requires
 span-marks-requires c κs = search needs
@@ -29,7 +32,8 @@ draw-point-spec =
     tie.close
     (tie.spec
     on-screen-requires
-    plot-requires
+    point-mask-requires
+    plot-mask-requires
     span-marks-requires
     same-length
     returns

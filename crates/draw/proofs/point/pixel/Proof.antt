@@ -1,6 +1,6 @@
+use Rattle.model.specs.Record.{Bytes}
 use native.Mathlib.Omega.{arith}
-use Rattle.model.specs.Pixels.{bit}
-use Rattle.laws.specs.Points.{place-in}
+use Rattle.laws.specs.Points.{place-in, seen-bit}
 use borrow.Author.Needs.{needs}
 use Rattle.draw.proofs.point.pixel.Statement.{statement}
 use Rattle.draw.proofs.point.pixel.Tie as tie
@@ -11,18 +11,16 @@ mul-at c = omega (arith, place-in _ _ (c .before .args .x) (c .before .args .y) 
 add-at : tie.Need-add-at
 add-at c = omega (arith, place-in _ _ (c .before .args .x) (c .before .args .y) (c .before .pre .0) (c .before .pre .1))
 
-cast-k : tie.Need-cast-k
-cast-k c = search needs
+point-mask-requires : tie.Need-point-mask-requires
+point-mask-requires c κs = search needs
 
-shared-slice-read-see : tie.Need-shared-slice-read-see
-shared-slice-read-see c = omega (arith, place-in _ _ (c .before .before .args .x) (c .before .before .args .y) (c .before .before .pre .0) (c .before .before .pre .1))
-
-see-requires : tie.Need-see-requires
-see-requires c κs = search needs
+shared-slice-read-result : tie.Need-shared-slice-read-result
+shared-slice-read-result c = omega (arith, place-in _ _ (c .before .before .before .args .x) (c .before .before .before .args .y) (c .before .before .before .pre .0) (c .before .before .before .pre .1))
 
 returns : tie.Need-returns
-unfolding bit
-returns c = c .see .ensures
+unfolding Bytes
+returns c = seen-bit _ _ (c .before .before .before .args .y) _ (λ i. omega (arith, c .shared-slice-known2 .given i)) (c .before .point-mask .ensures)
 
 pub pixel-spec : {M : Type 1} → statement M
-pixel-spec = tie.close (tie.spec mul-at add-at cast-k shared-slice-read-see see-requires returns)
+pixel-spec =
+    tie.close (tie.spec mul-at add-at point-mask-requires shared-slice-read-result returns)

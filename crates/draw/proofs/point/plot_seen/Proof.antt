@@ -6,8 +6,11 @@ use Rattle.draw.proofs.point.plot_seen.Tie as tie
 on-screen-requires : tie.Need-on-screen-requires
 on-screen-requires c κs = search needs
 
-plot-requires : tie.Need-plot-requires
-plot-requires c κs = (c .before .before .before .before .pre, on-true _ _ _ _ (cc))
+point-mask-requires : tie.Need-point-mask-requires
+point-mask-requires c κs = search needs
+
+plot-mask-requires : tie.Need-plot-mask-requires
+plot-mask-requires c κs = (c .before .before .before .before .before .pre, (on-true _ _ _ _ (cc), c .before .point-mask .ensures))
 
 same-length : tie.Need-same-length
 same-length c = search needs
@@ -20,4 +23,11 @@ returns-2 c = search seen-none
 
 pub plot-seen-spec : {M : Type 1} → statement M
 plot-seen-spec =
-    tie.close (tie.spec on-screen-requires plot-requires same-length returns returns-2)
+    tie.close
+    (tie.spec
+    on-screen-requires
+    point-mask-requires
+    plot-mask-requires
+    same-length
+    returns
+    returns-2)

@@ -1,11 +1,7 @@
-use native.Mathlib.Omega.{arith}
-use Rattle.laws.specs.Points.{clear-byte, or-byte, xor-byte, same-byte}
+use Rattle.laws.specs.Points.{pointByte}
 use borrow.Author.Needs.{needs}
 use Rattle.draw.proofs.point.point_byte.Statement.{statement}
 use Rattle.draw.proofs.point.point_byte.Tie as tie
-
-shr-mask : tie.Need-shr-mask
-shr-mask c = search needs
 
 enum-told : tie.Need-enum-told
 enum-told c = search needs
@@ -20,27 +16,22 @@ enum-told-4 : tie.Need-enum-told-4
 enum-told-4 c = search needs
 
 returns : tie.Need-returns
-returns c = clear-byte (c .before .before .args .b) (c .before .before .args .k) (cc) (omega arith) (omega arith)
+unfolding pointByte
+returns c = cc
 
 returns-2 : tie.Need-returns-2
-returns-2 c = or-byte (c .before .before .args .b) (c .before .before .args .k) (cc) (omega arith) (omega arith)
+unfolding pointByte
+returns-2 c = cc
 
 returns-3 : tie.Need-returns-3
-returns-3 c = xor-byte (c .before .before .args .b) (c .before .before .args .k) (cc) (omega arith) (omega arith)
+unfolding pointByte
+returns-3 c = cc
 
 returns-4 : tie.Need-returns-4
-returns-4 c = same-byte (c .before .before .args .b) (c .before .before .args .k) (cc)
+unfolding pointByte
+returns-4 c = cc
 
 pub point-byte-spec : {M : Type 1} → statement M
 point-byte-spec =
     tie.close
-    (tie.spec
-    shr-mask
-    enum-told
-    enum-told-2
-    enum-told-3
-    enum-told-4
-    returns
-    returns-2
-    returns-3
-    returns-4)
+    (tie.spec enum-told enum-told-2 enum-told-3 enum-told-4 returns returns-2 returns-3 returns-4)
