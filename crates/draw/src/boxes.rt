@@ -8,14 +8,14 @@ ghost use Rattle.laws.specs.Boxes.{wholeLines};
 use crate::line::draw_hor_line;
 use crate::line::draw_ver_line;
 use crate::line::is_unknown;
-use crate::marks::clamp;
-use crate::marks::greatest;
-use crate::marks::least;
-use crate::marks::lowered_marks;
-use crate::run::draw_bytes;
-use crate::run::draw_run;
 use model::DrawMode;
 use model::Marks;
+use pixels::marks::clamp;
+use pixels::marks::greatest;
+use pixels::marks::least;
+use pixels::marks::lowered_marks;
+use pixels::run::draw_bytes;
+use pixels::run::draw_run;
 
 // Row by row; those beyond the last line land on it again.
 fn fill_rows(

@@ -6,8 +6,8 @@ ghost use lib.Dec.{leb, ltb};
 ghost use Rattle.model.specs.Pixels.{Screen, draw, seen};
 ghost use Rattle.model.specs.Lines.{errorSum, stepped, nextError, slope, sloped};
 ghost use Rattle.laws.specs.Slopes.{slopeBy};
-use crate::point::plot_seen;
 use model::DrawMode;
+use pixels::point::plot_seen;
 
 // Whether an error sum, which wraps at 256, reaches the longer distance in its turn.
 fn reaches(error: u8, dist: u8, longer: u8) -> bool
