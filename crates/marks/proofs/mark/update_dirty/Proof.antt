@@ -1,7 +1,7 @@
-use Rattle.record.proofs.Updates.{is-dirty}
+use Rattle.marks.proofs.Marking.{is-dirty}
 use borrow.Author.Needs.{needs}
-use Rattle.record.proofs.mark.update_dirty.Statement.{statement}
-use Rattle.record.proofs.mark.update_dirty.Tie as tie
+use Rattle.marks.proofs.mark.update_dirty.Statement.{statement}
+use Rattle.marks.proofs.mark.update_dirty.Tie as tie
 
 join-rects-requires : tie.Need-join-rects-requires
 join-rects-requires c κs = search needs

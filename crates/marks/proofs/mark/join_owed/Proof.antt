@@ -1,7 +1,7 @@
-use Rattle.record.proofs.Updates.{is-owing}
+use Rattle.marks.proofs.Marking.{is-owing}
 use borrow.Author.Needs.{needs}
-use Rattle.record.proofs.mark.join_owed.Statement.{statement}
-use Rattle.record.proofs.mark.join_owed.Tie as tie
+use Rattle.marks.proofs.mark.join_owed.Statement.{statement}
+use Rattle.marks.proofs.mark.join_owed.Tie as tie
 
 array-copy-out-owed : tie.Need-array-copy-out-owed
 array-copy-out-owed c = search needs
