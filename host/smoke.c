@@ -50,6 +50,12 @@ static void refusals(void) {
     refused("box 1", caption_draw_box(R, LESS_MEMORY, 0, 0, 1, 1, 0, 9), 1);
     refused("box 4", caption_draw_box(R, M, 0, 0, 1, 1, 2, 0), 4);
     refused("box 4", caption_draw_box(R, M, 0, 0, 1, 1, 0, 4), 4);
+    refused("circle 1", caption_draw_circle(LESS_RECORD, M, 0, 0, 200, 9, 9), 1);
+    refused("circle 4", caption_draw_circle(R, M, 0, 0, 200, 2, 0), 4);
+    refused("circle 6", caption_draw_circle(R, M, 0, 0, 128, 0, 0), 6);
+    refused("ellipse 1", caption_draw_ellipse(R, LESS_MEMORY, 0, 0, 200, 1, 9, 9), 1);
+    refused("ellipse 4", caption_draw_ellipse(R, M, 0, 0, 200, 1, 0, 4), 4);
+    refused("ellipse 6", caption_draw_ellipse(R, M, 0, 0, 1, 128, 1, 3), 6);
     refused("check 1", caption_check_point(R, LESS_MEMORY, 0, 0).code, 1);
     refused("poke 1", caption_write_byte(LESS_RECORD, M, 4096, 1), 1);
     refused("get row 1", caption_get_row(LESS_RECORD).code, 1);
@@ -71,6 +77,8 @@ static void broken_record(void) {
     refused("point 2", caption_draw_point(R, M, 0, 0, 9), 2);
     refused("line 2", caption_draw_line(R, M, 0, 0, 1, 1, 9), 2);
     refused("box 2", caption_draw_box(R, M, 0, 0, 1, 1, 9, 9), 2);
+    refused("circle 2", caption_draw_circle(R, M, 0, 0, 200, 9, 9), 2);
+    refused("ellipse 2", caption_draw_ellipse(R, M, 0, 0, 200, 1, 9, 9), 2);
     refused("check 2", caption_check_point(R, M, 0, 0).code, 2);
     refused("poke 2", caption_write_byte(R, M, 4096, 1), 2);
     refused("get row 2", caption_get_row(R).code, 2);

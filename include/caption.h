@@ -1,7 +1,7 @@
 /* The 160 by 80 caption screen: the exported calls of libcaption.a (rt staticlib caption).
 
    Every call tests what it is lent and told. It answers 0 where it is done, or the number of a refusal, and then no lent byte has changed and all other
-   numbers of the result are 0: 1 LENT, 2 STATE, 3 WINDOW, 4 VALUE (docs/CALLS.md says which call gives which, in testing order).
+   numbers of the result are 0: 1 LENT, 2 STATE, 3 WINDOW, 4 VALUE, 6 RADIUS (docs/CALLS.md says which call gives which, in testing order).
 
    Trusted of the caller, and checked by no call: each pointer is not null, also at length 0, and valid for its length; a buffer that is lent without
    `const` overlaps no other buffer of the same call. */
@@ -44,6 +44,11 @@ uint32_t caption_draw_line(uint8_t *record, size_t record_len, uint8_t *memory, 
                            uint8_t y2, uint8_t mode);
 uint32_t caption_draw_box(uint8_t *record, size_t record_len, uint8_t *memory, size_t memory_len, uint8_t x1, uint8_t y1, uint8_t x2,
                           uint8_t y2, uint8_t fill, uint8_t mode);
+/* radii 0-127; two zero radii are a point, and an outline in Unknown does nothing, whatever the radii */
+uint32_t caption_draw_circle(uint8_t *record, size_t record_len, uint8_t *memory, size_t memory_len, uint8_t x, uint8_t y, uint8_t r,
+                             uint8_t fill, uint8_t mode);
+uint32_t caption_draw_ellipse(uint8_t *record, size_t record_len, uint8_t *memory, size_t memory_len, uint8_t x, uint8_t y, uint8_t rx,
+                              uint8_t ry, uint8_t fill, uint8_t mode);
 caption_value caption_check_point(const uint8_t *record, size_t record_len, const uint8_t *memory, size_t memory_len, int32_t x, int32_t y);
 
 caption_value caption_get_row(const uint8_t *record, size_t record_len);
