@@ -16,3 +16,4 @@ pub mod Poke
 pub mod Sends
 pub mod Calls
 pub mod Lists
+pub mod Script
