@@ -1,9 +1,10 @@
 // The exported calls. Each tests what it is lent and told, in the order of its refusals, and then does its work or changes nothing.
 // A contract cites the call's `outcome` (crates/model/specs/Calls.antt) on every input; `[]` stands for what the call is not lent.
-mod dirty;
-mod glass;
-mod open;
-mod points;
-mod poke;
-mod sends;
-mod text;
+pub mod dirty;
+pub mod glass;
+pub mod lines;
+pub mod open;
+pub mod points;
+pub mod poke;
+pub mod sends;
+pub mod text;

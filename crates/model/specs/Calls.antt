@@ -17,6 +17,8 @@ use Rattle.model.specs.Refusals.{LENT, STATE, WINDOW, VALUE, Test, test,
 use Rattle.model.specs.Marks.{Drawing, drawnOn, marked, withDirty}
 use Rattle.model.specs.Open.{clearMemory, openState, resetState}
 use Rattle.model.specs.Points.{drawMode, point, checkPoint}
+use Rattle.model.specs.Lines.{line}
+use Rattle.model.specs.Boxes.{box}
 use Rattle.model.specs.Text.{withRow, withColumn, withPrintMode}
 use Rattle.model.specs.Poke.{poked, pokeMark}
 use Rattle.model.specs.Sends.{sendPending, sendNumbers, sendPanel}
@@ -28,6 +30,10 @@ pub data Call : Type 0 where
   reset : Call
   -- x, y, mode
   drawPoint : ℕ → ℕ → ℕ → Call
+  -- x1, y1, x2, y2, mode
+  drawLine : ℕ → ℕ → ℕ → ℕ → ℕ → Call
+  -- x1, y1, x2, y2, fill, mode
+  drawBox : ℕ → ℕ → ℕ → ℕ → ℕ → ℕ → Call
   checkPixel : ℤ → ℤ → Call
   -- address, byte
   writeByte : ℕ → ℕ → Call
@@ -87,6 +93,9 @@ refusals g (opening graphics text version keys) l =
     lentTest g (l .rec) (memoryFits l) ∷ test WINDOW (windows g graphics text) ∷ test VALUE (leb version 1) ∷ []
 refusals g reset l = lentTest g (l .rec) (memoryFits l) ∷ stateTest g (l .rec) ∷ []
 refusals g (drawPoint x y mode) l = lentTest g (l .rec) (memoryFits l) ∷ stateTest g (l .rec) ∷ test VALUE (leb mode 3) ∷ []
+refusals g (drawLine x1 y1 x2 y2 mode) l = lentTest g (l .rec) (memoryFits l) ∷ stateTest g (l .rec) ∷ test VALUE (leb mode 3) ∷ []
+refusals g (drawBox x1 y1 x2 y2 fill mode) l =
+    lentTest g (l .rec) (memoryFits l) ∷ stateTest g (l .rec) ∷ test VALUE (leb fill 1 && leb mode 3) ∷ []
 refusals g (checkPixel x y) l = lentTest g (l .rec) (memoryFits l) ∷ stateTest g (l .rec) ∷ []
 refusals g (writeByte a v) l = lentTest g (l .rec) (memoryFits l) ∷ stateTest g (l .rec) ∷ []
 refusals g getRow l = lentTest g (l .rec) true ∷ stateTest g (l .rec) ∷ []
@@ -102,6 +111,8 @@ unfoldable pub numbers : Call → ℕ
 numbers (opening graphics text version keys) = 0
 numbers reset = 0
 numbers (drawPoint x y mode) = 0
+numbers (drawLine x1 y1 x2 y2 mode) = 0
+numbers (drawBox x1 y1 x2 y2 fill mode) = 0
 numbers (checkPixel x y) = 1
 numbers (writeByte a v) = 0
 numbers getRow = 1
@@ -125,6 +136,10 @@ drawing g d l =
 unfoldable pub changed : Geometry → (Head → Head) → Lent → Lent
 changed g f l = let s = decode g (l .rec) in lent (encode (withHead (f (s .head)) s)) (l .memory) (l .panel)
 
+-- the fill flag, 0 or 1
+abbrev pub filled : ℕ → Bool
+filled n = eqb n 1
+
 abbrev pub flag : Bool → ℕ
 flag b = cond b 1 0
 
@@ -138,6 +153,8 @@ done g reset l =
     let s = decode g (l .rec) in
     answered 0 [] (lent (encode (resetState g s)) (clearMemory (s .keys)) (l .panel))
 done g (drawPoint x y mode) l = answered 0 [] (drawing g (point (g .stride) (height g) x y (drawMode mode)) l)
+done g (drawLine x1 y1 x2 y2 mode) l = answered 0 [] (drawing g (line (g .stride) (height g) x1 y1 x2 y2 (drawMode mode)) l)
+done g (drawBox x1 y1 x2 y2 fill mode) l = answered 0 [] (drawing g (box (g .stride) (height g) x1 y1 x2 y2 (filled fill) (drawMode mode)) l)
 done g (checkPixel x y) l =
     answered 0 (flag (checkPoint (g .stride) (height g) (screenOf g (decode g (l .rec) .head .graphics) (l .memory)) x y) ∷ []) l
 done g (writeByte a v) l =

@@ -9,9 +9,14 @@ use Rattle.model.specs.Rects.{none}
 use Rattle.model.specs.Refusals.{refusal, ruled}
 use Rattle.model.specs.Marks.{withDirty}
 use Rattle.model.specs.Points.{drawMode, point}
+use Rattle.model.specs.Lines.{line}
+use Rattle.model.specs.Boxes.{box}
 use Rattle.model.specs.Text.{withRow, withColumn, withPrintMode}
-use Rattle.model.specs.Calls.{Call, opening, reset, drawPoint, checkPixel, writeByte, getRow, getColumn, setRow, setColumn, setPrintMode, takeDirtyArea, send, Lent, answered, refusals, refused, done, outcome}
+use Rattle.model.specs.Calls.{Call, opening, reset, drawPoint, drawLine, drawBox, checkPixel, writeByte, getRow, getColumn, setRow, setColumn, setPrintMode, takeDirtyArea, send, Lent, answered, filled, refusals, refused, done, outcome}
 use Rattle.model.specs.Lists.{accepted, Typed, Item, here, elsewhere, after, opens, effect, effectAt, itemEffect}
+use Rattle.laws.specs.Rects.{passes-fits}
+use Rattle.laws.specs.DrawLine.{line-fits}
+use Rattle.laws.specs.Boxes.{box-fits}
 use Rattle.laws.specs.Calls.{accepted-pass}
 use Rattle.order.specs.Sim.{Simulates}
 use Rattle.order.specs.Step.{Glass, Good, Step, view, same-step}
@@ -36,6 +41,12 @@ module _ (g : Geometry) (k : Glass g) where
   call-step (opening graphics text version keys) l t q a = opening-step graphics text version keys l t a (q .panel)
   call-step reset l t q a = reset-step g k l q
   call-step (drawPoint x y mode) l t q a = drawing-step g k (point (g .stride) (height g) x y (drawMode mode)) l q (point-fits g k x y (drawMode mode))
+  call-step (drawLine x1 y1 x2 y2 mode) l t q a =
+      drawing-step g k (line (g .stride) (height g) x1 y1 x2 y2 (drawMode mode)) l q
+      (passes-fits 256 0 256 _ (line-fits (g .stride) (height g) x1 y1 x2 y2 (drawMode mode) (t .0) (t .1) (t .2) (t .3)))
+  call-step (drawBox x1 y1 x2 y2 fill mode) l t q a =
+      drawing-step g k (box (g .stride) (height g) x1 y1 x2 y2 (filled fill) (drawMode mode)) l q
+      (passes-fits 256 0 256 _ (box-fits (g .stride) (height g) x1 y1 x2 y2 (filled fill) (drawMode mode) (t .0) (t .1) (t .2) (t .3)))
   call-step (checkPixel x y) l t q a = same-step g l q
   call-step (writeByte b v) l t q a = poke-step g k b v l q
   call-step getRow l t q a = same-step g l q

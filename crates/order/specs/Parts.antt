@@ -5,7 +5,7 @@ use Prim.Native.Nat.{ℕ, zero, suc}
 use Rattle.model.specs.Geometry.{Geometry}
 use Rattle.model.specs.Memory.{zeros}
 use Rattle.model.specs.Refusals.{refusal, ruled}
-use Rattle.model.specs.Calls.{Call, opening, reset, drawPoint, checkPixel, writeByte, getRow, getColumn, setRow, setColumn, setPrintMode, takeDirtyArea, send, Lent, lent, Outcome, answered, refusals, numbers, refused, drawing, changed, done, outcome}
+use Rattle.model.specs.Calls.{Call, opening, reset, drawPoint, drawLine, drawBox, checkPixel, writeByte, getRow, getColumn, setRow, setColumn, setPrintMode, takeDirtyArea, send, Lent, lent, Outcome, answered, refusals, numbers, refused, drawing, changed, done, outcome}
 
 -- the record alone; record and memory; all three
 pub data Parts : Type 0 where
@@ -17,6 +17,8 @@ unfoldable pub takes : Call → Parts
 takes (opening graphics text version keys) = with-memory
 takes reset = with-memory
 takes (drawPoint x y mode) = with-memory
+takes (drawLine x1 y1 x2 y2 mode) = with-memory
+takes (drawBox x1 y1 x2 y2 fill mode) = with-memory
 takes (checkPixel x y) = with-memory
 takes (writeByte a v) = with-memory
 takes getRow = record-only
@@ -49,6 +51,8 @@ module _ (g : Geometry) where
   each (opening graphics text version keys) l = (refl, refl)
   each reset l = (refl, refl)
   each (drawPoint x y mode) l = (refl, refl)
+  each (drawLine x1 y1 x2 y2 mode) l = (refl, refl)
+  each (drawBox x1 y1 x2 y2 fill mode) l = (refl, refl)
   each (checkPixel x y) l = (refl, refl)
   each (writeByte a v) l = (refl, refl)
   each getRow l = (refl, refl)
