@@ -5,7 +5,7 @@ use mathlib.Core.List.{List, [], _∷_, map}
 use Prim.Native.Nat.{ℕ, _+_, _-_, _*_}
 use lib.Dec.{ltb, leb, eqb}
 use lib.ListN.{getD, take}
-use Rattle.model.specs.Calls.{Call, drawPoint, writeByte, send}
+use Rattle.model.specs.Calls.{Call, drawPoint, drawLine, writeByte, send}
 
 -- ---- lines
 
@@ -73,7 +73,7 @@ abbrev pub unknownWord : List ℕ
 unknownWord = 117 ∷ 110 ∷ 107 ∷ 110 ∷ 111 ∷ 119 ∷ 110 ∷ []
 
 unfoldable pub mode : List ℕ → Taken
-mode s = orElse (word 0 clearWord s) (orElse (word 1 orWord s) (orElse (word 2 xorWord s) (word 3 unknownWord s)))
+mode s = orElse (orElse (orElse (word 0 clearWord s) (word 1 orWord s)) (word 2 xorWord s)) (word 3 unknownWord s)
 
 unfoldable pub piece : ℕ → List ℕ → Taken
 piece p s = cond (eqb p 35) (number 255 s) (cond (eqb p 64) (number 65535 s) (cond (eqb p 42) (mode s) (word 0 (p ∷ []) s)))
@@ -109,6 +109,10 @@ matched (p ∷ ps) s fs = andThen (piece p s) (λ v t. matched ps t (kept p v fs
 abbrev pub pointPattern : List ℕ
 pointPattern = 40 ∷ 112 ∷ 111 ∷ 105 ∷ 110 ∷ 116 ∷ 32 ∷ 40 ∷ 35 ∷ 32 ∷ 35 ∷ 41 ∷ 32 ∷ 42 ∷ 41 ∷ []
 
+-- (line (# #) (# #) *)
+abbrev pub linePattern : List ℕ
+linePattern = 40 ∷ 108 ∷ 105 ∷ 110 ∷ 101 ∷ 32 ∷ 40 ∷ 35 ∷ 32 ∷ 35 ∷ 41 ∷ 32 ∷ 40 ∷ 35 ∷ 32 ∷ 35 ∷ 41 ∷ 32 ∷ 42 ∷ 41 ∷ []
+
 -- (poke @ #)
 abbrev pub pokePattern : List ℕ
 pokePattern = 40 ∷ 112 ∷ 111 ∷ 107 ∷ 101 ∷ 32 ∷ 64 ∷ 32 ∷ 35 ∷ 41 ∷ []
@@ -130,6 +134,9 @@ choose (yes fs) f other = f fs
 abbrev pub pointForm : List ℕ → Line
 pointForm fs = call (drawPoint (getD fs 2 0) (getD fs 1 0) (getD fs 0 0))
 
+abbrev pub lineForm : List ℕ → Line
+lineForm fs = call (drawLine (getD fs 4 0) (getD fs 3 0) (getD fs 2 0) (getD fs 1 0) (getD fs 0 0))
+
 abbrev pub pokeForm : List ℕ → Line
 pokeForm fs = call (writeByte (getD fs 1 0) (getD fs 0 0))
 
@@ -139,8 +146,9 @@ sendForm fs = call send
 unfoldable pub form : List ℕ → Line
 form l =
     choose (matched pointPattern l noFields) pointForm
+    (choose (matched linePattern l noFields) lineForm
     (choose (matched pokePattern l noFields) pokeForm
-    (choose (matched sendPattern l noFields) sendForm bad))
+    (choose (matched sendPattern l noFields) sendForm bad)))
 
 unfoldable pub read : List ℕ → List Line
 read s = map form (lines s)
