@@ -3,3 +3,7 @@ pub mod Matching
 pub mod Writing
 pub mod Splitting
 pub mod Counting
+pub mod Bounding
+pub mod Choosing
+pub mod Running
+pub mod Whole
