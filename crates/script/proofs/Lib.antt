@@ -7,3 +7,4 @@ pub mod Bounding
 pub mod Choosing
 pub mod Running
 pub mod Whole
+pub mod Sizing

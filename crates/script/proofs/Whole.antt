@@ -24,7 +24,7 @@ use Rattle.script.specs.declared.Form.{Form}
 use Rattle.script.specs.declared.Step.{Step}
 use Rattle.script.specs.declared.Step.the-variants.{Line as LineAt, End}
 use Rattle.script.specs.Meaning.{meaning, readOf}
-use Rattle.script.specs.Wrote.{Wrote, Answered}
+use Rattle.script.specs.Wrote.{Wrote, Sized, Answered}
 use Rattle.script.proofs.Writing.{wrote-as, wrote-length}
 
 -- ---- the last line
@@ -182,3 +182,14 @@ short-room s o l h e r = omega (arith, ap length (short-is s l h e))
 
 pub short-written : (s o o′ : List ℕ) (l : Lent) (b : ℕ) → length s ≤ 4096 → l ≡ opened → Wrote 0 (run (read s) l) o o′ b → Wrote 0 (text s) o o′ b
 short-written s o o′ l b h e w = wrote-as (sym (short-is s l h e)) w
+
+-- the lines of a script that is not too long, run from what the opening leaves
+module _ (s r m p r′ m′ p′ : List ℕ) (k : ℕ) (o : List ℕ) (h : length s ≤ 4096) (z : Sized r m p) (c : p′ ≡ zeros (length p)) (e : answered k [] (lent r′ m′ []) ≡ outcome base (opening 4096 8192 1 noKeys) (lent r m [])) where
+  first-state : lent r′ m′ p′ ≡ opened
+  first-state = opens r m p r′ m′ p′ k (z .rec) (z .memory) (z .panel) c e
+
+  pub run-room : length (text s) ≤ length o → length (run (read s) (lent r′ m′ p′)) ≤ length o
+  run-room x = short-room s o (lent r′ m′ p′) h first-state x
+
+  pub run-written : (o′ : List ℕ) (b : ℕ) → Wrote 0 (run (read s) (lent r′ m′ p′)) o o′ b → Wrote 0 (text s) o o′ b
+  run-written o′ b w = short-written s o o′ (lent r′ m′ p′) b h first-state w
