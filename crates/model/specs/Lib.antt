@@ -17,3 +17,4 @@ pub mod Poke
 pub mod Sends
 pub mod Calls
 pub mod Lists
+pub mod Script

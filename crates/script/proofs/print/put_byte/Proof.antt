@@ -1,0 +1,21 @@
+use Rattle.script.proofs.Writing.{wrote-byte}
+use borrow.Author.Needs.{needs}
+use Rattle.script.proofs.print.put_byte.Statement.{statement}
+use Rattle.script.proofs.print.put_byte.Tie as tie
+use Rattle.script.proofs.print.put_byte.Reads as reads
+use Rattle.script.proofs.print.put_byte.Lts as lts
+
+slice-write-out : tie.Need-slice-write-out
+slice-write-out c = search needs
+
+add-result : tie.Need-add-result
+add-result c = search needs
+
+same-length : tie.Need-same-length
+same-length c = search needs
+
+returns : tie.Need-returns
+returns c = search wrote-byte
+
+pub put-byte-spec : {M : Type 1} → statement M
+put-byte-spec = tie.close (tie.spec slice-write-out add-result same-length returns)

@@ -1,0 +1,23 @@
+use Rattle.script.proofs.Writing.{number-written}
+use borrow.Author.Needs.{needs}
+use Rattle.script.proofs.print.put_number.Statement.{statement}
+use Rattle.script.proofs.print.put_number.Tie as tie
+use Rattle.script.proofs.print.put_number.Reads as reads
+use Rattle.script.proofs.print.put_number.Lts as lts
+use Rattle.script.proofs.print.put_byte.Reads as put-byte-reads
+use Rattle.script.proofs.print.put_decimal.Reads as put-decimal-reads
+
+put-byte-requires : tie.Need-put-byte-requires
+put-byte-requires c κs = search needs
+
+put-decimal-requires : tie.Need-put-decimal-requires
+put-decimal-requires c κs = search needs
+
+same-length : tie.Need-same-length
+same-length c = search needs
+
+returns : tie.Need-returns
+returns c = search number-written
+
+pub put-number-spec : {M : Type 1} → statement M
+put-number-spec = tie.close (tie.spec put-byte-requires put-decimal-requires same-length returns)

@@ -1,0 +1,24 @@
+use Rattle.script.proofs.Reading.{byte-is, byte-not, byte-none}
+use borrow.Author.Needs.{needs}
+use Rattle.script.proofs.words.byte_at.Statement.{statement}
+use Rattle.script.proofs.words.byte_at.Tie as tie
+use Rattle.script.proofs.words.byte_at.Reads as reads
+use Rattle.script.proofs.words.byte_at.Lts as lts
+
+shared-slice-read-if2 : tie.Need-shared-slice-read-if2
+shared-slice-read-if2 c = search needs
+
+add-t9 : tie.Need-add-t9
+add-t9 c = search needs
+
+returns : tie.Need-returns
+returns c = search byte-is
+
+returns-2 : tie.Need-returns-2
+returns-2 c = search byte-not
+
+returns-3 : tie.Need-returns-3
+returns-3 c = search byte-none
+
+pub byte-at-spec : {M : Type 1} → statement M
+byte-at-spec = tie.close (tie.spec shared-slice-read-if2 add-t9 returns returns-2 returns-3)
