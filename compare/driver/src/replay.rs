@@ -13,8 +13,8 @@ use std::fmt::Write;
 
 const IN_CORE: &str = include_str!("../../core/calls.txt");
 
-const LISTS: u64 = 12;
-const CALLS_IN_LIST: usize = 250;
+const LISTS: u64 = 16;
+const CALLS_IN_LIST: usize = 300;
 
 /// The bytes of one stored call.
 const STORED: usize = 16;
@@ -65,11 +65,16 @@ impl Replay {
     }
 }
 
-/// The calls that come after open: those that the core and the reference have. Reset would wipe
-/// what the others did; it comes last in each list.
+/// The names of the calls in the list: those that the core and the reference have.
+pub fn names() -> Vec<&'static str> {
+    let in_core: Vec<&str> = IN_CORE.lines().collect();
+    Call::NAMES.into_iter().filter(|name| in_core.contains(name) && *name != "send").collect()
+}
+
+/// The calls that come after open. Reset would wipe what the others did; it comes last in each list.
 fn replayed_numbers() -> Vec<usize> {
-    let names = IN_CORE.lines().filter(|name| !["open", "reset", "send"].contains(name));
-    names.map(|name| Call::number_of(name).expect("calls.txt names calls")).collect()
+    let names = names().into_iter().filter(|name| !["open", "reset"].contains(name));
+    names.filter_map(Call::number_of).collect()
 }
 
 /// An open whose key words fit into a stored call.

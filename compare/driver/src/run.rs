@@ -4,11 +4,10 @@
 use crate::core_side::Answering;
 use crate::judge::Judge;
 use crate::list::List;
+use crate::progress::Progress;
 use crate::shrink::shrink;
 use crate::tally::Tally;
 use crate::{exhaustive, random};
-use std::io::{IsTerminal, Write, stderr};
-use std::time::{Duration, Instant};
 
 pub struct Run {
     pub calls: u64,
@@ -22,7 +21,7 @@ impl Run {
     pub fn run(&self) -> bool {
         let mut tally = Tally::default();
         let mut judge = Judge::new(self.core, false);
-        let mut progress = Progress::new();
+        let mut progress = Progress::new("calls");
         let mut exhaustive = exhaustive::lists().peekable();
         let mut turn = 0;
         while tally.calls() < self.calls {
@@ -44,7 +43,7 @@ impl Run {
         progress.clear();
         tally.print(self.core.is_some());
         println!("exhaustive lists: {}", if exhaustive.peek().is_none() { "all" } else { "not all" });
-        println!("{:.0} calls a second", tally.calls() as f64 / progress.started.elapsed().as_secs_f64());
+        println!("{:.0} calls a second", tally.calls() as f64 / progress.seconds());
         println!("{} calls, 0 differences", tally.calls());
         true
     }
@@ -62,36 +61,4 @@ impl Run {
 /// The seed of the list of this number in a run.
 fn list_seed(seed: u64, number: u64) -> u64 {
     (seed << 32).wrapping_add(number)
-}
-
-/// A line on standard error, written anew: every second on a terminal, else every ten.
-struct Progress {
-    started: Instant,
-    shown: Instant,
-    terminal: bool,
-}
-
-impl Progress {
-    fn new() -> Self {
-        Self { started: Instant::now(), shown: Instant::now(), terminal: stderr().is_terminal() }
-    }
-
-    fn show(&mut self, calls: u64) {
-        let pause = Duration::from_secs(if self.terminal { 1 } else { 10 });
-        if self.shown.elapsed() < pause {
-            return;
-        }
-        self.shown = Instant::now();
-        let seconds = self.started.elapsed().as_secs();
-        let end = if self.terminal { "\r" } else { "\n" };
-        let mut out = stderr();
-        let _ = write!(out, "{calls} calls, 0 differences, {seconds} s   {end}");
-        let _ = out.flush();
-    }
-
-    fn clear(&self) {
-        if self.terminal {
-            eprint!("\r{:50}\r", "");
-        }
-    }
 }

@@ -81,3 +81,14 @@ fn the_list_is_made_alike_each_time() {
     let (one, other) = (replay::make(), replay::make());
     assert_eq!((one.stdin, one.stdout), (other.stdin, other.stdout));
 }
+
+#[test]
+fn every_replayed_call_is_in_the_list() {
+    let stdin = replay::make().stdin;
+    for name in replay::names() {
+        let number = Call::number_of(name).expect("a call's name");
+        let count = stdin.chunks(16).filter(|stored| stored[0] as usize == number).count();
+        let least = if ["open", "reset"].contains(&name) { 10 } else { 100 };
+        assert!(count >= least, "{name}: {count}");
+    }
+}

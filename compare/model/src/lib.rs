@@ -14,7 +14,9 @@ mod lines;
 mod modes;
 mod record;
 mod rect;
+mod script;
 mod send;
 mod text;
 
 pub use answer::answer;
+pub use script::run_script;

@@ -1,9 +1,9 @@
 // `caption_take_dirty_area`.
+use marks::rect;
 use model::Area;
 use model::Head;
 use model::Rect;
 use record::entry;
-use record::rect;
 use record::update;
 ghost use mathlib.Core.Path.{_≡_};
 ghost use mathlib.Core.List.{[], _∷_};

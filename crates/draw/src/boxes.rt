@@ -1,22 +1,24 @@
 // `draw_box`, filled and as an outline.
 ghost use mathlib.Core.Path.{_≡_};
-ghost use Prim.Native.Nat.{_≤_};
+ghost use Prim.Native.Nat.{_≤_, _<_};
 ghost use Rattle.model.specs.Pixels.{Screen, draw, seen};
 ghost use Rattle.model.specs.Marks.{drawn, drawnOn};
 ghost use Rattle.model.specs.Boxes.{filledBox, outline, box};
+ghost use Rattle.laws.specs.Boxes.{wholeLines};
 use crate::line::draw_hor_line;
 use crate::line::draw_ver_line;
 use crate::line::is_unknown;
-use crate::marks::clamp;
-use crate::marks::greatest;
-use crate::marks::least;
-use crate::marks::lowered_marks;
-use crate::run::draw_run;
 use model::DrawMode;
 use model::Marks;
+use pixels::marks::clamp;
+use pixels::marks::greatest;
+use pixels::marks::least;
+use pixels::marks::lowered_marks;
+use pixels::run::draw_bytes;
+use pixels::run::draw_run;
 
-// Every row; those beyond the last line land on it again.
-fn fill_box(
+// Row by row; those beyond the last line land on it again.
+fn fill_rows(
     stride: usize,
     height: usize,
     screen: &mut [u8],
@@ -40,6 +42,43 @@ fn fill_box(
         y += 1;
         count -= 1;
     }
+}
+
+// Whether the rows are whole lines of the screen.
+fn is_whole(stride: usize, height: usize, first: usize, last: usize, bottom: usize) -> bool
+    requires { ⌜ (stride ≤ 32) × (last < 256) ⌝ }
+    ensures { λ r. ⌜ r ≡ wholeLines stride height first last bottom ⌝ }
+{
+    (first == 0) & (last + 1 == 8 * stride) & (bottom < height)
+}
+
+// Whole lines are one run of bytes.
+fn fill_box(
+    stride: usize,
+    height: usize,
+    screen: &mut [u8],
+    left: u8,
+    top: u8,
+    right: u8,
+    bottom: u8,
+    mode: DrawMode,
+)
+    requires { ⌜ Screen stride height (now screen) ⌝ }
+    requires { ⌜ (left ≤ right) × (top ≤ bottom) ⌝ }
+    ensures { λ _. ⌜ now (screen .exit) ≡ draw stride (seen stride height (filledBox stride height left top right bottom mode)) (now (screen .entry)) ⌝ }
+{
+    let first = clamp(left as usize, 8 * stride);
+    let last = clamp(right as usize, 8 * stride);
+    if is_whole(stride, height, first, last, bottom as usize) {
+        draw_bytes(
+            screen,
+            stride * (top as usize),
+            stride * ((bottom as usize) + 1),
+            mode,
+        );
+        return;
+    }
+    fill_rows(stride, height, screen, left, top, right, bottom, mode);
 }
 
 // Two horizontals, then two verticals unless Unknown.

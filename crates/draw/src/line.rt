@@ -4,17 +4,18 @@ ghost use Prim.Native.Nat.{_+_, _*_, _≤_, _<_};
 ghost use Rattle.model.specs.Pixels.{Screen, draw, seen};
 ghost use Rattle.model.specs.Marks.{drawn, drawnOn};
 ghost use Rattle.model.specs.Lines.{isUnknown, horizontal, horizontalLine, pixelColumn, vertical, verticalLine, slopedLine, line};
-use crate::marks::clamp;
-use crate::marks::greatest;
-use crate::marks::least;
-use crate::marks::lowered_marks;
-use crate::marks::no_marks;
-use crate::marks::span_marks;
-use crate::point::plot;
-use crate::run::draw_run;
 use crate::slope::draw_slope;
 use model::DrawMode;
 use model::Marks;
+use pixels::marks::clamp;
+use pixels::marks::greatest;
+use pixels::marks::least;
+use pixels::marks::lowered_marks;
+use pixels::marks::no_marks;
+use pixels::marks::span_marks;
+use pixels::point::plot_mask;
+use pixels::point::point_mask;
+use pixels::run::draw_run;
 
 pub fn is_unknown(mode: DrawMode) -> bool
     ensures { λ r. ⌜ r ≡ isUnknown mode ⌝ }
@@ -60,10 +61,11 @@ fn draw_column(
     requires { ⌜ (x < 8 * stride) × (top + count ≤ height) ⌝ }
     ensures { λ _. ⌜ now (screen .exit) ≡ draw stride (pixelColumn x top count mode) (now (screen .entry)) ⌝ }
 {
+    let mask = point_mask(x);
     let mut y = top;
     let mut points = count;
     while 0 < points {
-        plot(stride, height, screen, x, y, mode);
+        plot_mask(stride, height, screen, x, y, mask, mode);
         y += 1;
         points -= 1;
     }

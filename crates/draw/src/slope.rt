@@ -4,16 +4,16 @@ ghost use mathlib.Core.Bool.{cond};
 ghost use Prim.Native.Nat.{_+_, _-_, _%_, _≤_, _<_, min, max};
 ghost use lib.Dec.{leb, ltb};
 ghost use Rattle.model.specs.Pixels.{Screen, draw, seen};
-ghost use Rattle.model.specs.Lines.{errorSum, stepped, nextError, sloped};
-use crate::marks::greatest;
-use crate::point::plot_seen;
+ghost use Rattle.model.specs.Lines.{errorSum, stepped, nextError, slope, sloped};
+ghost use Rattle.laws.specs.Slopes.{slopeBy};
 use model::DrawMode;
+use pixels::point::plot_seen;
 
 // Whether an error sum, which wraps at 256, reaches the longer distance in its turn.
 fn reaches(error: u8, dist: u8, longer: u8) -> bool
     ensures { λ r. ⌜ r ≡ leb longer (errorSum error dist) ⌝ }
 {
-    longer <= std::num::wrapping_add_u8(error, dist)
+    std::num::wrapping_add_u8(error, dist) >= longer
 }
 
 // The error sum after its turn.
@@ -62,7 +62,63 @@ fn inc_of(y1: u8, y2: u8) -> u8
     if y1 < y2 { 1 } else { 255 }
 }
 
-// From (x1, y1), the left end, to (x2, y2). x is no byte, since it may step past 255 after the last point.
+// More across than down: x steps in every turn. It is no byte, since it may step past 255 after the last point.
+fn draw_flat(
+    stride: usize,
+    height: usize,
+    screen: &mut [u8],
+    x1: u8,
+    y1: u8,
+    across: u8,
+    down: u8,
+    inc: u8,
+    mode: DrawMode,
+)
+    requires { ⌜ Screen stride height (now screen) ⌝ }
+    ensures { λ _. ⌜ now (screen .exit) ≡ draw stride (seen stride height (slope (slopeBy across down across inc) (across + 1) x1 y1 0 0 mode)) (now (screen .entry)) ⌝ }
+{
+    let mut x = x1 as usize;
+    let mut y = y1;
+    let mut error_y = 0u8;
+    let mut points = (across as usize) + 1;
+    while 0 < points {
+        plot_seen(stride, height, screen, x, y as usize, mode);
+        x += 1;
+        y = step_y(y, inc, error_y, down, across);
+        error_y = next_error(error_y, down, across);
+        points -= 1;
+    }
+}
+
+// More down than across: y steps in every turn.
+fn draw_steep(
+    stride: usize,
+    height: usize,
+    screen: &mut [u8],
+    x1: u8,
+    y1: u8,
+    across: u8,
+    down: u8,
+    inc: u8,
+    mode: DrawMode,
+)
+    requires { ⌜ Screen stride height (now screen) ⌝ }
+    ensures { λ _. ⌜ now (screen .exit) ≡ draw stride (seen stride height (slope (slopeBy across down down inc) (down + 1) x1 y1 0 0 mode)) (now (screen .entry)) ⌝ }
+{
+    let mut x = x1 as usize;
+    let mut y = y1;
+    let mut error_x = 0u8;
+    let mut points = (down as usize) + 1;
+    while 0 < points {
+        plot_seen(stride, height, screen, x, y as usize, mode);
+        x = step_x(x, error_x, across, down);
+        y = std::num::wrapping_add_u8(y, inc);
+        error_x = next_error(error_x, across, down);
+        points -= 1;
+    }
+}
+
+// From (x1, y1), the left end, to (x2, y2). The sum of the longer distance is 0 after each turn, so only the other one is kept.
 pub fn draw_slope(
     stride: usize,
     height: usize,
@@ -79,19 +135,10 @@ pub fn draw_slope(
 {
     let dist_x = x2 - x1;
     let dist_y = abs_diff(y1, y2);
-    let dist_max = greatest(dist_x, dist_y);
     let inc_y = inc_of(y1, y2);
-    let mut error_x = 0u8;
-    let mut error_y = 0u8;
-    let mut x = x1 as usize;
-    let mut y = y1;
-    let mut points = (dist_max as usize) + 1;
-    while 0 < points {
-        plot_seen(stride, height, screen, x, y as usize, mode);
-        x = step_x(x, error_x, dist_x, dist_max);
-        y = step_y(y, inc_y, error_y, dist_y, dist_max);
-        error_x = next_error(error_x, dist_x, dist_max);
-        error_y = next_error(error_y, dist_y, dist_max);
-        points -= 1;
+    if dist_y <= dist_x {
+        draw_flat(stride, height, screen, x1, y1, dist_x, dist_y, inc_y, mode);
+    } else {
+        draw_steep(stride, height, screen, x1, y1, dist_x, dist_y, inc_y, mode);
     }
 }

@@ -5,7 +5,7 @@ use mathlib.Core.Bool.{true}
 use mathlib.Core.List.{List, [], _∷_}
 use Prim.Native.Nat.{ℕ, suc, _+_, _-_, _*_, _≤_, _<_, min}
 use native.Mathlib.Omega.{arith}
-use lib.ListN.{length}
+use lib.ListN.{length, getD}
 use Rattle.laws.specs.Tests.{if-cases, clash, by-test, by-lt, either}
 use Rattle.model.specs.declared.Rect.{Rect}
 use borrow.Author.Tests.{le-ltb}
@@ -130,3 +130,11 @@ pub joinOwed-none : (w b lo : ℕ) (rs : List Rect) → joinOwed w b lo none rs 
 unfolding joinOwed
 joinOwed-none w b lo [] = refl
 joinOwed-none w b lo (r ∷ rs) = λ i. (ap (join r) (cut-none w lo (lo + b)) ∙ join-none r) i ∷ joinOwed-none w b (lo + b) rs i
+
+-- ---- one band
+
+-- a list of one
+pub one : (l : List Rect) → length l ≡ 1 → l ≡ getD l 0 none ∷ []
+one [] e = absurd (omega arith)
+one (q ∷ []) e = refl
+one (q ∷ r ∷ l) e = absurd (omega arith)

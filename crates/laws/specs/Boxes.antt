@@ -1,20 +1,25 @@
 -- Boxes: their writes lie in what they owe; row after row, and part after part, as the code draws them.
 use mathlib.Core.Path.{_≡_, refl, sym, ap, _∙_}
 use mathlib.Core.Bool.{Bool, true, false, cond}
-use mathlib.Core.List.{List, [], _++_}
+use mathlib.Core.List.{List, [], _∷_, _++_}
 use Prim.Native.Nat.{ℕ, zero, suc, _+_, _-_, _*_, _≤_, _<_, min, max}
+use native.Mathlib.Nat.{mul-le-mul-left}
 use native.Mathlib.Omega.{arith}
+use lib.Dec.{eqb, ltb}
+use lib.ListN.{length}
 use Rattle.model.specs.declared.Rect.{Rect}
 use Rattle.model.specs.declared.Marks.{Marks}
 use Rattle.model.specs.declared.DrawMode.{DrawMode}
 use Rattle.model.specs.Pixels.{Screen, PixelWrite, draw, seen}
-use Rattle.model.specs.Rects.{lowered, fits}
+use Rattle.model.specs.Rects.{every, lowered, fits}
+use Rattle.model.specs.Record.{Bytes}
 use Rattle.model.specs.Marks.{drawn, drawnOn, within, owes}
 use Rattle.model.specs.Lines.{isUnknown, spanRect, pixelRun, clamp, horizontal, vertical}
 use Rattle.model.specs.Boxes.{rows, filledBox, outline, boxOf, box}
-use Rattle.laws.specs.Tests.{by-test}
-use Rattle.laws.specs.Writes.{drawn-append, within-none, within-append, owes-mark, drawn-is}
+use Rattle.laws.specs.Tests.{tests, by-test, all-true}
+use Rattle.laws.specs.Writes.{drawn-append, within-none, within-append, owes-mark, drawn-is, screen-draw}
 use Rattle.laws.specs.Points.{bothLowered}
+use Rattle.laws.specs.Runs.{maskedBytes, bytes-append, bytes-run, bytes-kept}
 use Rattle.laws.specs.Lines.{span-fits, horizontal-within, horizontal-drawn, vertical-within}
 
 -- ---- no write lies outside
@@ -78,6 +83,53 @@ pub rows-end : (st h left right y n : ℕ) (d : DrawMode) (s t : List ℕ) → n
 unfolding rows seen draw
 rows-end st h left right y zero d s t o u = u
 rows-end st h left right y (suc n) d s t o u = absurd (omega arith)
+
+-- ---- a filled box as wide as the screen: its lines are whole bytes, one after another
+
+abbrev wholeTests : ℕ → ℕ → ℕ → ℕ → ℕ → List Bool
+wholeTests st h first last bottom = eqb first 0 ∷ eqb (last + 1) (8 * st) ∷ ltb bottom h ∷ []
+
+unfoldable pub wholeLines : ℕ → ℕ → ℕ → ℕ → ℕ → Bool
+wholeLines st h first last bottom = every (wholeTests st h first last bottom)
+
+-- they end within the screen
+pub whole-in : (st h top bottom a b : ℕ) {s : List ℕ} {t : Bool} → Screen st h s → top ≤ bottom → t ≡ wholeLines st h a b bottom → t ≡ true
+    → (st * top ≤ st * (bottom + 1)) × (st * (bottom + 1) ≤ length s)
+unfolding wholeLines
+whole-in st h top bottom a b r o u v =
+    let f = all-true (wholeTests st h a b bottom) (sym u ∙ v) in
+    (mul-le-mul-left st (omega arith), omega (arith, r .sized, mul-le-mul-left {m = bottom + 1} {n = h} st (omega (arith, tests))))
+
+lines-drawn : (st h left right y n : ℕ) (d : DrawMode) (s : List ℕ) → Screen st h s → Bytes s → left ≤ right → 0 ≡ clamp left (8 * st)
+    → 8 * st - 1 ≡ clamp right (8 * st) → y + n ≤ h → maskedBytes s (st * y) (st * n) d ≡ draw st (seen st h (rows st h left right y n d)) s
+unfolding rows seen draw maskedBytes
+lines-drawn st h left right y zero d s r hs o p q k = let e : st * zero ≡ zero = omega arith in rw e
+lines-drawn st h left right y (suc n) d s r hs o p q k =
+    let e : st * suc n ≡ st + st * n = omega arith in
+    let i : st * y ≡ st * y + 0 = omega arith in
+    let j : st * y + st ≡ st * suc y = omega arith in
+    let l : 8 * st ≡ suc (8 * st - 1 - 0) = omega (arith, r .wide) in
+    let f : maskedBytes s (st * y) st d ≡ draw st (seen st h (horizontal st h left right y d)) s
+    = horizontal-drawn st h left right y d s _ r o p q (omega arith)
+    (ap (λ (a : ℕ). maskedBytes s a st d) i ∙ bytes-run st h y 0 st d s r hs (omega arith) (omega arith) ∙ ap (λ (z : ℕ). draw st (pixelRun 0 y z d) s) l) in
+    ap (λ (z : ℕ). maskedBytes s (st * y) z d) e
+    ∙ bytes-append (st * y) st (st * n) d s
+    ∙ ap (λ (a : ℕ). maskedBytes (maskedBytes s (st * y) st d) a (st * n) d) j
+    ∙ lines-drawn st h left right (suc y) n d (maskedBytes s (st * y) st d) (screen-draw st h (seen st h (horizontal st h left right y d)) r f) (bytes-kept (st * y) st d s hs) o p q (omega arith)
+    ∙ ap (draw st (seen st h (rows st h left right (suc y) n d))) f
+    ∙ sym (drawn-append st h (horizontal st h left right y d) (rows st h left right (suc y) n d) s)
+
+pub box-whole : (st h left top right bottom : ℕ) (d : DrawMode) (s e : List ℕ) {a b : ℕ} {t : Bool} → Screen st h s → Bytes s → (left ≤ right) × (top ≤ bottom)
+    → a ≡ clamp left (8 * st) → b ≡ clamp right (8 * st) → t ≡ wholeLines st h a b bottom → t ≡ true
+    → e ≡ maskedBytes s (st * top) (st * (bottom + 1) - st * top) d
+    → e ≡ draw st (seen st h (filledBox st h left top right bottom d)) s
+unfolding filledBox wholeLines
+box-whole st h left top right bottom d s e {a} {b} r hs o p q u v w =
+    let f = all-true (wholeTests st h a b bottom) (sym u ∙ v) in
+    let z : bottom - top + top ≡ bottom = omega arith in
+    let g : st * (bottom + 1) - st * top ≡ st * suc (bottom - top) = omega (arith, ap (λ (k : ℕ). st * k) z) in
+    w ∙ ap (λ (n : ℕ). maskedBytes s (st * top) n d) g
+    ∙ lines-drawn st h left right top (suc (bottom - top)) d s r hs (o .0) (omega (arith, tests)) (omega (arith, tests)) (omega (arith, tests))
 
 -- ---- an outline, part after part
 

@@ -22,5 +22,10 @@ pub mod Runs
 pub mod Slopes
 pub mod DrawLine
 pub mod Boxes
+pub mod Ellipses
+pub mod EllipseSteps
+pub mod EllipseMarks
+pub mod EllipseWalks
+pub mod EllipseDrawn
 pub mod Counts
 pub mod Calls

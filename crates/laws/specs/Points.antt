@@ -1,27 +1,28 @@
 -- Points: what a drawing function answers for one is what the definition says.
 use mathlib.Core.Path.{_≡_, refl, sym, ap, _∙_}
 use mathlib.Core.Logic.{inl, inr}
-use mathlib.Core.Bool.{Bool, true, false, cond}
+use mathlib.Core.Bool.{Bool, true, false, cond, not}
 use mathlib.Core.List.{List, [], _∷_}
-use Prim.Native.Nat.{ℕ, _-_, _*_, _/_, _^_, _<_, _≤_}
+use Prim.Native.Nat.{ℕ, _-_, _*_, _/_, _%_, _^_, _<_, _≤_}
 use native.Mathlib.Omega.{arith}
 use lib.Bits.{bitAnd, bitOr, bitXor}
-use lib.Dec.{ltb}
+use lib.Dec.{ltb, eqb}
 use lib.IntN.{ℤ, pos, negsuc}
-use lib.ListN.{length}
-use borrow.Author.Tests.{ltb-true, lt-ltb, le-ltb}
+use lib.ListN.{length, getD, set}
+use borrow.Author.Tests.{eqb-true, ltb-true, lt-ltb, le-ltb}
 use Rattle.model.specs.declared.Rect.{Rect}
 use Rattle.model.specs.declared.Marks.{Marks}
 use Rattle.model.specs.declared.DrawMode.{DrawMode}
 use Rattle.model.specs.declared.DrawMode.the-variants.{Clear, Or, Xor, Unknown}
 use Rattle.model.specs.Bits.{bitAt, withBit}
-use Rattle.model.specs.Pixels.{Screen, place, bit, onScreen, writePixel, draw, seen}
+use Rattle.model.specs.Pixels.{Screen, place, bit, put, onScreen, writePixel, draw, seen}
+use Rattle.model.specs.Record.{Bytes}
 use Rattle.model.specs.Rects.{none, fits, lowered}
 use Rattle.model.specs.Marks.{drawn, drawnOn, within, owes}
 use Rattle.model.specs.Points.{pointOp, pixelRect, pointWrite, pointRect, point, checkPoint}
 use Rattle.laws.specs.Tests.{if-cases, by-test, by-lt, and-true}
 use Rattle.laws.specs.Pixels.{place-lt}
-use Rattle.laws.specs.Tables.{or-is, and-is, flip-is}
+use Rattle.laws.specs.Tables.{every, every-at, or-is, and-is, flip-is, see-is}
 use Rattle.laws.specs.Rects.{fits-passes}
 use Rattle.laws.specs.Marks.{in-inside}
 
@@ -34,22 +35,48 @@ withBit-own b k = go (bitAt b k) refl
     go true e = rw e
     go false e = rw e
 
--- the byte that holds a point, by the machine's operations on it and the mask of its bit k, counted from the highest
-pub clear-byte : (b k : ℕ) {d : DrawMode} → d ≡ Clear → b < 256 → k < 8 → bitAnd b (255 - 128 / 2 ^ k) ≡ withBit b (7 - k) (pointOp d (bitAt b (7 - k)))
-unfolding pointOp
-clear-byte b k e hb hk = rw e (and-is b k hb hk)
+-- the mask of pixel x in its byte
+abbrev pub maskOf : ℕ → ℕ
+maskOf x = 128 / 2 ^ (x % 8)
 
-pub or-byte : (b k : ℕ) {d : DrawMode} → d ≡ Or → b < 256 → k < 8 → bitOr b (128 / 2 ^ k) ≡ withBit b (7 - k) (pointOp d (bitAt b (7 - k)))
-unfolding pointOp
-or-byte b k e hb hk = rw e (or-is b k hb hk)
+-- a byte after a point under the mask m, by the machine's operations
+unfoldable pub pointByte : DrawMode → ℕ → ℕ → ℕ
+pointByte Clear b m = bitAnd b (255 - m)
+pointByte Or b m = bitOr b m
+pointByte Xor b m = bitXor b m
+pointByte Unknown b m = b
 
-pub xor-byte : (b k : ℕ) {d : DrawMode} → d ≡ Xor → b < 256 → k < 8 → bitXor b (128 / 2 ^ k) ≡ withBit b (7 - k) (pointOp d (bitAt b (7 - k)))
-unfolding pointOp
-xor-byte b k e hb hk = rw e (flip-is b k hb hk)
+point-byte : (d : DrawMode) (b k : ℕ) → b < 256 → k < 8 → pointByte d b (128 / 2 ^ k) ≡ withBit b (7 - k) (pointOp d (bitAt b (7 - k)))
+unfolding pointByte pointOp
+point-byte Clear b k hb hk = and-is b k hb hk
+point-byte Or b k hb hk = or-is b k hb hk
+point-byte Xor b k hb hk = flip-is b k hb hk
+point-byte Unknown b k hb hk = sym (withBit-own b (7 - k))
 
-pub same-byte : (b k : ℕ) {d : DrawMode} → d ≡ Unknown → b ≡ withBit b (7 - k) (pointOp d (bitAt b (7 - k)))
-unfolding pointOp
-same-byte b k e = rw e (sym (withBit-own b (7 - k)))
+pub plotted : (st x y : ℕ) (d : DrawMode) (s : List ℕ) {m v : ℕ} → Bytes s → m ≡ maskOf x → v ≡ pointByte d (getD s (place st x y) 0) m
+    → set s (place st x y) v ≡ writePixel st s (pointWrite x y d)
+unfolding writePixel put bit Bytes
+plotted st x y d s {m} {v} h p q =
+    ap (set s (place st x y)) (q ∙ ap (pointByte d (getD s (place st x y) 0)) p ∙ point-byte d (getD s (place st x y) 0) (x % 8) (h (place st x y)) (omega arith))
+
+pub seen-bit : (st x y : ℕ) (s : List ℕ) {m : ℕ} → Bytes s → m ≡ maskOf x
+    → not (eqb (bitAnd (getD s (place st x y) 0) m) 0) ≡ bit st s x y
+unfolding bit Bytes
+seen-bit st x y s {m} h p =
+    ap (λ (m : ℕ). not (eqb (bitAnd (getD s (place st x y) 0) m) 0)) p ∙ see-is (getD s (place st x y) 0) (x % 8) (h (place st x y)) (omega arith)
+
+-- the code's table of masks
+abbrev pub masks : List ℕ
+masks = 128 ∷ 64 ∷ 32 ∷ 16 ∷ 8 ∷ 4 ∷ 2 ∷ 1 ∷ []
+
+abbrev mask-rule : ℕ → Bool
+mask-rule k = eqb (getD masks k 0) (128 / 2 ^ k)
+
+mask-all : every 8 mask-rule ≡ true
+mask-all = refl
+
+pub mask-at : (x : ℕ) → getD masks (x % 8) 0 ≡ maskOf x
+mask-at x = eqb-true _ _ (every-at 8 mask-rule mask-all (x % 8) (omega arith))
 
 pub on-true : (st h x y : ℕ) → onScreen st h x y ≡ true → (x < 8 * st) × (y < h)
 unfolding onScreen

@@ -1,34 +1,91 @@
 -- A run of a line drawn by bytes with masks is the run drawn pixel by pixel.
-use mathlib.Core.Path.{_≡_, refl, sym, ap, ap₂, _∙_}
+use mathlib.Core.Path.{_≡_, refl, sym, ap, ap₂, subst⁻¹, _∙_}
+use mathlib.Core.Bool.{Bool, true, false, not, xor, cond, _&&_, Bool·beq}
 use mathlib.Core.List.{List, _∷_, _++_}
 use Prim.Native.Nat.{ℕ, zero, suc, _+_, _-_, _*_, _/_, _≤_, _<_}
 use native.Mathlib.Nat.{mul-le-mul-left}
 use native.Mathlib.Omega.{arith}
-use lib.Bits.{bitAnd, bitOr, bitXor}
-use lib.ListN.{length, getD, set}
+use lib.Bits.{bitAnd, bitXor, and-lt, xor-lt}
+use lib.ListN.{length, getD, set, length-set}
+use Rattle.model.specs.Bits.{bitAt}
 use Rattle.model.specs.declared.DrawMode.{DrawMode}
 use Rattle.model.specs.declared.DrawMode.the-variants.{Clear, Or, Xor, Unknown}
 use Rattle.model.specs.Pixels.{Screen, PixelWrite, draw}
 use Rattle.model.specs.Record.{Bytes}
 use Rattle.model.specs.Lines.{runOp, pixelRun}
-use Rattle.laws.specs.Bytes.{Masked, or-masked, clear-masked, flip-masked}
+use Rattle.laws.specs.Tables.{every, every-at}
+use Rattle.laws.specs.Bytes.{Masked, same-bool, bitAt-and, bitAt-xor, bitAt-not, bytes-set}
 use Rattle.laws.specs.Masks.{Mask, startMask, endMask, start-mask, end-mask, both-masks, whole-mask, run-equal, run-masked, run-draw}
 use Rattle.laws.specs.Writes.{draw-append, screen-draw}
 use Rattle.laws.specs.Lines.{run-row}
 
--- a byte with the pixels of the mask m drawn
+-- ---- a byte with the pixels of a mask drawn, without a branch
+
+-- whether a mode clears the pixels first
+abbrev pub clears : DrawMode → Bool
+clears Clear = true
+clears Or = true
+clears Xor = false
+clears Unknown = false
+
+-- whether it then inverts them
+abbrev pub flips : DrawMode → Bool
+flips Clear = false
+flips Or = true
+flips Xor = true
+flips Unknown = true
+
+-- all pixels of a byte, or none
+abbrev pub allOrNone : Bool → ℕ
+allOrNone true = 255
+allOrNone false = 0
+
 unfoldable pub maskByte : DrawMode → ℕ → ℕ → ℕ
-maskByte Clear b m = bitAnd b (255 - m)
-maskByte Or b m = bitOr b m
-maskByte Xor b m = bitXor b m
-maskByte Unknown b m = bitXor b m
+maskByte d b m = bitXor (bitAnd b (255 - bitAnd m (allOrNone (clears d)))) (bitAnd m (allOrNone (flips d)))
+
+alike : (t : Bool) → every 8 (λ k. Bool·beq (bitAt (allOrNone t) k) t) ≡ true
+unfolding bitAt
+alike true = refl
+alike false = refl
+
+alike-bit : (t : Bool) (k : ℕ) → k < 8 → bitAt (allOrNone t) k ≡ t
+alike-bit t k h = same-bool _ _ (every-at 8 (λ k. Bool·beq (bitAt (allOrNone t) k) t) (alike t) k h)
+
+alike-small : (t : Bool) → allOrNone t < 256
+alike-small true = omega arith
+alike-small false = omega arith
+
+-- one bit b under the mask's bit m
+drawn-bit : (d : DrawMode) (b m : Bool) → xor (b && not (m && clears d)) (m && flips d) ≡ cond m (runOp d b) b
+unfolding xor runOp
+drawn-bit d true false = refl
+drawn-bit d false false = refl
+drawn-bit Clear true true = refl
+drawn-bit Clear false true = refl
+drawn-bit Or true true = refl
+drawn-bit Or false true = refl
+drawn-bit Xor true true = refl
+drawn-bit Xor false true = refl
+drawn-bit Unknown true true = refl
+drawn-bit Unknown false true = refl
 
 masked-by : (d : DrawMode) (b m : ℕ) → b < 256 → m < 256 → Masked m (λ k v. runOp d v) b (maskByte d b m)
-unfolding maskByte runOp
-masked-by Clear b m hb hm = clear-masked b m hb hm
-masked-by Or b m hb hm = or-masked b m hb hm
-masked-by Xor b m hb hm = flip-masked b m hb hm
-masked-by Unknown b m hb hm = flip-masked b m hb hm
+unfolding maskByte
+masked-by d b m hb hm = record {
+  small = xor-lt 8 _ _ (and-lt 8 b _ hb (omega arith)) (inked flips);
+  bits = λ k h.
+      bitAt-xor _ _ k
+      ∙ ap₂ xor
+      (bitAt-and b _ k ∙ ap (λ (t : Bool). bitAt b k && t) (bitAt-not _ k (inked clears) h ∙ ap not (part clears k h)))
+      (part flips k h)
+      ∙ drawn-bit d (bitAt b k) (bitAt m k);
+}
+  where
+    inked : (f : DrawMode → Bool) → bitAnd m (allOrNone (f d)) < 256
+    inked f = and-lt 8 m (allOrNone (f d)) hm (alike-small (f d))
+
+    part : (f : DrawMode → Bool) (k : ℕ) → k < 8 → bitAt (bitAnd m (allOrNone (f d))) k ≡ (bitAt m k && f d)
+    part f k h = bitAt-and m (allOrNone (f d)) k ∙ ap (λ (t : Bool). bitAt m k && t) (alike-bit (f d) k h)
 
 -- s with byte i so drawn
 unfoldable pub masked : List ℕ → ℕ → ℕ → DrawMode → List ℕ
@@ -69,23 +126,62 @@ draw-run-append st x y z n m d s e =
 
 -- ---- whole bytes, one after another
 
-pub bytes-start : (st k y : ℕ) (d : DrawMode) (s : List ℕ) → s ≡ draw st (pixelRun (8 * k) y (8 * (k - k)) d) s
-unfolding draw pixelRun
-bytes-start st k y d s = let e : 8 * (k - k) ≡ zero = omega arith in rw e
+-- n bytes from byte i on
+unfoldable pub maskedBytes : List ℕ → ℕ → ℕ → DrawMode → List ℕ
+maskedBytes s i zero d = s
+maskedBytes s i (suc n) d = maskedBytes (masked s i 255 d) (suc i) n d
 
-pub bytes-turn : (st h y from k : ℕ) (d : DrawMode) (s₀ s e : List ℕ) → Screen st h s → Bytes s → y < h → from ≤ k → k < st
-    → s ≡ draw st (pixelRun (8 * from) y (8 * (k - from)) d) s₀ → e ≡ masked s (st * y + k) 255 d
-    → e ≡ draw st (pixelRun (8 * from) y (8 * (k + 1 - from)) d) s₀
-bytes-turn st h y from k d s₀ s e r hs hy hf hk q w =
-    let n : 8 * (k - from) + 8 ≡ 8 * (k + 1 - from) = omega arith in
-    w ∙ mask-run st h y k (8 * k) (8 * (k + 1)) 255 8 d s r hs hy hk (whole-mask k) (omega arith)
-    ∙ ap (draw st (pixelRun (8 * k) y 8 d)) q
-    ∙ draw-run-append st (8 * from) y (8 * k) (8 * (k - from)) 8 d s₀ (omega arith)
-    ∙ ap (λ (z : ℕ). draw st (pixelRun (8 * from) y z d) s₀) n
+-- as a loop draws them: what is left, drawn on what stands, gives the whole
+pub bytes-turn : (k to : ℕ) (d : DrawMode) (s e t : List ℕ) → k < to → e ≡ masked s k 255 d → maskedBytes s k (to - k) d ≡ t
+    → maskedBytes e (k + 1) (to - (k + 1)) d ≡ t
+unfolding maskedBytes
+bytes-turn k to d s e t h w q =
+    let l : to - k ≡ suc (to - (k + 1)) = omega arith in
+    let i : k + 1 ≡ suc k = omega arith in
+    (λ j. maskedBytes (w j) (i j) (to - (k + 1)) d) ∙ sym (ap (λ (n : ℕ). maskedBytes s k n d) l) ∙ q
 
-pub bytes-end : (st y from to k : ℕ) (d : DrawMode) (s₀ s : List ℕ) → k ≤ to → to ≤ k → s ≡ draw st (pixelRun (8 * from) y (8 * (k - from)) d) s₀
-    → s ≡ draw st (pixelRun (8 * from) y (8 * (to - from)) d) s₀
-bytes-end st y from to k d s₀ s a b q = let e : k ≡ to = omega arith in rw e at q
+pub bytes-end : (k to : ℕ) (d : DrawMode) (s t : List ℕ) → to ≤ k → maskedBytes s k (to - k) d ≡ t → s ≡ t
+unfolding maskedBytes
+bytes-end k to d s t h q = let l : to - k ≡ zero = omega arith in rw l at q
+
+pub bytes-append : (i n m : ℕ) (d : DrawMode) (s : List ℕ) → maskedBytes s i (n + m) d ≡ maskedBytes (maskedBytes s i n d) (i + n) m d
+unfolding maskedBytes
+bytes-append i zero m d s =
+    let e : zero + m ≡ m = omega arith in
+    let f : i + zero ≡ i = omega arith in
+    rw (e, f)
+bytes-append i (suc n) m d s =
+    let e : suc n + m ≡ suc (n + m) = omega arith in
+    let f : i + suc n ≡ suc i + n = omega arith in
+    rw (e, f) (bytes-append (suc i) n m d (masked s i 255 d))
+
+pub length-masked : (s : List ℕ) (i m : ℕ) (d : DrawMode) → length (masked s i m d) ≡ length s
+unfolding masked
+length-masked s i m d = length-set s i _
+
+bytes-masked : (s : List ℕ) (i m : ℕ) (d : DrawMode) → Bytes s → m < 256 → Bytes (masked s i m d)
+unfolding masked Bytes
+bytes-masked s i m d hs hm = bytes-set s i _ hs (masked-by d _ m (hs i) hm .small)
+
+-- they are the pixels that they hold: within a line
+pub bytes-run : (st h y k n : ℕ) (d : DrawMode) (s : List ℕ) → Screen st h s → Bytes s → y < h → k + n ≤ st
+    → maskedBytes s (st * y + k) n d ≡ draw st (pixelRun (8 * k) y (8 * n) d) s
+unfolding maskedBytes draw pixelRun
+bytes-run st h y k zero d s r hs hy hk = refl
+bytes-run st h y k (suc n) d s r hs hy hk =
+    let e : masked s (st * y + k) 255 d ≡ draw st (pixelRun (8 * k) y 8 d) s = mask-run st h y k (8 * k) (8 * (k + 1)) 255 8 d s r hs hy (omega arith) (whole-mask k) (omega arith) in
+    let i : suc (st * y + k) ≡ st * y + suc k = omega arith in
+    let l : 8 + 8 * n ≡ 8 * suc n = omega arith in
+    ap (λ (j : ℕ). maskedBytes (masked s (st * y + k) 255 d) j n d) i
+    ∙ bytes-run st h y (suc k) n d (masked s (st * y + k) 255 d) (screen-draw st h (pixelRun (8 * k) y 8 d) r e) (bytes-masked s (st * y + k) 255 d hs (omega arith)) hy (omega arith)
+    ∙ ap (draw st (pixelRun (8 * suc k) y (8 * n) d)) e
+    ∙ draw-run-append st (8 * k) y (8 * suc k) 8 (8 * n) d s (omega arith)
+    ∙ ap (λ (z : ℕ). draw st (pixelRun (8 * k) y z d) s) l
+
+pub bytes-kept : (i n : ℕ) (d : DrawMode) (s : List ℕ) → Bytes s → Bytes (maskedBytes s i n d)
+unfolding maskedBytes
+bytes-kept i zero d s hs = hs
+bytes-kept i (suc n) d s hs = bytes-kept (suc i) n d (masked s i 255 d) (bytes-masked s i 255 d hs (omega arith))
 
 -- ---- a whole run: within one byte, or from one byte to another
 
@@ -96,25 +192,31 @@ one-byte st h left right y d s e r hs o p q k w =
     w ∙ ap₂ (λ (a b : ℕ). masked s (st * y + left / 8) (bitAnd a b) d) p q
     ∙ mask-run st h y (left / 8) left (right + 1) _ (suc (right - left)) d s r hs (o .2) (omega arith) (both-masks left right k) (omega arith)
 
-pub many-bytes : (st h left right y : ℕ) (d : DrawMode) (s s₁ s₂ e : List ℕ) {a b : ℕ} → Screen st h s → Bytes s → Bytes s₂
+pub many-bytes : (st h left right y : ℕ) (d : DrawMode) (s s₁ s₂ e : List ℕ) {a b : ℕ} → Screen st h s → Bytes s
     → (left ≤ right) × (right < 8 * st) × (y < h) → a ≡ startMask left → b ≡ endMask right → (left / 8 ≡ right / 8 → ⊥)
     → s₁ ≡ masked s (st * y + left / 8) a d
-    → s₂ ≡ draw st (pixelRun (8 * (left / 8 + 1)) y (8 * (right / 8 - (left / 8 + 1))) d) s₁
+    → s₂ ≡ maskedBytes s₁ (st * y + left / 8 + 1) (st * y + right / 8 - (st * y + left / 8 + 1)) d
     → e ≡ masked s₂ (st * y + right / 8) b d
     → e ≡ draw st (pixelRun left y (suc (right - left)) d) s
-many-bytes st h left right y d s s₁ s₂ e r hs hs₂ o p q k w₁ w₂ w₃ =
+many-bytes st h left right y d s s₁ s₂ e {a} {b} r hs o p q k w₁ w₂ w₃ =
     let l : left / 8 < right / 8 = omega arith in
     let n = 8 * (left / 8) + 8 - left in
-    let m = 8 * (right / 8 - (left / 8 + 1)) in
-    let f : s₁ ≡ draw st (pixelRun left y n d) s
-    = w₁ ∙ ap (λ (a : ℕ). masked s (st * y + left / 8) a d) p
-    ∙ mask-run st h y (left / 8) left (8 * (left / 8 + 1)) _ n d s r hs (o .2) (omega arith) (start-mask left) (omega arith) in
-    let g : s₂ ≡ draw st (pixelRun left y (n + m) d) s
-    = w₂ ∙ ap (draw st (pixelRun (8 * (left / 8 + 1)) y m d)) f ∙ draw-run-append st left y (8 * (left / 8 + 1)) n m d s (omega arith) in
-    let r₂ = screen-draw st h (pixelRun left y (n + m) d) r g in
-    let t : (n + m) + (suc (right - 8 * (right / 8))) ≡ suc (right - left) = omega arith in
+    let m = right / 8 - (left / 8 + 1) in
+    let v = suc (right - 8 * (right / 8)) in
+    let f₁ : s₁ ≡ masked s (st * y + left / 8) (startMask left) d = w₁ ∙ ap (λ (a : ℕ). masked s (st * y + left / 8) a d) p in
+    let g₁ : s₁ ≡ draw st (pixelRun left y n d) s
+    = f₁ ∙ mask-run st h y (left / 8) left (8 * (left / 8 + 1)) _ n d s r hs (o .2) (omega arith) (start-mask left) (omega arith) in
+    let hs₁ : Bytes s₁ = subst⁻¹ Bytes f₁ (bytes-masked s (st * y + left / 8) (startMask left) d hs (start-mask left .small)) in
+    let i : st * y + left / 8 + 1 ≡ st * y + (left / 8 + 1) = omega arith in
+    let j : st * y + right / 8 - (st * y + left / 8 + 1) ≡ m = omega arith in
+    let f₂ : s₂ ≡ maskedBytes s₁ (st * y + (left / 8 + 1)) m d = w₂ ∙ (λ u. maskedBytes s₁ (i u) (j u) d) in
+    let g₂ : s₂ ≡ draw st (pixelRun left y (n + 8 * m) d) s
+    = f₂ ∙ bytes-run st h y (left / 8 + 1) m d s₁ (screen-draw st h (pixelRun left y n d) r g₁) hs₁ (o .2) (omega arith)
+    ∙ ap (draw st (pixelRun (8 * (left / 8 + 1)) y (8 * m) d)) g₁ ∙ draw-run-append st left y (8 * (left / 8 + 1)) n (8 * m) d s (omega arith) in
+    let hs₂ : Bytes s₂ = subst⁻¹ Bytes f₂ (bytes-kept (st * y + (left / 8 + 1)) m d s₁ hs₁) in
+    let t : (n + 8 * m) + v ≡ suc (right - left) = omega arith in
     w₃ ∙ ap (λ (b : ℕ). masked s₂ (st * y + right / 8) b d) q
-    ∙ mask-run st h y (right / 8) (8 * (right / 8)) (right + 1) _ (suc (right - 8 * (right / 8))) d s₂ r₂ hs₂ (o .2) (omega arith) (end-mask right) (omega arith)
-    ∙ ap (draw st (pixelRun (8 * (right / 8)) y (suc (right - 8 * (right / 8))) d)) g
-    ∙ draw-run-append st left y (8 * (right / 8)) (n + m) (suc (right - 8 * (right / 8))) d s (omega arith)
+    ∙ mask-run st h y (right / 8) (8 * (right / 8)) (right + 1) _ v d s₂ (screen-draw st h (pixelRun left y (n + 8 * m) d) r g₂) hs₂ (o .2) (omega arith) (end-mask right) (omega arith)
+    ∙ ap (draw st (pixelRun (8 * (right / 8)) y v d)) g₂
+    ∙ draw-run-append st left y (8 * (right / 8)) (n + 8 * m) v d s (omega arith)
     ∙ ap (λ (z : ℕ). draw st (pixelRun left y z d) s) t

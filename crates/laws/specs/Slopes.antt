@@ -8,7 +8,7 @@ use Prim.Native.Nat.{ℕ, zero, suc, _+_, _-_, _*_, _%_, _≤_, _<_, min, max}
 use native.Mathlib.Nat.{mul-le-mul-left, mul-le-mul-right, add-mul-mod-self-right}
 use native.Mathlib.Omega.{arith}
 use lib.Dec.{leb, ltb}
-use borrow.Author.Tests.{leb-true, lt-ltb, le-ltb}
+use borrow.Author.Tests.{leb-true, le-leb, lt-ltb, le-ltb}
 use Rattle.model.specs.declared.Rect.{Rect}
 use Rattle.model.specs.declared.Marks.{Marks}
 use Rattle.model.specs.declared.DrawMode.{DrawMode}
@@ -119,19 +119,39 @@ pub error-left : (m e dist : ℕ) {t : Bool} {a : ℕ} → t ≡ leb m (errorSum
 unfolding nextError
 error-left m e dist p q k = step-left m e dist (errorSum e dist - m) (errorSum e dist) p q k
 
+-- the sum of the longer distance: its coordinate steps in every turn, and it is 0 again
+pub longer-steps : (m next now : ℕ) → m < 256 → next ≡ stepped m 0 m next now
+unfolding stepped
+longer-steps m next now h = let e : leb m (errorSum 0 m) ≡ true = le-leb m (errorSum 0 m) (omega arith) in rw e
+
+pub longer-error : (m : ℕ) → m < 256 → 0 ≡ nextError m 0 m
+unfolding nextError
+longer-error m h = let e : errorSum 0 m - m ≡ 0 = omega arith in sym e ∙ longer-steps m (errorSum 0 m - m) (errorSum 0 m) h
+
 -- ---- as the code draws it: what is left of the walk, drawn on what stands, gives the whole
 
 abbrev pub slopeBy : ℕ → ℕ → ℕ → ℕ → Slope
 slopeBy dx dy m inc = record { distX = dx; distY = dy; distMax = m; incY = inc }
 
-pub slope-start : (st h x1 y1 x2 y2 : ℕ) (d : DrawMode) (s : List ℕ) {dy m inc : ℕ} → dy ≡ max y1 y2 - min y1 y2 → m ≡ max (x2 - x1) dy
-    → inc ≡ cond (ltb y1 y2) 1 255
-    → draw st (seen st h (slope (slopeBy (x2 - x1) dy m inc) (m + 1) x1 y1 0 0 d)) s ≡ draw st (seen st h (sloped x1 y1 x2 y2 d)) s
+-- more across than down
+pub slope-flat : (st h x1 y1 x2 y2 : ℕ) (d : DrawMode) (s e : List ℕ) {dy inc : ℕ} → dy ≡ max y1 y2 - min y1 y2 → inc ≡ cond (ltb y1 y2) 1 255 → dy ≤ x2 - x1
+    → e ≡ draw st (seen st h (slope (slopeBy (x2 - x1) dy (x2 - x1) inc) (x2 - x1 + 1) x1 y1 0 0 d)) s
+    → e ≡ draw st (seen st h (sloped x1 y1 x2 y2 d)) s
 unfolding sloped
-slope-start st h x1 y1 x2 y2 d s {dy} {m} {inc} p q r =
-    let k : m ≡ max (x2 - x1) (max y1 y2 - min y1 y2) = q ∙ ap (max (x2 - x1)) p in
-    let n : m + 1 ≡ suc (max (x2 - x1) (max y1 y2 - min y1 y2)) = omega arith in
-    λ i. draw st (seen st h (slope (slopeBy (x2 - x1) (p i) (k i) (r i)) (n i) x1 y1 0 0 d)) s
+slope-flat st h x1 y1 x2 y2 d s e {dy} {inc} p r o w =
+    let k : x2 - x1 ≡ max (x2 - x1) (max y1 y2 - min y1 y2) = omega arith in
+    let n : x2 - x1 + 1 ≡ suc (max (x2 - x1) (max y1 y2 - min y1 y2)) = omega arith in
+    w ∙ (λ i. draw st (seen st h (slope (slopeBy (x2 - x1) (p i) (k i) (r i)) (n i) x1 y1 0 0 d)) s)
+
+-- more down than across
+pub slope-steep : (st h x1 y1 x2 y2 : ℕ) (d : DrawMode) (s e : List ℕ) {dy inc : ℕ} → dy ≡ max y1 y2 - min y1 y2 → inc ≡ cond (ltb y1 y2) 1 255 → x2 - x1 < dy
+    → e ≡ draw st (seen st h (slope (slopeBy (x2 - x1) dy dy inc) (dy + 1) x1 y1 0 0 d)) s
+    → e ≡ draw st (seen st h (sloped x1 y1 x2 y2 d)) s
+unfolding sloped
+slope-steep st h x1 y1 x2 y2 d s e {dy} {inc} p r o w =
+    let k : dy ≡ max (x2 - x1) (max y1 y2 - min y1 y2) = omega arith in
+    let n : dy + 1 ≡ suc (max (x2 - x1) (max y1 y2 - min y1 y2)) = omega arith in
+    w ∙ (λ i. draw st (seen st h (slope (slopeBy (x2 - x1) (p i) (k i) (r i)) (n i) x1 y1 0 0 d)) s)
 
 pub slope-turn : (st h : ℕ) (p : Slope) (n x y ex ey : ℕ) (d : DrawMode) (s e t : List ℕ) {x′ y′ ex′ ey′ : ℕ} → 0 < n
     → e ≡ draw st (seen st h (pointWrite x y d ∷ [])) s

@@ -13,12 +13,13 @@ use Rattle.model.specs.Geometry.{Geometry, height, rows, columns, screen
 use Rattle.model.specs.Rects.{Rect, none}
 use Rattle.model.specs.Memory.{zeros, screenOf, withScreen}
 use Rattle.model.specs.Record.{State, decode, encode, valid, windows, recordBytes, withHead, withPending}
-use Rattle.model.specs.Refusals.{LENT, STATE, WINDOW, VALUE, Test, test, refusal, ruled}
+use Rattle.model.specs.Refusals.{LENT, STATE, WINDOW, VALUE, RADIUS, ENDLESS, Test, test, refusal, ruled}
 use Rattle.model.specs.Marks.{Drawing, drawnOn, marked, withDirty}
 use Rattle.model.specs.Open.{clearMemory, openState, resetState}
 use Rattle.model.specs.Points.{drawMode, point, checkPoint}
 use Rattle.model.specs.Lines.{line}
 use Rattle.model.specs.Boxes.{box}
+use Rattle.model.specs.Ellipses.{ellipse, circle, radiiFit, stepsFit}
 use Rattle.model.specs.Text.{withRow, withColumn, withPrintMode}
 use Rattle.model.specs.Poke.{poked, pokeMark}
 use Rattle.model.specs.Sends.{sendPending, sendNumbers, sendPanel}
@@ -34,6 +35,10 @@ pub data Call : Type 0 where
   drawLine : ℕ → ℕ → ℕ → ℕ → ℕ → Call
   -- x1, y1, x2, y2, fill, mode
   drawBox : ℕ → ℕ → ℕ → ℕ → ℕ → ℕ → Call
+  -- x, y, radius, fill, mode
+  drawCircle : ℕ → ℕ → ℕ → ℕ → ℕ → Call
+  -- x, y, the two radii, fill, mode
+  drawEllipse : ℕ → ℕ → ℕ → ℕ → ℕ → ℕ → Call
   checkPixel : ℤ → ℤ → Call
   -- address, byte
   writeByte : ℕ → ℕ → Call
@@ -88,6 +93,20 @@ memoryFits l = eqb (length (l .memory)) memoryBytes
 abbrev pub panelFits : Geometry → Lent → Bool
 panelFits g l = eqb (length (l .panel)) (screenBytes g)
 
+-- the fill flag and the draw mode are listed
+abbrev pub fillFits : ℕ → ℕ → Bool
+fillFits fill mode = leb fill 1 && leb mode 3
+
+-- the fill flag, 0 or 1
+abbrev pub filled : ℕ → Bool
+filled n = eqb n 1
+
+-- RADIUS and ENDLESS come after the two early returns of an ellipse
+abbrev pub ellipseTests : Geometry → ℕ → ℕ → ℕ → ℕ → Lent → List Test
+ellipseTests g rx ry fill mode l =
+    lentTest g (l .rec) (memoryFits l) ∷ stateTest g (l .rec) ∷ test VALUE (fillFits fill mode) ∷
+    test RADIUS (radiiFit rx ry (filled fill) (drawMode mode)) ∷ test ENDLESS (stepsFit rx ry (filled fill) (drawMode mode)) ∷ []
+
 unfoldable pub refusals : Geometry → Call → Lent → List Test
 refusals g (opening graphics text version keys) l =
     lentTest g (l .rec) (memoryFits l) ∷ test WINDOW (windows g graphics text) ∷ test VALUE (leb version 1) ∷ []
@@ -95,7 +114,9 @@ refusals g reset l = lentTest g (l .rec) (memoryFits l) ∷ stateTest g (l .rec)
 refusals g (drawPoint x y mode) l = lentTest g (l .rec) (memoryFits l) ∷ stateTest g (l .rec) ∷ test VALUE (leb mode 3) ∷ []
 refusals g (drawLine x1 y1 x2 y2 mode) l = lentTest g (l .rec) (memoryFits l) ∷ stateTest g (l .rec) ∷ test VALUE (leb mode 3) ∷ []
 refusals g (drawBox x1 y1 x2 y2 fill mode) l =
-    lentTest g (l .rec) (memoryFits l) ∷ stateTest g (l .rec) ∷ test VALUE (leb fill 1 && leb mode 3) ∷ []
+    lentTest g (l .rec) (memoryFits l) ∷ stateTest g (l .rec) ∷ test VALUE (fillFits fill mode) ∷ []
+refusals g (drawCircle x y r fill mode) l = ellipseTests g r r fill mode l
+refusals g (drawEllipse x y rx ry fill mode) l = ellipseTests g rx ry fill mode l
 refusals g (checkPixel x y) l = lentTest g (l .rec) (memoryFits l) ∷ stateTest g (l .rec) ∷ []
 refusals g (writeByte a v) l = lentTest g (l .rec) (memoryFits l) ∷ stateTest g (l .rec) ∷ []
 refusals g getRow l = lentTest g (l .rec) true ∷ stateTest g (l .rec) ∷ []
@@ -113,6 +134,8 @@ numbers reset = 0
 numbers (drawPoint x y mode) = 0
 numbers (drawLine x1 y1 x2 y2 mode) = 0
 numbers (drawBox x1 y1 x2 y2 fill mode) = 0
+numbers (drawCircle x y r fill mode) = 0
+numbers (drawEllipse x y rx ry fill mode) = 0
 numbers (checkPixel x y) = 1
 numbers (writeByte a v) = 0
 numbers getRow = 1
@@ -136,10 +159,6 @@ drawing g d l =
 unfoldable pub changed : Geometry → (Head → Head) → Lent → Lent
 changed g f l = let s = decode g (l .rec) in lent (encode (withHead (f (s .head)) s)) (l .memory) (l .panel)
 
--- the fill flag, 0 or 1
-abbrev pub filled : ℕ → Bool
-filled n = eqb n 1
-
 abbrev pub flag : Bool → ℕ
 flag b = cond b 1 0
 
@@ -155,6 +174,8 @@ done g reset l =
 done g (drawPoint x y mode) l = answered 0 [] (drawing g (point (g .stride) (height g) x y (drawMode mode)) l)
 done g (drawLine x1 y1 x2 y2 mode) l = answered 0 [] (drawing g (line (g .stride) (height g) x1 y1 x2 y2 (drawMode mode)) l)
 done g (drawBox x1 y1 x2 y2 fill mode) l = answered 0 [] (drawing g (box (g .stride) (height g) x1 y1 x2 y2 (filled fill) (drawMode mode)) l)
+done g (drawCircle x y r fill mode) l = answered 0 [] (drawing g (circle (g .stride) (height g) x y r (filled fill) (drawMode mode)) l)
+done g (drawEllipse x y rx ry fill mode) l = answered 0 [] (drawing g (ellipse (g .stride) (height g) x y rx ry (filled fill) (drawMode mode)) l)
 done g (checkPixel x y) l =
     answered 0 (flag (checkPoint (g .stride) (height g) (screenOf g (decode g (l .rec) .head .graphics) (l .memory)) x y) ∷ []) l
 done g (writeByte a v) l =

@@ -11,6 +11,7 @@ pub mod Open
 pub mod Points
 pub mod Lines
 pub mod Boxes
+pub mod Ellipses
 pub mod Text
 pub mod Poke
 pub mod Sends

@@ -15,9 +15,10 @@ use Rattle.model.specs.Open.{nothingPending, openPending}
 use Rattle.model.specs.Points.{drawMode, point}
 use Rattle.model.specs.Lines.{line}
 use Rattle.model.specs.Boxes.{box}
+use Rattle.model.specs.Ellipses.{ellipse, circle}
 use Rattle.model.specs.Poke.{pokeMark}
 use Rattle.model.specs.Sends.{sendPending}
-use Rattle.model.specs.Calls.{Call, opening, reset, drawPoint, drawLine, drawBox, checkPixel, writeByte, getRow, getColumn, setRow, setColumn, setPrintMode, takeDirtyArea, send, Lent, Outcome, filled, refusals, outcome}
+use Rattle.model.specs.Calls.{Call, opening, reset, drawPoint, drawLine, drawBox, drawCircle, drawEllipse, checkPixel, writeByte, getRow, getColumn, setRow, setColumn, setPrintMode, takeDirtyArea, send, Lent, Outcome, filled, refusals, outcome}
 use lib.ListN.{length}
 
 -- ---- lists of calls
@@ -32,6 +33,8 @@ Typed reset = Unit {0}
 Typed (drawPoint x y mode) = (x < 256) × (y < 256) × (mode < 256)
 Typed (drawLine x1 y1 x2 y2 mode) = (x1 < 256) × (y1 < 256) × (x2 < 256) × (y2 < 256) × (mode < 256)
 Typed (drawBox x1 y1 x2 y2 fill mode) = (x1 < 256) × (y1 < 256) × (x2 < 256) × (y2 < 256) × (fill < 256) × (mode < 256)
+Typed (drawCircle x y r fill mode) = (x < 256) × (y < 256) × (r < 256) × (fill < 256) × (mode < 256)
+Typed (drawEllipse x y rx ry fill mode) = (x < 256) × (y < 256) × (rx < 256) × (ry < 256) × (fill < 256) × (mode < 256)
 Typed (checkPixel x y) = Unit {0}
 Typed (writeByte a v) = (a < 65536) × (v < 256)
 Typed getRow = Unit {0}
@@ -76,6 +79,8 @@ effect g reset l = marks (whole (g .stride) (height g))
 effect g (drawPoint x y mode) l = draws g (point (g .stride) (height g) x y (drawMode mode))
 effect g (drawLine x1 y1 x2 y2 mode) l = draws g (line (g .stride) (height g) x1 y1 x2 y2 (drawMode mode))
 effect g (drawBox x1 y1 x2 y2 fill mode) l = draws g (box (g .stride) (height g) x1 y1 x2 y2 (filled fill) (drawMode mode))
+effect g (drawCircle x y r fill mode) l = draws g (circle (g .stride) (height g) x y r (filled fill) (drawMode mode))
+effect g (drawEllipse x y rx ry fill mode) l = draws g (ellipse (g .stride) (height g) x y rx ry (filled fill) (drawMode mode))
 effect g (checkPixel x y) l = nothing
 effect g (writeByte a v) l = let s = decode g (l .rec) in marks (pokeMark g (s .keys) (s .head .graphics) a)
 effect g getRow l = nothing

@@ -19,6 +19,14 @@ WINDOW = 3
 abbrev pub VALUE : ℕ
 VALUE = 4
 
+-- an ellipse radius above 127
+abbrev pub RADIUS : ℕ
+RADIUS = 6
+
+-- an ellipse of over 512 steps
+abbrev pub ENDLESS : ℕ
+ENDLESS = 8
+
 pub record Test : Type 0 where
   pub number : ℕ
   pub passes : Bool

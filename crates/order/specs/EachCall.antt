@@ -1,7 +1,8 @@
 -- Every accepted call: one clause says that it leaves a good state and that the panel's state follows by its effect.
 use mathlib.Core.Path.{_≡_, refl}
+use mathlib.Core.Bool.{Bool}
 use mathlib.Core.List.{List}
-use Prim.Native.Nat.{ℕ, zero, suc}
+use Prim.Native.Nat.{ℕ, zero, suc, _<_}
 use native.Mathlib.Omega.{arith}
 use lib.ListN.{length}
 use Rattle.model.specs.Geometry.{Geometry, height, screenBytes}
@@ -11,12 +12,15 @@ use Rattle.model.specs.Marks.{withDirty}
 use Rattle.model.specs.Points.{drawMode, point}
 use Rattle.model.specs.Lines.{line}
 use Rattle.model.specs.Boxes.{box}
+use Rattle.model.specs.Ellipses.{ellipse, circle}
+use Rattle.model.specs.declared.DrawMode.{DrawMode}
 use Rattle.model.specs.Text.{withRow, withColumn, withPrintMode}
-use Rattle.model.specs.Calls.{Call, opening, reset, drawPoint, drawLine, drawBox, checkPixel, writeByte, getRow, getColumn, setRow, setColumn, setPrintMode, takeDirtyArea, send, Lent, answered, filled, refusals, refused, done, outcome}
+use Rattle.model.specs.Calls.{Call, opening, reset, drawPoint, drawLine, drawBox, drawCircle, drawEllipse, checkPixel, writeByte, getRow, getColumn, setRow, setColumn, setPrintMode, takeDirtyArea, send, Lent, answered, filled, refusals, refused, done, outcome}
 use Rattle.model.specs.Lists.{accepted, Typed, Item, here, elsewhere, after, opens, effect, effectAt, itemEffect}
-use Rattle.laws.specs.Rects.{passes-fits}
+use Rattle.laws.specs.Rects.{Fits, passes-fits}
 use Rattle.laws.specs.DrawLine.{line-fits}
 use Rattle.laws.specs.Boxes.{box-fits}
+use Rattle.laws.specs.EllipseMarks.{ellipse-fits}
 use Rattle.laws.specs.Calls.{accepted-pass}
 use Rattle.order.specs.Sim.{Simulates}
 use Rattle.order.specs.Step.{Glass, Good, Step, view, same-step}
@@ -36,6 +40,11 @@ module _ (g : Geometry) (k : Glass g) where
       let b = accepted-pass (refusals g (opening graphics text version keys) l) (omega arith) a in
       open-step g k graphics text version keys l (b .1 .0) (b .1 .1 .0) (t .0) (t .1) p
 
+  ellipse-mark : (x y rx ry : ℕ) (fill : Bool) (d : DrawMode) → x < 256 → y < 256 → Fits 256 0 256 (ellipse (g .stride) (height g) x y rx ry fill d .dirty)
+  ellipse-mark x y rx ry fill d hx hy =
+      passes-fits 256 0 256 _
+      (ellipse-fits (g .stride) (height g) x y rx ry fill d (k .stride) (omega (arith, k .small)) (omega (arith, k .row)) (omega (arith, k .small)) hx hy)
+
   pub call-step : (c : Call) (l : Lent) → Typed c → Good g l → accepted g c l → Step g l (effect g c l) (done g c l .left)
   unfolding effect refusals done answered withRow withColumn withPrintMode
   call-step (opening graphics text version keys) l t q a = opening-step graphics text version keys l t a (q .panel)
@@ -47,6 +56,12 @@ module _ (g : Geometry) (k : Glass g) where
   call-step (drawBox x1 y1 x2 y2 fill mode) l t q a =
       drawing-step g k (box (g .stride) (height g) x1 y1 x2 y2 (filled fill) (drawMode mode)) l q
       (passes-fits 256 0 256 _ (box-fits (g .stride) (height g) x1 y1 x2 y2 (filled fill) (drawMode mode) (t .0) (t .1) (t .2) (t .3)))
+  call-step (drawCircle x y r fill mode) l t q a =
+      drawing-step g k (circle (g .stride) (height g) x y r (filled fill) (drawMode mode)) l q
+      (ellipse-mark x y r r (filled fill) (drawMode mode) (t .0) (t .1))
+  call-step (drawEllipse x y rx ry fill mode) l t q a =
+      drawing-step g k (ellipse (g .stride) (height g) x y rx ry (filled fill) (drawMode mode)) l q
+      (ellipse-mark x y rx ry (filled fill) (drawMode mode) (t .0) (t .1))
   call-step (checkPixel x y) l t q a = same-step g l q
   call-step (writeByte b v) l t q a = poke-step g k b v l q
   call-step getRow l t q a = same-step g l q

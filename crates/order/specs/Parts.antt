@@ -1,11 +1,11 @@
 -- What a call is lent. Lists give every call all three buffers; an exported call is lent only those that it takes, and this is the same.
 use mathlib.Core.Path.{_≡_, refl, sym, ap}
-use mathlib.Core.List.{List, []}
+use mathlib.Core.List.{[]}
 use Prim.Native.Nat.{ℕ, zero, suc}
 use Rattle.model.specs.Geometry.{Geometry}
 use Rattle.model.specs.Memory.{zeros}
 use Rattle.model.specs.Refusals.{refusal, ruled}
-use Rattle.model.specs.Calls.{Call, opening, reset, drawPoint, drawLine, drawBox, checkPixel, writeByte, getRow, getColumn, setRow, setColumn, setPrintMode, takeDirtyArea, send, Lent, lent, Outcome, answered, refusals, numbers, refused, drawing, changed, done, outcome}
+use Rattle.model.specs.Calls.{Call, opening, reset, drawPoint, drawLine, drawBox, drawCircle, drawEllipse, checkPixel, writeByte, getRow, getColumn, setRow, setColumn, setPrintMode, takeDirtyArea, send, Lent, lent, Outcome, answered, refusals, numbers, refused, drawing, changed, done, outcome}
 
 -- the record alone; record and memory; all three
 pub data Parts : Type 0 where
@@ -19,6 +19,8 @@ takes reset = with-memory
 takes (drawPoint x y mode) = with-memory
 takes (drawLine x1 y1 x2 y2 mode) = with-memory
 takes (drawBox x1 y1 x2 y2 fill mode) = with-memory
+takes (drawCircle x y r fill mode) = with-memory
+takes (drawEllipse x y rx ry fill mode) = with-memory
 takes (checkPixel x y) = with-memory
 takes (writeByte a v) = with-memory
 takes getRow = record-only
@@ -53,6 +55,8 @@ module _ (g : Geometry) where
   each (drawPoint x y mode) l = (refl, refl)
   each (drawLine x1 y1 x2 y2 mode) l = (refl, refl)
   each (drawBox x1 y1 x2 y2 fill mode) l = (refl, refl)
+  each (drawCircle x y r fill mode) l = (refl, refl)
+  each (drawEllipse x y rx ry fill mode) l = (refl, refl)
   each (checkPixel x y) l = (refl, refl)
   each (writeByte a v) l = (refl, refl)
   each getRow l = (refl, refl)

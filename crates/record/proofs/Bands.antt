@@ -1,23 +1,17 @@
 -- The pending part with its one band, as the code has it.
-use mathlib.Core.Path.{_≡_, refl, sym, ap, _∙_}
+use mathlib.Core.Path.{_≡_, sym, ap, _∙_}
 use mathlib.Core.List.{List, [], _∷_, _++_}
 use mathlib.Core.Bool.{Bool, _&&_, and-true}
 use Prim.Native.Nat.{ℕ}
-use native.Mathlib.Omega.{arith}
 use lib.Dec.{ltb, leb}
 use lib.ListN.{length, getD, drop}
 use Rattle.model.specs.declared.Rect.{Rect}
 use Rattle.model.specs.declared.Head.{Head}
 use Rattle.model.specs.declared.Pending.{Pending}
+use Rattle.laws.specs.Bands.{one}
 use Rattle.model.specs.Geometry.{base}
 use Rattle.model.specs.Rects.{none, fits}
 use Rattle.model.specs.Record.{rectBytes, rectsBytes, fourBytes, bytesOfPending, windows, bandsFit, stateFits, headOf, pendingOf, pendingAt, flagsFit, flagsAt, valid}
-
--- a list of one
-pub one : (l : List Rect) → length l ≡ 1 → l ≡ getD l 0 none ∷ []
-one [] e = absurd (omega arith)
-one (q ∷ []) e = refl
-one (q ∷ r ∷ l) e = absurd (omega arith)
 
 pub pending-equal : {a b q r : Rect} {n m : ℕ} → a ≡ b → q ≡ r → n ≡ m
     → _≡_ {A = Pending} (record { owed = a ∷ []; hand = q; sent = n }) (record { owed = b ∷ []; hand = r; sent = m })

@@ -1,31 +1,19 @@
 -- What marks and stores leave, from what their calls say.
-use mathlib.Core.Path.{_≡_, sym, ap, _∙_}
-use mathlib.Core.List.{List, [], _∷_}
+use mathlib.Core.Path.{_≡_, ap, _∙_}
+use mathlib.Core.List.{List}
 use Prim.Native.Nat.{ℕ, _<_}
 use lib.ListN.{length, getD}
 use Rattle.model.specs.declared.Rect.{Rect}
 use Rattle.model.specs.declared.Head.{Head}
 use Rattle.model.specs.declared.Pending.{Pending}
 use Rattle.model.specs.Geometry.{base}
-use Rattle.model.specs.Rects.{none, join, cut}
 use Rattle.model.specs.Memory.{withWindow}
 use Rattle.model.specs.Record.{Bytes, headOf, pendingOf, decode, encode, withHead, withPending, bytesOfHead, bytesOfPending, pendingAt}
-use Rattle.model.specs.Marks.{withDirty, updateDirty, joinOwed, owing, marked}
+use Rattle.model.specs.Marks.{updateDirty, joinOwed, owing, marked}
 use Rattle.laws.specs.Record.{Passing}
 use Rattle.laws.specs.Stores.{put-head, put-pending, put-both, pending-kept}
 use Rattle.record.specs.Entry.{Known}
-use Rattle.record.proofs.Bands.{one}
-
-pub is-dirty : (h : Head) (m : Rect) {d : Rect} → d ≡ join (h .dirty) m → withDirty d h ≡ updateDirty m h
-unfolding updateDirty
-is-dirty h m e = ap (λ (q : Rect). withDirty q h) e
-
-pub is-owing : (p : Pending) (m : Rect) {c q : Rect} → length (p .owed) ≡ 1 → c ≡ cut 160 0 80 m → q ≡ join (getD (p .owed) 0 none) c
-    → record { owed = q ∷ []; hand = p .hand; sent = p .sent } ≡ owing base m p
-unfolding owing joinOwed
-is-owing p m n e f =
-    (λ i. record { owed = (f ∙ ap (join (getD (p .owed) 0 none)) e) i ∷ []; hand = p .hand; sent = p .sent })
-    ∙ (λ i. record { owed = joinOwed 160 80 0 m (sym (one (p .owed) n) i); hand = p .hand; sent = p .sent })
+use Rattle.laws.specs.Bands.{one}
 
 -- a record whose elements are bytes, as a slice's are
 pub passing : (r : List ℕ) (h : Head) → Known r h → ((i : ℕ) → getD r i 0 < 256) → Passing base r

@@ -1,7 +1,7 @@
 // The entry of every call but open: LENT, then STATE.
 use crate::layout;
-use crate::rect;
 use crate::state;
+use marks::rect;
 use model::Head;
 use model::Rect;
 ghost use mathlib.Core.Path.{_≡_};

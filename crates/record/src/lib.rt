@@ -2,8 +2,6 @@
 pub mod entry;
 pub mod keys;
 pub mod layout;
-pub mod mark;
 pub mod open;
-pub mod rect;
 pub mod state;
 pub mod update;

@@ -1,7 +1,7 @@
 // The record that open writes, over any bytes.
 use crate::layout;
-use crate::rect;
 use crate::update;
+use marks::rect;
 use model::Head;
 use model::Pending;
 use model::Rect;

@@ -1,6 +1,6 @@
 // STATE: what every field of a record must be.
 use crate::layout;
-use crate::rect;
+use marks::rect;
 use model::Head;
 use model::Pending;
 ghost use mathlib.Core.Path.{_≡_};

@@ -1,7 +1,7 @@
 // A record that has passed, with one part changed.
 use crate::layout;
-use crate::mark;
-use crate::rect;
+use marks::mark;
+use marks::rect;
 use model::Head;
 use model::Marks;
 use model::Pending;

@@ -1,7 +1,7 @@
 // What a send does to the pending part of the record, by value.
+use marks::rect;
 use model::Pending;
 use model::Rect;
-use record::rect;
 ghost use mathlib.Core.Path.{_≡_};
 ghost use Prim.Native.Nat.{_+_, _<_, min};
 ghost use lib.ListN.{length};

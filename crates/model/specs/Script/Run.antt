@@ -4,7 +4,7 @@ use mathlib.Core.List.{List, [], _∷_, _++_}
 use Prim.Native.Nat.{ℕ, zero, suc, _+_, _/_, _%_}
 use lib.Dec.{ltb, eqb}
 use lib.ListN.{length}
-use Rattle.model.specs.Geometry.{base}
+use Rattle.model.specs.Geometry.{base, screenBytes}
 use Rattle.model.specs.Memory.{zeros, screenOf}
 use Rattle.model.specs.Record.{decode, encode}
 use Rattle.model.specs.Open.{openState, clearMemory}
@@ -89,7 +89,7 @@ noKeys = 0 ∷ 0 ∷ 0 ∷ 0 ∷ 0 ∷ 0 ∷ 0 ∷ 0 ∷ []
 
 -- opened with V2, no keys and a zero panel
 unfoldable pub opened : Lent
-opened = lent (encode (openState base graphicsBase textBase 1 noKeys)) (clearMemory noKeys) (zeros 1600)
+opened = lent (encode (openState base graphicsBase textBase 1 noKeys)) (clearMemory noKeys) (zeros (screenBytes base))
 
 -- (end d l): differing pixels, then L
 unfoldable pub ending : Lent → List ℕ

@@ -1,97 +1,71 @@
--- The loop's invariant: the rest of the rows, drawn on the screen as it stands, gives the whole box.
-use mathlib.Core.Path.{_≡_}
-use Prim.Native.Nat.{_≤_, _+_}
 use native.Mathlib.Omega.{arith}
-use Rattle.model.specs.Pixels.{Screen, draw, seen}
-use Rattle.model.specs.Boxes.{rows, filledBox}
-use Rattle.laws.specs.Writes.{screen-draw}
-use Rattle.laws.specs.Boxes.{rows-start, rows-turn, rows-end}
+use Rattle.model.specs.Record.{Bytes}
+use Rattle.laws.specs.Boxes.{whole-in, box-whole}
+use borrow.Author.Needs.{needs}
 use Rattle.draw.proofs.boxes.fill_box.Statement.{statement}
 use Rattle.draw.proofs.boxes.fill_box.Tie as tie
 
-abbrev Inv-loop : tie.InvT-loop
-Inv-loop stride height screen₀ left top right bottom mode first last y₀ count₀ screen y count =
-    Screen stride height screen × (y + count ≤ 256)
-    × (draw stride (seen stride height (rows stride height left right y count mode)) screen
-    ≡ draw stride (seen stride height (filledBox stride height left top right bottom mode)) screen₀)
+mul-clamp : tie.Need-mul-clamp
+mul-clamp c = search needs
 
-abbrev μ-loop : tie.MeasureT-loop
-μ-loop stride height screen₀ left top right bottom mode first last y₀ count₀ screen y count = count
+clamp-requires : tie.Need-clamp-requires
+clamp-requires c κs = search needs
 
-mul-clamp : tie.Need-mul-clamp Inv-loop μ-loop
-mul-clamp c = omega arith
+mul-clamp-2 : tie.Need-mul-clamp-2
+mul-clamp-2 c = search needs
 
-clamp-requires : tie.Need-clamp-requires Inv-loop μ-loop
-clamp-requires c κs = omega arith
+clamp-requires-2 : tie.Need-clamp-requires-2
+clamp-requires-2 c κs = search needs
 
-mul-clamp-2 : tie.Need-mul-clamp-2 Inv-loop μ-loop
-mul-clamp-2 c = omega arith
+is-whole-requires : tie.Need-is-whole-requires
+is-whole-requires c κs = search needs
 
-clamp-requires-2 : tie.Need-clamp-requires-2 Inv-loop μ-loop
-clamp-requires-2 c κs = omega arith
+mul-draw-bytes : tie.Need-mul-draw-bytes
+mul-draw-bytes c = omega (arith, whole-in _ _ (c .before .before .before .before .before .before .args .top) (c .before .before .before .before .before .before .args .bottom) _ _ (c .before .before .before .before .before .before .pre .0) (c .before .before .before .before .before .before .pre .1 .1) (c .before .before .is-whole .ensures) (c .before .if1 .taken))
 
-sub-count : tie.Need-sub-count Inv-loop μ-loop
-sub-count c = omega arith
+add-draw-bytes : tie.Need-add-draw-bytes
+add-draw-bytes c = search needs
 
-cast-count : tie.Need-cast-count Inv-loop μ-loop
-cast-count c = omega arith
+mul-draw-bytes-2 : tie.Need-mul-draw-bytes-2
+mul-draw-bytes-2 c = omega (arith, whole-in _ _ (c .before .before .before .before .before .before .args .top) (c .before .before .before .before .before .before .args .bottom) _ _ (c .before .before .before .before .before .before .pre .0) (c .before .before .before .before .before .before .pre .1 .1) (c .before .before .is-whole .ensures) (c .before .if1 .taken))
 
-add-count : tie.Need-add-count Inv-loop μ-loop
-add-count c = omega arith
+draw-bytes-requires : tie.Need-draw-bytes-requires
+draw-bytes-requires c κs = whole-in _ _ (c .before .before .before .before .before .before .args .top) (c .before .before .before .before .before .before .args .bottom) _ _ (c .before .before .before .before .before .before .pre .0) (c .before .before .before .before .before .before .pre .1 .1) (c .before .before .is-whole .ensures) (c .before .if1 .taken)
 
-loop-holds : tie.Need-loop-holds Inv-loop μ-loop
-loop-holds c = (c .before .before .before .pre .0, omega arith, rows-start _ _ _ _ _ _ _ _)
+same-length : tie.Need-same-length
+same-length c = search needs
 
-clamp-requires-3 : tie.Need-clamp-requires-3 Inv-loop μ-loop
-clamp-requires-3 c κs = omega arith
+returns : tie.Need-returns
+unfolding Bytes
+returns c =
+    let a = c .before .before .before .before .before .before .before .before .before in
+    box-whole _ _ _ _ _ _ _ _ _ (a .pre .0) (λ i. omega (arith, c .before .before .before .before .before .before .before .before .slice-known .given i)) (a .pre .1)
+    (c .before .before .before .before .before .before .before .clamp .ensures) (c .before .before .before .before .before .before .clamp2 .ensures) (c .before .before .before .before .before .is-whole .ensures) (c .before .before .before .before .if1 .taken) (c .before .before .draw-bytes .ensures)
 
-draw-run-requires : tie.Need-draw-run-requires Inv-loop μ-loop
-draw-run-requires c κs = (c .before .before .before .loop .inv .0, omega arith)
+fill-rows-requires : tie.Need-fill-rows-requires
+fill-rows-requires c κs = search needs
 
-add-y : tie.Need-add-y Inv-loop μ-loop
-add-y c = omega arith
+same-length-2 : tie.Need-same-length-2
+same-length-2 c = search needs
 
-sub-count-2 : tie.Need-sub-count-2 Inv-loop μ-loop
-sub-count-2 c = omega arith
-
-loop-less : tie.Need-loop-less Inv-loop μ-loop
-loop-less c = omega arith
-
-loop-again : tie.Need-loop-again Inv-loop μ-loop
-loop-again c =
-    let at = c .before .before .before .before .before .before .loop in
-    let row = c .before .before .draw-run .ensures in (
-      screen-draw _ _ _ (at .inv .0) row,
-      omega arith,
-      rows-turn _ _ _ _ _ (at .count) _ _ _ _ (at .inv .0) (c .before .before .before .before .before .before .before .before .before .before .pre .1 .0) (omega arith)
-          (c .before .before .before .before .before .before .before .before .clamp .ensures) (c .before .before .before .before .before .before .before .clamp2 .ensures) (c .before .before .before .before .clamp3 .ensures) row (at .inv .2),
-    )
-
-same-length : tie.Need-same-length Inv-loop μ-loop
-same-length c = omega arith
-
-returns : tie.Need-returns Inv-loop μ-loop
-returns c = search rows-end
+returns-2 : tie.Need-returns-2
+returns-2 c = search needs
 
 pub fill-box-spec : {M : Type 1} → statement M
 fill-box-spec =
     tie.close
     (tie.spec
-    Inv-loop
-    μ-loop
     mul-clamp
     clamp-requires
     mul-clamp-2
     clamp-requires-2
-    sub-count
-    cast-count
-    add-count
-    loop-holds
-    clamp-requires-3
-    draw-run-requires
-    add-y
-    sub-count-2
-    loop-less
-    loop-again
+    is-whole-requires
+    mul-draw-bytes
+    add-draw-bytes
+    mul-draw-bytes-2
+    draw-bytes-requires
     same-length
-    returns)
+    returns
+    fill-rows-requires
+    same-length-2
+    returns-2)

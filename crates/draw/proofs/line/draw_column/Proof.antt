@@ -10,17 +10,21 @@ use Rattle.draw.proofs.line.draw_column.Statement.{statement}
 use Rattle.draw.proofs.line.draw_column.Tie as tie
 
 abbrev Inv-loop : tie.InvT-loop
-Inv-loop stride height screen₀ x top count mode y₀ points₀ screen y points =
+Inv-loop stride height screen₀ x top count mode mask y₀ points₀ screen y points =
     Screen stride height screen × (y + points ≤ height) × (draw stride (pixelColumn x y points mode) screen ≡ draw stride (pixelColumn x top count mode) screen₀)
 
 abbrev μ-loop : tie.MeasureT-loop
-μ-loop stride height screen₀ x top count mode y₀ points₀ screen y points = points
+μ-loop stride height screen₀ x top count mode mask y₀ points₀ screen y points = points
+
+point-mask-requires : tie.Need-point-mask-requires Inv-loop μ-loop
+point-mask-requires c κs = tt
 
 loop-holds : tie.Need-loop-holds Inv-loop μ-loop
-loop-holds c = (c .before .pre .0, c .before .pre .1 .1, refl)
+loop-holds c = (c .before .before .pre .0, c .before .before .pre .1 .1, refl)
 
-plot-requires : tie.Need-plot-requires Inv-loop μ-loop
-plot-requires c κs = (c .before .before .loop .inv .0, (c .before .before .before .before .pre .1 .0, omega arith))
+plot-mask-requires : tie.Need-plot-mask-requires Inv-loop μ-loop
+plot-mask-requires c κs =
+    (c .before .before .loop .inv .0, ((c .before .before .before .before .before .pre .1 .0, omega arith), c .before .before .before .point-mask .ensures))
 
 add-y : tie.Need-add-y Inv-loop μ-loop
 add-y c = omega arith
@@ -34,7 +38,7 @@ loop-less c = omega arith
 loop-again : tie.Need-loop-again Inv-loop μ-loop
 loop-again c =
     let at = c .before .before .before .before .before .loop in
-    let drawn = c .before .before .plot .ensures in
+    let drawn = c .before .before .plot-mask .ensures in
     (screen-write _ _ _ (at .inv .0) drawn, omega arith, column-turn _ _ _ (at .points) _ _ _ _ (omega arith) drawn (at .inv .2))
 
 same-length : tie.Need-same-length Inv-loop μ-loop
@@ -49,8 +53,9 @@ draw-column-spec =
     (tie.spec
     Inv-loop
     μ-loop
+    point-mask-requires
     loop-holds
-    plot-requires
+    plot-mask-requires
     add-y
     sub-points
     loop-less

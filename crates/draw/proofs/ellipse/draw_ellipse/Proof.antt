@@ -1,0 +1,65 @@
+use Rattle.laws.specs.EllipseDrawn.{is-round, ellipse-point, ellipse-nothing, ellipse-filled, ellipse-outlined}
+use borrow.Author.Needs.{needs}
+use Rattle.draw.proofs.ellipse.draw_ellipse.Statement.{statement}
+use Rattle.draw.proofs.ellipse.draw_ellipse.Tie as tie
+
+is-point-requires : tie.Need-is-point-requires
+is-point-requires c κs = search needs
+
+draw-point-requires : tie.Need-draw-point-requires
+draw-point-requires c κs = search needs
+
+same-length : tie.Need-same-length
+same-length c = search needs
+
+returns : tie.Need-returns
+returns c = search ellipse-point
+
+is-nothing-requires : tie.Need-is-nothing-requires
+is-nothing-requires c κs = search needs
+
+no-marks-requires : tie.Need-no-marks-requires
+no-marks-requires c κs = search needs
+
+returns-2 : tie.Need-returns-2
+returns-2 c = search ellipse-nothing
+
+draw-walk-requires : tie.Need-draw-walk-requires
+draw-walk-requires c κs = search (is-round, needs)
+
+ellipse-mark-requires : tie.Need-ellipse-mark-requires
+ellipse-mark-requires c κs = search needs
+
+lower-requires : tie.Need-lower-requires
+lower-requires c κs = search needs
+
+same-length-2 : tie.Need-same-length-2
+same-length-2 c = search needs
+
+returns-3 : tie.Need-returns-3
+returns-3 c = search ellipse-filled
+
+same-length-3 : tie.Need-same-length-3
+same-length-3 c = search needs
+
+returns-4 : tie.Need-returns-4
+returns-4 c = search (ellipse-outlined, needs)
+
+pub draw-ellipse-spec : {M : Type 1} → statement M
+draw-ellipse-spec =
+    tie.close
+    (tie.spec
+    is-point-requires
+    draw-point-requires
+    same-length
+    returns
+    is-nothing-requires
+    no-marks-requires
+    returns-2
+    draw-walk-requires
+    ellipse-mark-requires
+    lower-requires
+    same-length-2
+    returns-3
+    same-length-3
+    returns-4)

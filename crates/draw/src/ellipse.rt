@@ -1,0 +1,259 @@
+// `draw_ellipse`: one walk along a quarter of the outline, each part drawn as it comes.
+ghost use mathlib.Core.Path.{_≡_};
+ghost use mathlib.Core.Bool.{true, cond};
+ghost use Prim.Native.Nat.{_+_, _*_, _≤_, _<_, max};
+ghost use lib.Dec.{ltb};
+ghost use Rattle.model.specs.Pixels.{Screen, draw, seen};
+ghost use Rattle.model.specs.Marks.{drawn, drawnOn};
+ghost use Rattle.model.specs.Ellipses.{part, parts, up, down, corners, chord, chords, partWrites, wraps, ellipseMark, isPoint, isNothing, ellipse, radiiFit};
+ghost use Rattle.laws.specs.EllipseSteps.{Round};
+ghost use Rattle.laws.specs.EllipseWalks.{painted};
+ghost use Rattle.walk.specs.Walk.{partsOf};
+use crate::line::draw_hor_line;
+use crate::line::is_unknown;
+use model::DrawMode;
+use model::Marks;
+use model::Rect;
+use pixels::marks::greatest;
+use pixels::marks::lower;
+use pixels::marks::no_marks;
+use pixels::point::draw_point;
+use pixels::point::plot_seen;
+use std::num::wrapping_add_u8;
+use std::num::wrapping_sub_u8;
+use walk::Part;
+use walk::ended;
+use walk::next_step;
+use walk::start;
+
+fn up(z: u8, d: u8) -> u8
+    ensures { λ r. ⌜ r ≡ up z d ⌝ }
+{
+    wrapping_add_u8(z, d)
+}
+
+fn down(z: u8, d: u8) -> u8
+    ensures { λ r. ⌜ r ≡ down z d ⌝ }
+{
+    wrapping_sub_u8(z, d)
+}
+
+// The four corners of a part; off the screen they draw nothing.
+fn draw_corners(
+    stride: usize,
+    height: usize,
+    screen: &mut [u8],
+    x: u8,
+    y: u8,
+    a: u8,
+    b: u8,
+    mode: DrawMode,
+)
+    requires { ⌜ Screen stride height (now screen) ⌝ }
+    ensures { λ _. ⌜ now (screen .exit) ≡ draw stride (seen stride height (corners x y mode (part a b))) (now (screen .entry)) ⌝ }
+{
+    let left = down(x, a) as usize;
+    let right = up(x, a) as usize;
+    let top = down(y, b) as usize;
+    let bottom = up(y, b) as usize;
+    plot_seen(stride, height, screen, left, top, mode);
+    plot_seen(stride, height, screen, right, top, mode);
+    plot_seen(stride, height, screen, left, bottom, mode);
+    plot_seen(stride, height, screen, right, bottom, mode);
+}
+
+fn chord_left(left: u8, right: u8) -> u8
+    ensures { λ r. ⌜ r ≡ cond (ltb right left) 0 left ⌝ }
+{
+    if right < left { 0 } else { left }
+}
+
+// From corner to corner of line y; where the left one wrapped, from 0.
+fn draw_chord(stride: usize, height: usize, screen: &mut [u8], x: u8, a: u8, y: u8, mode: DrawMode)
+    requires { ⌜ Screen stride height (now screen) ⌝ }
+    ensures { λ _. ⌜ now (screen .exit) ≡ draw stride (seen stride height (chord stride height x a y mode)) (now (screen .entry)) ⌝ }
+{
+    let right = up(x, a);
+    let left = chord_left(down(x, a), right);
+    draw_hor_line(stride, height, screen, left, right, y, mode);
+}
+
+fn draw_chords(
+    stride: usize,
+    height: usize,
+    screen: &mut [u8],
+    x: u8,
+    y: u8,
+    a: u8,
+    b: u8,
+    mode: DrawMode,
+)
+    requires { ⌜ Screen stride height (now screen) ⌝ }
+    ensures { λ _. ⌜ now (screen .exit) ≡ draw stride (seen stride height (chords stride height x y mode (part a b))) (now (screen .entry)) ⌝ }
+{
+    draw_chord(stride, height, screen, x, a, down(y, b), mode);
+    draw_chord(stride, height, screen, x, a, up(y, b), mode);
+}
+
+fn draw_part(
+    stride: usize,
+    height: usize,
+    screen: &mut [u8],
+    x: u8,
+    y: u8,
+    a: u8,
+    b: u8,
+    fill: bool,
+    mode: DrawMode,
+)
+    requires { ⌜ Screen stride height (now screen) ⌝ }
+    ensures { λ _. ⌜ now (screen .exit) ≡ draw stride (seen stride height (partWrites stride height x y fill mode (part a b))) (now (screen .entry)) ⌝ }
+{
+    if fill {
+        draw_chords(stride, height, screen, x, y, a, b, mode);
+        return;
+    }
+    draw_corners(stride, height, screen, x, y, a, b, mode);
+}
+
+// The part of a step, if it draws one.
+fn draw_step(
+    stride: usize,
+    height: usize,
+    screen: &mut [u8],
+    x: u8,
+    y: u8,
+    part: Part,
+    fill: bool,
+    mode: DrawMode,
+)
+    requires { ⌜ Screen stride height (now screen) ⌝ }
+    ensures { λ _. ⌜ now (screen .exit) ≡ painted stride height x y fill mode (partsOf part) (now (screen .entry)) ⌝ }
+{
+    match part {
+        Part::At(a, b) => draw_part(stride, height, screen, x, y, a, b, fill, mode),
+        Part::Nothing => {}
+    }
+}
+
+fn draw_walk(
+    stride: usize,
+    height: usize,
+    screen: &mut [u8],
+    x: u8,
+    y: u8,
+    rx: u8,
+    ry: u8,
+    fill: bool,
+    mode: DrawMode,
+)
+    requires { ⌜ Screen stride height (now screen) ⌝ }
+    requires { ⌜ Round rx ry ⌝ }
+    ensures { λ _. ⌜ now (screen .exit) ≡ painted stride height x y fill mode (parts rx ry) (now (screen .entry)) ⌝ }
+{
+    let r = greatest(rx, ry);
+    draw_part(stride, height, screen, x, y, rx, 0, fill, mode);
+    let mut w = start(r, rx);
+    loop {
+        let s = next_step(w, r, rx, ry);
+        let part = s.part;
+        draw_step(stride, height, screen, x, y, part, fill, mode);
+        w = s.walk;
+        if ended(w) {
+            break;
+        }
+    }
+}
+
+// ---- marks
+
+fn wraps(x: u8, y: u8, rx: u8, ry: u8) -> bool
+    ensures { λ t. ⌜ t ≡ wraps x y rx ry ⌝ }
+{
+    let right = (x as u16) + (rx as u16);
+    let bottom = (y as u16) + (ry as u16);
+    ((x < rx) | (y < ry)) | ((255 < right) | (255 < bottom))
+}
+
+// One past the end, to the screen's edge at least.
+fn reach(z: u8, radius: u8, edge: u16) -> u16
+    ensures { λ r. ⌜ r ≡ max (z + radius + 1) edge ⌝ }
+{
+    let end = (z as u16) + (radius as u16) + 1;
+    if end < edge { edge } else { end }
+}
+
+fn ellipse_mark(stride: usize, height: usize, x: u8, y: u8, rx: u8, ry: u8) -> Rect
+    requires { ⌜ (0 < stride) × (stride ≤ 32) × (0 < height) × (height ≤ 256) ⌝ }
+    ensures { λ r. ⌜ r ≡ ellipseMark stride height x y rx ry ⌝ }
+{
+    let width = (8 * stride) as u16;
+    let lines = height as u16;
+    if wraps(x, y, rx, ry) {
+        return Rect {
+            left: 0,
+            top: 0,
+            right: width,
+            bottom: lines,
+        };
+    }
+    Rect {
+        left: (x - rx) as u16,
+        top: (y - ry) as u16,
+        right: reach(x, rx, width),
+        bottom: reach(y, ry, lines),
+    }
+}
+
+// ---- the whole
+
+fn is_point(rx: u8, ry: u8) -> bool
+    ensures { λ t. ⌜ t ≡ isPoint rx ry ⌝ }
+{
+    (rx == 0) & (ry == 0)
+}
+
+fn is_nothing(fill: bool, mode: DrawMode) -> bool
+    ensures { λ t. ⌜ t ≡ isNothing fill mode ⌝ }
+{
+    !fill & is_unknown(mode)
+}
+
+// What RADIUS tests, after the two early returns.
+pub fn radii_fit(rx: u8, ry: u8, fill: bool, mode: DrawMode) -> bool
+    ensures { λ t. ⌜ t ≡ radiiFit rx ry fill mode ⌝ }
+{
+    (is_point(rx, ry) | is_nothing(fill, mode)) | ((rx <= 127) & (ry <= 127))
+}
+
+pub fn draw_ellipse(
+    stride: usize,
+    height: usize,
+    screen: &mut [u8],
+    x: u8,
+    y: u8,
+    rx: u8,
+    ry: u8,
+    fill: bool,
+    mode: DrawMode,
+) -> Marks
+    requires { ⌜ Screen stride height (now screen) ⌝ }
+    requires { ⌜ radiiFit rx ry fill mode ≡ true ⌝ }
+    ensures { λ r. ⌜ drawn r (now (screen .exit)) ≡ drawnOn stride height (ellipse stride height x y rx ry fill mode) (now (screen .entry)) ⌝ }
+{
+    if is_point(rx, ry) {
+        return draw_point(stride, height, screen, x, y, mode);
+    }
+    if is_nothing(fill, mode) {
+        return no_marks();
+    }
+    draw_walk(stride, height, screen, x, y, rx, ry, fill, mode);
+    let dirty = ellipse_mark(stride, height, x, y, rx, ry);
+    if fill {
+        return Marks {
+            dirty,
+            owed: lower(stride, height, dirty),
+        };
+    }
+    Marks { dirty, owed: dirty }
+}

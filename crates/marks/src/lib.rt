@@ -1,0 +1,3 @@
+// Rectangles and marks, by value.
+pub mod mark;
+pub mod rect;

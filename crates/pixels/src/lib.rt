@@ -1,0 +1,4 @@
+// Points, runs of a line and marks: what the drawings of lines, boxes and ellipses are made of.
+pub mod marks;
+pub mod point;
+pub mod run;

@@ -1,0 +1,133 @@
+// `draw_point`, `check_point`, and the one write of a pixel that lines and ellipses use too.
+ghost use mathlib.Core.Path.{_≡_};
+ghost use mathlib.Core.List.{[], _∷_};
+ghost use Prim.Native.Nat.{_*_, _<_};
+ghost use Rattle.model.specs.Pixels.{Screen, onScreen, bit, writePixel, draw, seen};
+ghost use Rattle.model.specs.Marks.{drawn, drawnOn};
+ghost use Rattle.model.specs.Points.{pointWrite, point, checkPoint};
+ghost use Rattle.laws.specs.Points.{maskOf, pointByte, axisOf};
+use crate::marks::no_marks;
+use crate::marks::span_marks;
+use model::DrawMode;
+use model::Marks;
+
+const POINT_BIT_MASK: [u8; 8] = [128, 64, 32, 16, 8, 4, 2, 1];
+
+// The bit of pixel x in its byte.
+pub fn point_mask(x: usize) -> u8
+    ensures { λ r. ⌜ r ≡ maskOf x ⌝ }
+{
+    POINT_BIT_MASK[x % 8]
+}
+
+// A byte after a point under the mask.
+fn point_byte(mode: DrawMode, b: u8, mask: u8) -> u8
+    ensures { λ r. ⌜ r ≡ pointByte mode b mask ⌝ }
+{
+    match mode {
+        DrawMode::Clear => b & !mask,
+        DrawMode::Or => b | mask,
+        DrawMode::Xor => b ^ mask,
+        DrawMode::Unknown => b,
+    }
+}
+
+// A point on the screen, under the mask of x.
+pub fn plot_mask(
+    stride: usize,
+    height: usize,
+    screen: &mut [u8],
+    x: usize,
+    y: usize,
+    mask: u8,
+    mode: DrawMode,
+)
+    requires { ⌜ Screen stride height (now screen) ⌝ }
+    requires { ⌜ (x < 8 * stride) × (y < height) ⌝ }
+    requires { ⌜ mask ≡ maskOf x ⌝ }
+    ensures { λ _. ⌜ now (screen .exit) ≡ writePixel stride (now (screen .entry)) (pointWrite x y mode) ⌝ }
+{
+    let at = stride * y + x / 8;
+    let b = point_byte(mode, screen[at], mask);
+    screen[at] = b;
+}
+
+// A point anywhere: off the screen it draws nothing.
+pub fn plot_seen(
+    stride: usize,
+    height: usize,
+    screen: &mut [u8],
+    x: usize,
+    y: usize,
+    mode: DrawMode,
+)
+    requires { ⌜ Screen stride height (now screen) ⌝ }
+    ensures { λ _. ⌜ now (screen .exit) ≡ draw stride (seen stride height (pointWrite x y mode ∷ [])) (now (screen .entry)) ⌝ }
+{
+    if on_screen(stride, height, x, y) {
+        let mask = point_mask(x);
+        plot_mask(stride, height, screen, x, y, mask, mode);
+    }
+}
+
+pub fn on_screen(stride: usize, height: usize, x: usize, y: usize) -> bool
+    requires { ⌜ stride < 256 ⌝ }
+    ensures { λ r. ⌜ r ≡ onScreen stride height x y ⌝ }
+{
+    (x < 8 * stride) & (y < height)
+}
+
+pub fn draw_point(
+    stride: usize,
+    height: usize,
+    screen: &mut [u8],
+    x: u8,
+    y: u8,
+    mode: DrawMode,
+) -> Marks
+    requires { ⌜ Screen stride height (now screen) ⌝ }
+    ensures { λ r. ⌜ drawn r (now (screen .exit)) ≡ drawnOn stride height (point stride height x y mode) (now (screen .entry)) ⌝ }
+{
+    if on_screen(stride, height, x as usize, y as usize) {
+        let mask = point_mask(x as usize);
+        plot_mask(stride, height, screen, x as usize, y as usize, mask, mode);
+        return span_marks(x, y, x, y);
+    }
+    no_marks()
+}
+
+// A coordinate, or `size` where it lies off the axis.
+fn axis(z: i32, size: usize) -> usize
+    requires { ⌜ size < 65536 ⌝ }
+    ensures { λ r. ⌜ r ≡ axisOf z size ⌝ }
+{
+    if z < 0 {
+        return size;
+    }
+    let n = z as usize;
+    if n < size { n } else { size }
+}
+
+fn pixel(stride: usize, height: usize, screen: &[u8], x: usize, y: usize) -> bool
+    requires { ⌜ Screen stride height (now screen) ⌝ }
+    requires { ⌜ (x < 8 * stride) × (y < height) ⌝ }
+    ensures { λ r. ⌜ r ≡ bit stride (now (screen .entry)) x y ⌝ }
+{
+    let at = stride * y + x / 8;
+    let mask = point_mask(x);
+    screen[at] & mask != 0
+}
+
+pub fn check_pixel(stride: usize, height: usize, screen: &[u8], x: i32, y: i32) -> bool
+    requires { ⌜ Screen stride height (now screen) ⌝ }
+    ensures { λ r. ⌜ r ≡ checkPoint stride height (now (screen .entry)) x y ⌝ }
+{
+    let column = axis(x, 8 * stride);
+    let line = axis(y, height);
+    if column < 8 * stride {
+        if line < height {
+            return pixel(stride, height, screen, column, line);
+        }
+    }
+    false
+}

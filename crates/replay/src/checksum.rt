@@ -1,0 +1,44 @@
+// From 0 on: times 31 plus the next byte, modulo 2^32, over what the reference has too.
+ghost use Prim.Native.Nat.{_<_};
+
+// Where the record holds owed, in hand and lines sent, which the reference has not.
+const ADDED: usize = 18;
+
+const ADDED_END: usize = 38;
+
+fn add_byte(sum: u64, byte: u8) -> u64
+    requires { ⌜ sum < 4294967296 ⌝ }
+    ensures { λ r. ⌜ r < 4294967296 ⌝ }
+{
+    (31 * sum + (byte as u64)) % 4294967296
+}
+
+fn add_record(rec: &[u8]) -> u64
+    ensures { λ r. ⌜ r < 4294967296 ⌝ }
+{
+    let mut sum: u64 = 0;
+    let mut i = 0;
+    while i < rec.len() {
+        if (i < ADDED) | (i >= ADDED_END) {
+            sum = add_byte(sum, rec[i]);
+        }
+        i += 1;
+    }
+    sum
+}
+
+fn add_memory(start: u64, memory: &[u8]) -> u64
+    requires { ⌜ start < 4294967296 ⌝ }
+{
+    let mut sum = start;
+    let mut i = 0;
+    while i < memory.len() {
+        sum = add_byte(sum, memory[i]);
+        i += 1;
+    }
+    sum
+}
+
+pub fn of(rec: &[u8], memory: &[u8]) -> u64 {
+    add_memory(add_record(rec), memory)
+}

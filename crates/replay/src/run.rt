@@ -1,0 +1,94 @@
+// One stored call on the core.
+use crate::answer;
+use crate::answer::Answer;
+use crate::call;
+use caption::dirty;
+use caption::ellipses;
+use caption::lines;
+use caption::open;
+use caption::points;
+use caption::poke;
+use caption::text;
+use model::Value;
+
+// No refusal has this number: the list holds a call that is not replayed here.
+const UNKNOWN: u32 = 99;
+
+// Of the key words the first and the last are stored; the others are 0.
+fn run_open(rec: &mut [u8], memory: &mut [u8], stored: &[u8; 16]) -> u32 {
+    let graphics = call::two(stored, 1);
+    let text = call::two(stored, 3);
+    let version = stored[5];
+    let first = call::four(stored, 6);
+    let last = call::four(stored, 10);
+    open::caption_open(
+        rec,
+        memory,
+        graphics,
+        text,
+        version,
+        first,
+        0,
+        0,
+        0,
+        0,
+        0,
+        0,
+        last,
+    )
+}
+
+fn run_draw(rec: &mut [u8], memory: &mut [u8], stored: &[u8; 16]) -> u32 {
+    let a = stored[1];
+    let b = stored[2];
+    let c = stored[3];
+    let d = stored[4];
+    let e = stored[5];
+    let f = stored[6];
+    match stored[0] {
+        call::DRAW_POINT => points::caption_draw_point(rec, memory, a, b, c),
+        call::DRAW_LINE => lines::caption_draw_line(rec, memory, a, b, c, d, e),
+        call::DRAW_BOX => lines::caption_draw_box(rec, memory, a, b, c, d, e, f),
+        call::DRAW_CIRCLE => ellipses::caption_draw_circle(rec, memory, a, b, c, d, e),
+        call::DRAW_ELLIPSE => ellipses::caption_draw_ellipse(rec, memory, a, b, c, d, e, f),
+        _ => UNKNOWN,
+    }
+}
+
+fn run_check_point(rec: &[u8], memory: &[u8], stored: &[u8; 16]) -> Value {
+    points::caption_check_point(
+        rec,
+        memory,
+        call::signed(stored, 1),
+        call::signed(stored, 5),
+    )
+}
+
+fn run_set(rec: &mut [u8], stored: &[u8; 16]) -> u32 {
+    let number = stored[1];
+    match stored[0] {
+        call::SET_ROW => text::caption_set_row(rec, number),
+        call::SET_COLUMN => text::caption_set_column(rec, number),
+        call::SET_PRINT_MODE => text::caption_set_print_mode(rec, number),
+        _ => UNKNOWN,
+    }
+}
+
+fn run_write_byte(rec: &mut [u8], memory: &mut [u8], stored: &[u8; 16]) -> u32 {
+    poke::caption_write_byte(rec, memory, call::two(stored, 1), stored[3])
+}
+
+pub fn run(rec: &mut [u8], memory: &mut [u8], stored: &[u8; 16]) -> Answer {
+    match stored[0] {
+        call::OPEN => answer::of_code(run_open(rec, memory, stored)),
+        call::RESET => answer::of_code(open::caption_reset(rec, memory)),
+        call::DRAW_POINT..=call::DRAW_ELLIPSE => answer::of_code(run_draw(rec, memory, stored)),
+        call::CHECK_POINT => answer::of_value(run_check_point(rec, memory, stored)),
+        call::GET_ROW => answer::of_value(text::caption_get_row(rec)),
+        call::GET_COLUMN => answer::of_value(text::caption_get_column(rec)),
+        call::SET_ROW..=call::SET_PRINT_MODE => answer::of_code(run_set(rec, stored)),
+        call::WRITE_BYTE => answer::of_code(run_write_byte(rec, memory, stored)),
+        call::TAKE_DIRTY_AREA => answer::of_area(dirty::caption_take_dirty_area(rec)),
+        _ => answer::of_code(UNKNOWN),
+    }
+}

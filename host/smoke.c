@@ -1,0 +1,115 @@
+/* Links libcaption.a and shows the first calls at work: open, a point, all sends, and each refusal of each call, which must leave every byte.
+   Prints what it sees and ends with "ok"; the exit status is 0 only then. */
+#include "caption.h"
+#include <stdio.h>
+#include <string.h>
+
+static uint8_t rec[CAPTION_RECORD_BYTES], memory[CAPTION_MEMORY_BYTES], panel[CAPTION_PANEL_BYTES];
+static uint8_t rec_was[CAPTION_RECORD_BYTES], memory_was[CAPTION_MEMORY_BYTES], panel_was[CAPTION_PANEL_BYTES];
+static int failures;
+
+static void keep(void) {
+    memcpy(rec_was, rec, sizeof rec);
+    memcpy(memory_was, memory, sizeof memory);
+    memcpy(panel_was, panel, sizeof panel);
+}
+
+static void expect(const char *what, int right) {
+    if (!right) {
+        printf("FAILED: %s\n", what);
+        failures++;
+    }
+}
+
+/* code is the refusal n, and nothing changed since keep() */
+static void refused(const char *what, uint32_t code, uint32_t n) {
+    expect(what, code == n && !memcmp(rec_was, rec, sizeof rec) && !memcmp(memory_was, memory, sizeof memory) &&
+                     !memcmp(panel_was, panel, sizeof panel));
+}
+
+#define R rec, sizeof rec
+#define M memory, sizeof memory
+#define P panel, sizeof panel
+#define OPEN(r, m, g, t, v) caption_open(r, m, g, t, v, 0, 0, 0, 0, 0, 0, 0, 0)
+#define LESS_RECORD rec, sizeof rec - 1
+#define LESS_MEMORY memory, sizeof memory - 1
+
+static void refusals(void) {
+    keep();
+    refused("open 1", OPEN(LESS_RECORD, M, 4096, 8192, 1), 1);
+    refused("open 1", OPEN(R, LESS_MEMORY, 4096, 8192, 1), 1);
+    refused("open 3", OPEN(R, M, 63936, 8192, 1), 3);
+    refused("open 3", OPEN(R, M, 4096, 65436, 1), 3);
+    refused("open 3", OPEN(R, M, 4096, 5695, 1), 3);
+    refused("open 4", OPEN(R, M, 4096, 8192, 2), 4);
+    refused("reset 1", caption_reset(LESS_RECORD, M), 1);
+    refused("point 1", caption_draw_point(R, LESS_MEMORY, 0, 0, 9), 1);
+    refused("point 4", caption_draw_point(R, M, 0, 0, 4), 4);
+    refused("line 1", caption_draw_line(R, LESS_MEMORY, 0, 0, 1, 1, 9), 1);
+    refused("line 4", caption_draw_line(R, M, 0, 0, 1, 1, 4), 4);
+    refused("box 1", caption_draw_box(R, LESS_MEMORY, 0, 0, 1, 1, 0, 9), 1);
+    refused("box 4", caption_draw_box(R, M, 0, 0, 1, 1, 2, 0), 4);
+    refused("box 4", caption_draw_box(R, M, 0, 0, 1, 1, 0, 4), 4);
+    refused("circle 1", caption_draw_circle(LESS_RECORD, M, 0, 0, 200, 9, 9), 1);
+    refused("circle 4", caption_draw_circle(R, M, 0, 0, 200, 2, 0), 4);
+    refused("circle 6", caption_draw_circle(R, M, 0, 0, 128, 0, 0), 6);
+    refused("ellipse 1", caption_draw_ellipse(R, LESS_MEMORY, 0, 0, 200, 1, 9, 9), 1);
+    refused("ellipse 4", caption_draw_ellipse(R, M, 0, 0, 200, 1, 0, 4), 4);
+    refused("ellipse 6", caption_draw_ellipse(R, M, 0, 0, 1, 128, 1, 3), 6);
+    refused("check 1", caption_check_point(R, LESS_MEMORY, 0, 0).code, 1);
+    refused("poke 1", caption_write_byte(LESS_RECORD, M, 4096, 1), 1);
+    refused("get row 1", caption_get_row(LESS_RECORD).code, 1);
+    refused("get column 1", caption_get_column(LESS_RECORD).code, 1);
+    refused("set row 1", caption_set_row(LESS_RECORD, 9), 1);
+    refused("set row 4", caption_set_row(R, 5), 4);
+    refused("set column 1", caption_set_column(LESS_RECORD, 99), 1);
+    refused("set column 4", caption_set_column(R, 20), 4);
+    refused("print mode 1", caption_set_print_mode(LESS_RECORD, 9), 1);
+    refused("print mode 4", caption_set_print_mode(R, 3), 4);
+    refused("dirty 1", caption_take_dirty_area(LESS_RECORD).code, 1);
+    refused("send 1", caption_send(R, M, panel, sizeof panel - 1).code, 1);
+}
+
+static void broken_record(void) {
+    rec[4] = 5;
+    keep();
+    refused("reset 2", caption_reset(R, M), 2);
+    refused("point 2", caption_draw_point(R, M, 0, 0, 9), 2);
+    refused("line 2", caption_draw_line(R, M, 0, 0, 1, 1, 9), 2);
+    refused("box 2", caption_draw_box(R, M, 0, 0, 1, 1, 9, 9), 2);
+    refused("circle 2", caption_draw_circle(R, M, 0, 0, 200, 9, 9), 2);
+    refused("ellipse 2", caption_draw_ellipse(R, M, 0, 0, 200, 1, 9, 9), 2);
+    refused("check 2", caption_check_point(R, M, 0, 0).code, 2);
+    refused("poke 2", caption_write_byte(R, M, 4096, 1), 2);
+    refused("get row 2", caption_get_row(R).code, 2);
+    refused("get column 2", caption_get_column(R).code, 2);
+    refused("set row 2", caption_set_row(R, 9), 2);
+    refused("set column 2", caption_set_column(R, 99), 2);
+    refused("print mode 2", caption_set_print_mode(R, 9), 2);
+    refused("dirty 2", caption_take_dirty_area(R).code, 2);
+    refused("send 2", caption_send(R, M, P).code, 2);
+    rec[4] = 0;
+}
+
+int main(void) {
+    memset(rec, 0xa5, sizeof rec);
+    memset(memory, 0xa5, sizeof memory);
+    expect("open", OPEN(R, M, 4096, 8192, 1) == 0);
+    expect("point", caption_draw_point(R, M, 3, 0, 1) == 0);
+    caption_area dirty = caption_take_dirty_area(R);
+    expect("dirty", dirty.left == 3 && dirty.top == 0 && dirty.right == 4 && dirty.bottom == 1);
+    expect("check", caption_check_point(R, M, 3, 0).value == 1 && caption_check_point(R, M, -1, 0).value == 0);
+    caption_sent s = caption_send(R, M, P);
+    printf("sent %u %u %u\n", s.line, s.left, s.right);
+    expect("first line", s.sent == 1 && s.line == 0 && s.left == 0 && s.right == 160 && panel[0] == 0x10);
+    refusals();
+    broken_record();
+    int more = 0;
+    while ((s = caption_send(R, M, P)).sent)
+        more++;
+    printf("%d more lines, then idle\n", more);
+    expect("79 more", more == 79 && s.code == 0);
+    expect("level", !memcmp(panel, memory + 4096, sizeof panel));
+    printf(failures ? "%d failures\n" : "ok\n", failures);
+    return failures != 0;
+}
