@@ -1,14 +1,14 @@
 -- The numbers that a pattern takes are within their limits.
-use mathlib.Core.Path.{_≡_, refl, sym, ap, _∙_}
+use mathlib.Core.Path.{_≡_, sym, _∙_}
 use mathlib.Core.List.{List, [], _∷_}
-use mathlib.Core.Bool.{Bool, true, false, cond, _||_}
-use Prim.Native.Nat.{ℕ, zero, suc, _+_, _-_, _*_, _≤_, _<_}
+use mathlib.Core.Bool.{Bool, true, false, cond}
+use Prim.Native.Nat.{ℕ, zero, suc, _-_, _≤_, _<_}
 use native.Mathlib.Omega.{arith}
 use lib.Dec.{eqb, leb}
 use lib.ListN.{getD, take}
-use borrow.Author.Tests.{leb-true, eqb-true}
-use Rattle.model.specs.Script.Read.{Taken, nothing, taken, isDigit, digits, atMost, number, word, orElse, clearWord, orWord, xorWord, unknownWord, mode, piece, isField, kept, Found, no, yes, noFields, andThen, matched, pointPattern, linePattern, pokePattern}
-use Rattle.laws.specs.Tests.{by-test, tests}
+use borrow.Author.Tests.{leb-true}
+use Rattle.model.specs.Script.Read.{Taken, nothing, taken, isDigit, digits, atMost, number, word, orElse, clearWord, orWord, xorWord, unknownWord, mode, piece, isField, kept, yes, noFields, andThen, matched, pointPattern, linePattern, pokePattern}
+use Rattle.laws.specs.Tests.{by-test}
 use Rattle.script.specs.declared.Fields.{Fields}
 use Rattle.script.specs.Meaning.{fieldsOf, foundOf}
 use Rattle.script.proofs.Matching.{found-yes}

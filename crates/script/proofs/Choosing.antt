@@ -1,11 +1,10 @@
 -- The form that fits a line: the first pattern that has its spelling.
-use mathlib.Core.Path.{_≡_, refl, sym, ap, _∙_}
+use mathlib.Core.Path.{_≡_, sym, ap, _∙_}
 use mathlib.Core.List.{List}
 use mathlib.Core.Bool.{true, false}
 use Prim.Native.Nat.{ℕ}
-use Rattle.model.specs.Script.Read.{Found, no, yes, noFields, matched, pointPattern, linePattern, pokePattern, sendPattern, Line, bad, choose, pointForm, lineForm, pokeForm, sendForm, form}
+use Rattle.model.specs.Script.Read.{Found, noFields, matched, pointPattern, linePattern, pokePattern, sendPattern, Line, bad, choose, pointForm, lineForm, pokeForm, sendForm, form}
 use Rattle.script.specs.declared.Fields.{Fields}
-use Rattle.script.specs.declared.Form.{Form}
 use Rattle.script.specs.declared.Form.the-variants.{Point, Line as LineForm, Poke, Send, Bad}
 use Rattle.script.specs.Meaning.{fieldsOf, foundOf, meaning}
 use Rattle.script.proofs.Matching.{found-yes, found-no}

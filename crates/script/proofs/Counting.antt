@@ -1,13 +1,12 @@
 -- Differing pixels counted by bytes: the bits that are set in the exclusive or of two bytes.
 use mathlib.Core.Path.{_≡_, refl, sym, ap, ap₂, _∙_}
 use mathlib.Core.List.{List, [], _∷_}
-use mathlib.Core.Bool.{Bool, true, false}
-use Prim.Native.Nat.{ℕ, zero, suc, _+_, _-_, _*_, _/_, _%_, _^_, _≤_, _<_}
+use Prim.Native.Nat.{ℕ, zero, suc, _+_, _*_, _/_, _%_, _^_, _≤_, _<_}
 use native.Mathlib.Nat.{add-assoc}
 use native.Mathlib.Numerals.{add-one}
 use native.Mathlib.Omega.{arith}
 use lib.Dec.{eqb}
-use lib.Bits.{bitXor, differ, xor-step, xor-lt, xor-zero-l}
+use lib.Bits.{bitXor, differ, xor-step, xor-lt}
 use lib.Count.{ones, onesIn, ones-step, ones-le}
 use lib.Pow.{shr-shr}
 use lib.ListN.{length, getD, drop, drop-of-length-le}
@@ -18,7 +17,6 @@ use Rattle.model.specs.declared.Pending.{Pending}
 use Rattle.model.specs.declared.Rect.{Rect}
 use Rattle.model.specs.Rects.{linesOf}
 use Rattle.model.specs.Lists.{differs, sum, differing, owedLines, linesLeft}
-use Rattle.laws.specs.Tests.{either}
 use Rattle.laws.specs.Counts.{byteDiffers, bytesDiffer, differing-bytes}
 
 -- ---- two bytes

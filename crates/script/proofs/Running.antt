@@ -1,17 +1,16 @@
 -- What a line prints and leaves, from what its call answers.
 use mathlib.Core.Path.{_≡_, refl, sym, ap, subst, _∙_}
-use mathlib.Core.List.{List, [], _∷_, _++_}
-use mathlib.Core.Bool.{Bool, true, false, cond}
-use Prim.Native.Nat.{ℕ, zero, suc, _+_, _≤_, _<_}
+use mathlib.Core.List.{List, [], _∷_}
+use Prim.Native.Nat.{ℕ, zero, suc, _+_, _≤_}
 use native.Mathlib.Omega.{arith}
 use borrow.Author.Tests.{eq-eqb, ne-eqb}
 use lib.ListN.{length}
 use Rattle.model.specs.declared.Sent.{Sent}
-use Rattle.model.specs.Geometry.{Geometry, base}
+use Rattle.model.specs.Geometry.{base}
 use Rattle.model.specs.Refusals.{refusal, ruled}
 use Rattle.model.specs.Calls.{Call, drawPoint, drawLine, writeByte, send, Lent, lent, Outcome, answered, sentNumbers, refusals, numbers, drawing, done, refused, outcome}
-use Rattle.model.specs.Script.Read.{Line, call, bad}
-use Rattle.model.specs.Script.Run.{printed, spaced, doneWord, sentWord, idleWord, badWord, refusedWord, said, answer, leaves}
+use Rattle.model.specs.Script.Read.{call}
+use Rattle.model.specs.Script.Run.{printed, spaced, sentWord, badWord, refusedWord, said, answer, leaves}
 use Rattle.script.specs.declared.Form.{Form}
 use Rattle.script.specs.declared.Form.the-variants.{Point, Line as LineForm, Poke, Send, Bad}
 use Rattle.script.specs.Meaning.{meaning}

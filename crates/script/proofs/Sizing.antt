@@ -1,8 +1,6 @@
 -- How long a script's text can be: 40 bytes for a line, and no more lines than bytes.
-use mathlib.Core.Path.{_≡_, refl, sym, ap, _∙_}
 use mathlib.Core.List.{List, [], _∷_, _++_, map}
-use mathlib.Core.Bool.{Bool, true, false, cond}
-use Prim.Native.Nat.{ℕ, zero, suc, _+_, _*_, _/_, _%_, _≤_, _<_}
+use Prim.Native.Nat.{ℕ, zero, suc, _+_, _*_, _/_, _%_, _≤_}
 use native.Mathlib.Omega.{arith}
 use lib.Dec.{ltb, eqb}
 use borrow.Author.Tests.{lt-ltb, le-ltb}
@@ -11,10 +9,10 @@ use Rattle.model.specs.declared.Pending.{Pending}
 use Rattle.model.specs.Geometry.{base}
 use Rattle.model.specs.Memory.{zeros}
 use Rattle.model.specs.Rects.{isEmpty}
-use Rattle.model.specs.Refusals.{refusal, ruled}
+use Rattle.model.specs.Refusals.{ruled}
 use Rattle.model.specs.Sends.{takeOwed, lineNumbers, sendNumbers}
-use Rattle.model.specs.Calls.{Call, drawPoint, drawLine, writeByte, send, Lent, Outcome, answered, refusals, numbers, done, refused, outcome}
-use Rattle.model.specs.Script.Read.{Found, no, yes, noFields, matched, Line, call, bad, choose, pointForm, lineForm, pokeForm, sendForm, form, lines, read}
+use Rattle.model.specs.Calls.{drawPoint, drawLine, writeByte, send, Lent, Outcome, answered, numbers, done, refused, outcome}
+use Rattle.model.specs.Script.Read.{Found, no, yes, Line, call, bad, choose, pointForm, lineForm, pokeForm, sendForm, form, lines, read}
 use Rattle.model.specs.Script.Run.{spelled, decimal, spaced, printed, doneWord, idleWord, refusedWord, longWord, said, answer, leaves, opened, ending, runFrom, run, text}
 use Rattle.laws.specs.Tests.{by-test, by-lt}
 use Rattle.script.proofs.Whole.{read-le}

@@ -1,9 +1,7 @@
 -- A script's lines, one after another: the first line ends at the first newline, and the others follow it.
-use mathlib.Core.Path.{_≡_, refl, sym, ap, _∙_}
+use mathlib.Core.Path.{_≡_, sym, ap, _∙_}
 use mathlib.Core.List.{List, [], _∷_, map}
-use mathlib.Core.Bool.{Bool, true, false, cond}
 use Prim.Native.Nat.{ℕ, suc, _+_, _-_, _≤_, _<_}
-use native.Mathlib.Nat.{add-suc, suc-add}
 use native.Mathlib.Numerals.{add-one}
 use native.Mathlib.Omega.{arith}
 use lib.Dec.{eqb}
@@ -13,7 +11,6 @@ use borrow.Author.Tests.{eq-eqb, ne-eqb}
 use Rattle.model.specs.Script.Read.{Line, onFirst, lines, form, read}
 use Rattle.laws.specs.Tests.{by-test}
 use Rattle.script.specs.declared.Form.{Form}
-use Rattle.script.specs.declared.Step.{Step}
 use Rattle.script.specs.declared.Step.the-variants.{Line as LineAt, End}
 use Rattle.script.specs.Meaning.{meaning, readOf}
 use Rattle.script.specs.Ends.{lineLength}

@@ -1,7 +1,7 @@
 -- A whole script: after each line what is written is the front of the text, and what is left of it is what the other lines print.
 use mathlib.Core.Path.{_≡_, refl, sym, ap, subst, _∙_}
-use mathlib.Core.List.{List, [], _∷_, _++_, map}
-use mathlib.Core.Bool.{Bool, true, false, cond, _&&_}
+use mathlib.Core.List.{List, [], _∷_, _++_}
+use mathlib.Core.Bool.{cond}
 use Prim.Native.Nat.{ℕ, suc, _+_, _-_, _^_, _≤_, _<_}
 use native.Mathlib.Nat.{zero-add}
 use native.Mathlib.Omega.{arith}
@@ -17,7 +17,7 @@ use Rattle.model.specs.Refusals.{refusal, ruled}
 use Rattle.model.specs.Calls.{opening, Lent, lent, Outcome, answered, refusals, done, outcome}
 use Rattle.model.specs.Lists.{linesLeft, differing}
 use Rattle.model.specs.Script.Read.{Line, onFirst, lines, form, read}
-use Rattle.model.specs.Script.Run.{printed, spaced, endWord, longWord, answer, leaves, noKeys, opened, ending, runFrom, run, text}
+use Rattle.model.specs.Script.Run.{printed, spaced, endWord, answer, leaves, noKeys, opened, ending, runFrom, run, text}
 use Rattle.laws.specs.Memory.{window-extend}
 use Rattle.laws.specs.Tests.{by-test}
 use Rattle.script.specs.declared.Form.{Form}

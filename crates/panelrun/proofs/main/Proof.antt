@@ -11,11 +11,6 @@ use Rattle.script.proofs.Sizing.{text-le}
 use borrow.Author.Needs.{needs}
 use Rattle.panelrun.proofs.main.Statement.{statement}
 use Rattle.panelrun.proofs.main.Tie as tie
-use Rattle.panelrun.proofs.main.Reads as reads
-use Rattle.panelrun.proofs.main.Lts as lts
-use Rattle.io.proofs.read_full.Reads as read-full-reads
-use Rattle.io.proofs.write_all.Reads as write-all-reads
-use Rattle.script.proofs.run.run_script.Reads as run-script-reads
 
 room : (n : ℕ) (s : List ℕ) → 163868 ≤ n → length (text s) ≤ length (replicate {A = ℕ} n 0)
 room n s h = subst (λ (k : ℕ). length (text s) ≤ k) (sym (length-replicate {A = ℕ} n 0)) (omega (arith, text-le s))

@@ -2,8 +2,6 @@ use native.Mathlib.Omega.{arith}
 use Rattle.script.proofs.Counting.{ones-differ, ones-small}
 use Rattle.script.proofs.count.byte_differs.Statement.{statement}
 use Rattle.script.proofs.count.byte_differs.Tie as tie
-use Rattle.script.proofs.count.byte_differs.Reads as reads
-use Rattle.script.proofs.count.byte_differs.Lts as lts
 
 returns : tie.Need-returns
 returns c = (ones-differ (c .args .a) (c .args .b) (omega arith) (omega arith), ones-small (c .args .a) (c .args .b) (omega arith) (omega arith))

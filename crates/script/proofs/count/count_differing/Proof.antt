@@ -1,15 +1,12 @@
 use borrow.Author.Needs.{needs}
 use native.Mathlib.Omega.{arith}
-use mathlib.Core.Path.{_≡_, refl, sym, ap, _∙_}
-use Prim.Native.Nat.{ℕ, _+_, _-_, _*_, _≤_, _<_}
-use lib.ListN.{length, getD, drop}
+use mathlib.Core.Path.{_≡_}
+use Prim.Native.Nat.{_+_, _-_, _*_, _≤_}
+use lib.ListN.{length, drop}
 use Rattle.script.proofs.Counting.{count-turn, count-end}
 use Rattle.laws.specs.Counts.{bytesDiffer}
 use Rattle.script.proofs.count.count_differing.Statement.{statement}
 use Rattle.script.proofs.count.count_differing.Tie as tie
-use Rattle.script.proofs.count.count_differing.Reads as reads
-use Rattle.script.proofs.count.count_differing.Lts as lts
-use Rattle.script.proofs.count.byte_differs.Reads as byte-differs-reads
 
 abbrev Inv-loop : tie.InvT-loop
 Inv-loop screen panel n₀ i₀ n i = (n + bytesDiffer (drop i screen) (drop i panel) ≡ bytesDiffer screen panel) × (n ≤ 8 * i) × (i ≤ length screen)

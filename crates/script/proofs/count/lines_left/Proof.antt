@@ -3,9 +3,6 @@ use Rattle.script.proofs.Counting.{left-is}
 use borrow.Author.Needs.{needs}
 use Rattle.script.proofs.count.lines_left.Statement.{statement}
 use Rattle.script.proofs.count.lines_left.Tie as tie
-use Rattle.script.proofs.count.lines_left.Reads as reads
-use Rattle.script.proofs.count.lines_left.Lts as lts
-use Rattle.script.proofs.count.height.Reads as height-reads
 
 element-copy-out-owed : tie.Need-element-copy-out-owed
 element-copy-out-owed c = search needs

@@ -4,9 +4,6 @@ use Rattle.script.proofs.Choosing.{is-point, is-line, is-poke, is-send,
 use borrow.Author.Needs.{needs}
 use Rattle.script.proofs.forms.form_of.Statement.{statement}
 use Rattle.script.proofs.forms.form_of.Tie as tie
-use Rattle.script.proofs.forms.form_of.Reads as reads
-use Rattle.script.proofs.forms.form_of.Lts as lts
-use Rattle.script.proofs.forms.matched_line.Reads as matched-line-reads
 
 slice-aggregate-matched-line : tie.Need-slice-aggregate-matched-line
 slice-aggregate-matched-line c = search needs

@@ -1,9 +1,7 @@
-use mathlib.Core.Path.{_≡_, refl, sym, ap, _∙_}
+use mathlib.Core.Path.{refl}
 use Rattle.model.specs.Script.Read.{isField}
 use Rattle.script.proofs.forms.is_field.Statement.{statement}
 use Rattle.script.proofs.forms.is_field.Tie as tie
-use Rattle.script.proofs.forms.is_field.Reads as reads
-use Rattle.script.proofs.forms.is_field.Lts as lts
 
 returns : tie.Need-returns
 unfolding isField

@@ -1,12 +1,9 @@
 use Rattle.script.specs.Meaning.{fieldsOf}
-use mathlib.Core.Path.{_≡_, refl, sym, ap, _∙_}
+use mathlib.Core.Path.{refl}
 use Rattle.script.proofs.Matching.{kept-yes, kept-no}
 use borrow.Author.Needs.{needs}
 use Rattle.script.proofs.forms.kept_field.Statement.{statement}
 use Rattle.script.proofs.forms.kept_field.Tie as tie
-use Rattle.script.proofs.forms.kept_field.Reads as reads
-use Rattle.script.proofs.forms.kept_field.Lts as lts
-use Rattle.script.proofs.forms.is_field.Reads as is-field-reads
 
 is-field-requires : tie.Need-is-field-requires
 is-field-requires c κs = search needs

@@ -1,20 +1,14 @@
 use Rattle.script.proofs.Matching.{still-ok, match-start, match-turn, match-none, match-more, match-end}
 use borrow.Author.Needs.{needs}
 use native.Mathlib.Omega.{arith}
-use mathlib.Core.Path.{_≡_, refl, sym, ap, _∙_}
-use Prim.Native.Nat.{ℕ, _+_, _-_, _*_, _≤_, _<_}
-use lib.ListN.{length, getD, drop}
+use mathlib.Core.Path.{_≡_}
+use Prim.Native.Nat.{_-_}
+use lib.ListN.{length, drop}
 use mathlib.Core.Bool.{true}
 use Rattle.model.specs.Script.Read.{matched, noFields}
 use Rattle.script.specs.Meaning.{fieldsOf}
-use Rattle.script.proofs.Matching.{found-no, found-yes, matched-end, matched-more, matched-none, matched-turn}
 use Rattle.script.proofs.forms.matched_line.Statement.{statement}
 use Rattle.script.proofs.forms.matched_line.Tie as tie
-use Rattle.script.proofs.forms.matched_line.Reads as reads
-use Rattle.script.proofs.forms.matched_line.Lts as lts
-use Rattle.script.proofs.forms.fields.Reads as fields-reads
-use Rattle.script.proofs.forms.kept_field.Reads as kept-field-reads
-use Rattle.script.proofs.words.piece_at.Reads as piece-at-reads
 
 abbrev Inv-loop : tie.InvT-loop
 Inv-loop pattern s f₀ at₀ i₀ f at i = (f .ok ≡ true) × (matched (drop i pattern) (drop at s) (fieldsOf f) ≡ matched pattern s noFields)

@@ -1,14 +1,11 @@
-use borrow.Author.Needs.{needs}
 use native.Mathlib.Omega.{arith}
-use mathlib.Core.Path.{_≡_, refl, sym, ap, _∙_}
-use Prim.Native.Nat.{ℕ, _+_, _-_, _*_, _≤_, _<_}
-use lib.ListN.{length, getD, drop}
+use mathlib.Core.Path.{_≡_, refl}
+use Prim.Native.Nat.{_+_, _-_, _≤_}
+use lib.ListN.{length, drop}
 use Rattle.script.proofs.Splitting.{line-turn, line-stop, line-out}
 use Rattle.script.specs.Ends.{lineLength}
 use Rattle.script.proofs.lines.line_end.Statement.{statement}
 use Rattle.script.proofs.lines.line_end.Tie as tie
-use Rattle.script.proofs.lines.line_end.Reads as reads
-use Rattle.script.proofs.lines.line_end.Lts as lts
 
 abbrev Inv-loop : tie.InvT-loop
 Inv-loop s at i₀ i = (i + lineLength (drop i s) ≡ at + lineLength (drop at s)) × (i ≤ length s)

@@ -2,10 +2,6 @@ use Rattle.script.proofs.Splitting.{read-line, read-end}
 use borrow.Author.Needs.{needs}
 use Rattle.script.proofs.lines.step_at.Statement.{statement}
 use Rattle.script.proofs.lines.step_at.Tie as tie
-use Rattle.script.proofs.lines.step_at.Reads as reads
-use Rattle.script.proofs.lines.step_at.Lts as lts
-use Rattle.script.proofs.forms.form_of.Reads as form-of-reads
-use Rattle.script.proofs.lines.line_end.Reads as line-end-reads
 
 line-end-requires : tie.Need-line-end-requires
 line-end-requires c κs = search needs

@@ -2,11 +2,6 @@ use Rattle.script.proofs.Writing.{open-room, word-room, spaced-room, cl
 use borrow.Author.Needs.{needs}
 use Rattle.script.proofs.print.put_answer.Statement.{statement}
 use Rattle.script.proofs.print.put_answer.Tie as tie
-use Rattle.script.proofs.print.put_answer.Reads as reads
-use Rattle.script.proofs.print.put_answer.Lts as lts
-use Rattle.script.proofs.print.put.Reads as put-reads
-use Rattle.script.proofs.print.put_byte.Reads as put-byte-reads
-use Rattle.script.proofs.print.put_numbers.Reads as put-numbers-reads
 
 put-byte-requires : tie.Need-put-byte-requires
 put-byte-requires c κs = search open-room

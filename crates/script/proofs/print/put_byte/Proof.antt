@@ -2,8 +2,6 @@ use Rattle.script.proofs.Writing.{wrote-byte}
 use borrow.Author.Needs.{needs}
 use Rattle.script.proofs.print.put_byte.Statement.{statement}
 use Rattle.script.proofs.print.put_byte.Tie as tie
-use Rattle.script.proofs.print.put_byte.Reads as reads
-use Rattle.script.proofs.print.put_byte.Lts as lts
 
 slice-write-out : tie.Need-slice-write-out
 slice-write-out c = search needs

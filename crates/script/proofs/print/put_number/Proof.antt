@@ -2,10 +2,6 @@ use Rattle.script.proofs.Writing.{number-written}
 use borrow.Author.Needs.{needs}
 use Rattle.script.proofs.print.put_number.Statement.{statement}
 use Rattle.script.proofs.print.put_number.Tie as tie
-use Rattle.script.proofs.print.put_number.Reads as reads
-use Rattle.script.proofs.print.put_number.Lts as lts
-use Rattle.script.proofs.print.put_byte.Reads as put-byte-reads
-use Rattle.script.proofs.print.put_decimal.Reads as put-decimal-reads
 
 put-byte-requires : tie.Need-put-byte-requires
 put-byte-requires c κs = search needs

@@ -1,6 +1,6 @@
 use borrow.Author.Needs.{needs}
 use native.Mathlib.Omega.{arith}
-use mathlib.Core.Path.{_≡_, refl, sym, ap, _∙_}
+use mathlib.Core.Path.{_≡_, refl}
 use lib.ListN.{length, take}
 use Prim.Native.Nat.{_-_}
 use Rattle.model.specs.Script.Run.{spaced}
@@ -8,9 +8,6 @@ use Rattle.script.specs.Wrote.{Wrote}
 use Rattle.script.proofs.Writing.{number-room, numbers-start, numbers-turn, numbers-end}
 use Rattle.script.proofs.print.put_numbers.Statement.{statement}
 use Rattle.script.proofs.print.put_numbers.Tie as tie
-use Rattle.script.proofs.print.put_numbers.Reads as reads
-use Rattle.script.proofs.print.put_numbers.Lts as lts
-use Rattle.script.proofs.print.put_number.Reads as put-number-reads
 
 abbrev Inv-loop : tie.InvT-loop
 Inv-loop out₀ at numbers i₀ next₀ out i next = Wrote at (spaced (take i numbers)) out₀ out next × (length out ≡ length out₀)

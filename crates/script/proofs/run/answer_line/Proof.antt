@@ -2,15 +2,6 @@ use Rattle.script.proofs.Running.{point-room, line-room, poke-room, sen
 use borrow.Author.Needs.{needs}
 use Rattle.script.proofs.run.answer_line.Statement.{statement}
 use Rattle.script.proofs.run.answer_line.Tie as tie
-use Rattle.script.proofs.run.answer_line.Reads as reads
-use Rattle.script.proofs.run.answer_line.Lts as lts
-use Rattle.caption.proofs.lines.caption_draw_line.Reads as caption-draw-line-reads
-use Rattle.caption.proofs.points.caption_draw_point.Reads as caption-draw-point-reads
-use Rattle.caption.proofs.poke.caption_write_byte.Reads as caption-write-byte-reads
-use Rattle.caption.proofs.sends.caption_send.Reads as caption-send-reads
-use Rattle.script.proofs.print.put_answer.Reads as put-answer-reads
-use Rattle.script.proofs.run.put_code.Reads as put-code-reads
-use Rattle.script.proofs.run.put_sent.Reads as put-sent-reads
 
 enum-known-form : tie.Need-enum-known-form
 enum-known-form c = search needs

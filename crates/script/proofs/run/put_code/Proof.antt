@@ -2,10 +2,6 @@ use Rattle.script.proofs.Running.{done-room, done-written, refused-room
 use borrow.Author.Needs.{needs}
 use Rattle.script.proofs.run.put_code.Statement.{statement}
 use Rattle.script.proofs.run.put_code.Tie as tie
-use Rattle.script.proofs.run.put_code.Reads as reads
-use Rattle.script.proofs.run.put_code.Lts as lts
-use Rattle.script.proofs.print.put.Reads as put-reads
-use Rattle.script.proofs.print.put_answer.Reads as put-answer-reads
 
 slice-aggregate-put : tie.Need-slice-aggregate-put
 slice-aggregate-put c = search needs

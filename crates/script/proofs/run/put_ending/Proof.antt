@@ -2,12 +2,6 @@ use Rattle.script.proofs.Whole.{one-band, ending-room, ending-written}
 use borrow.Author.Needs.{needs}
 use Rattle.script.proofs.run.put_ending.Statement.{statement}
 use Rattle.script.proofs.run.put_ending.Tie as tie
-use Rattle.script.proofs.run.put_ending.Reads as reads
-use Rattle.script.proofs.run.put_ending.Lts as lts
-use Rattle.record.proofs.layout.load_pending.Reads as load-pending-reads
-use Rattle.script.proofs.count.count_differing.Reads as count-differing-reads
-use Rattle.script.proofs.count.lines_left.Reads as lines-left-reads
-use Rattle.script.proofs.print.put_answer.Reads as put-answer-reads
 
 sub-count-differing : tie.Need-sub-count-differing
 sub-count-differing c = search needs

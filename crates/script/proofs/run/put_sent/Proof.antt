@@ -2,10 +2,6 @@ use Rattle.script.proofs.Running.{refused-room, refused-written, sent-r
 use borrow.Author.Needs.{needs}
 use Rattle.script.proofs.run.put_sent.Statement.{statement}
 use Rattle.script.proofs.run.put_sent.Tie as tie
-use Rattle.script.proofs.run.put_sent.Reads as reads
-use Rattle.script.proofs.run.put_sent.Lts as lts
-use Rattle.script.proofs.print.put.Reads as put-reads
-use Rattle.script.proofs.print.put_answer.Reads as put-answer-reads
 
 slice-aggregate-put-answer : tie.Need-slice-aggregate-put-answer
 slice-aggregate-put-answer c = search needs

@@ -1,5 +1,4 @@
 use borrow.Author.Needs.{needs}
-use native.Mathlib.Omega.{arith}
 use lib.ListN.{length, drop}
 use Rattle.model.specs.Calls.{lent}
 use Rattle.model.specs.Script.Read.{read}
@@ -7,11 +6,6 @@ use Rattle.script.specs.Wrote.{Sized}
 use Rattle.script.proofs.Whole.{Ran, ran-start, ran-turn, ran-end, line-room, end-room, fewer, counts-on}
 use Rattle.script.proofs.run.run_lines.Statement.{statement}
 use Rattle.script.proofs.run.run_lines.Tie as tie
-use Rattle.script.proofs.run.run_lines.Reads as reads
-use Rattle.script.proofs.run.run_lines.Lts as lts
-use Rattle.script.proofs.reader.read_step.Reads as read-step-reads
-use Rattle.script.proofs.run.answer_line.Reads as answer-line-reads
-use Rattle.script.proofs.run.put_ending.Reads as put-ending-reads
 
 abbrev Inv-loop : tie.InvT-loop
 Inv-loop script out₀ rec₀ memory₀ panel₀ at₀ n₀ end₀ out rec memory panel at n end = Ran script out₀ (lent rec₀ memory₀ panel₀) out (lent rec memory panel) at n end × Sized rec memory panel

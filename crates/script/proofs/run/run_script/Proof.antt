@@ -2,12 +2,6 @@ use Rattle.script.proofs.Whole.{long-room, long-written, run-room, run-
 use borrow.Author.Needs.{needs}
 use Rattle.script.proofs.run.run_script.Statement.{statement}
 use Rattle.script.proofs.run.run_script.Tie as tie
-use Rattle.script.proofs.run.run_script.Reads as reads
-use Rattle.script.proofs.run.run_script.Lts as lts
-use Rattle.caption.proofs.open.caption_open.Reads as caption-open-reads
-use Rattle.record.proofs.layout.clear.Reads as clear-reads
-use Rattle.script.proofs.print.put.Reads as put-reads
-use Rattle.script.proofs.run.run_lines.Reads as run-lines-reads
 
 slice-aggregate-put : tie.Need-slice-aggregate-put
 slice-aggregate-put c = search needs

@@ -2,8 +2,6 @@ use Rattle.script.proofs.Reading.{byte-is, byte-not, byte-none}
 use borrow.Author.Needs.{needs}
 use Rattle.script.proofs.words.byte_at.Statement.{statement}
 use Rattle.script.proofs.words.byte_at.Tie as tie
-use Rattle.script.proofs.words.byte_at.Reads as reads
-use Rattle.script.proofs.words.byte_at.Lts as lts
 
 shared-slice-read-if2 : tie.Need-shared-slice-read-if2
 shared-slice-read-if2 c = search needs

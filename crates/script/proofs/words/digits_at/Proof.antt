@@ -1,15 +1,12 @@
 use borrow.Author.Needs.{needs}
 use native.Mathlib.Omega.{arith}
-use mathlib.Core.Path.{_≡_, refl, sym, ap, _∙_}
-use Prim.Native.Nat.{ℕ, _+_, _-_, _*_, _≤_, _<_}
-use lib.ListN.{length, getD, drop}
+use mathlib.Core.Path.{_≡_, refl}
+use Prim.Native.Nat.{_-_, _<_}
+use lib.ListN.{length, drop}
 use Rattle.script.proofs.Reading.{goes-on-is, digits-end, digits-stop, digits-turn}
 use Rattle.model.specs.Script.Read.{digits}
 use Rattle.script.proofs.words.digits_at.Statement.{statement}
 use Rattle.script.proofs.words.digits_at.Tie as tie
-use Rattle.script.proofs.words.digits_at.Reads as reads
-use Rattle.script.proofs.words.digits_at.Lts as lts
-use Rattle.script.proofs.words.goes_on.Reads as goes-on-reads
 
 abbrev Inv-loop : tie.InvT-loop
 Inv-loop s at first v₀ i₀ v i = (v < 100000) × (digits v (drop i s) ≡ digits first (drop at s))

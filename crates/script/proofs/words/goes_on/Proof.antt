@@ -1,13 +1,10 @@
-use mathlib.Core.Path.{_≡_, refl, sym, ap, _∙_}
+use mathlib.Core.Path.{ap}
 use Rattle.model.specs.Script.Read.{goesOn}
 use mathlib.Core.Bool.{Bool, _&&_}
 use lib.Dec.{ltb}
 use borrow.Author.Needs.{needs}
 use Rattle.script.proofs.words.goes_on.Statement.{statement}
 use Rattle.script.proofs.words.goes_on.Tie as tie
-use Rattle.script.proofs.words.goes_on.Reads as reads
-use Rattle.script.proofs.words.goes_on.Lts as lts
-use Rattle.script.proofs.words.is_digit.Reads as is-digit-reads
 
 is-digit-requires : tie.Need-is-digit-requires
 is-digit-requires c κs = search needs

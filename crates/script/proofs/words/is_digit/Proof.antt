@@ -1,9 +1,7 @@
-use mathlib.Core.Path.{_≡_, refl, sym, ap, _∙_}
+use mathlib.Core.Path.{refl}
 use Rattle.model.specs.Script.Read.{isDigit}
 use Rattle.script.proofs.words.is_digit.Statement.{statement}
 use Rattle.script.proofs.words.is_digit.Tie as tie
-use Rattle.script.proofs.words.is_digit.Reads as reads
-use Rattle.script.proofs.words.is_digit.Lts as lts
 
 returns : tie.Need-returns
 unfolding isDigit

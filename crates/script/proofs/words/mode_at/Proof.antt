@@ -2,10 +2,6 @@ use Rattle.script.proofs.Reading.{mode-is}
 use borrow.Author.Needs.{needs}
 use Rattle.script.proofs.words.mode_at.Statement.{statement}
 use Rattle.script.proofs.words.mode_at.Tie as tie
-use Rattle.script.proofs.words.mode_at.Reads as reads
-use Rattle.script.proofs.words.mode_at.Lts as lts
-use Rattle.script.proofs.words.or_word.Reads as or-word-reads
-use Rattle.script.proofs.words.word_at.Reads as word-at-reads
 
 slice-aggregate-word-at : tie.Need-slice-aggregate-word-at
 slice-aggregate-word-at c = search needs

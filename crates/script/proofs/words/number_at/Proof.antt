@@ -3,10 +3,6 @@ use Rattle.script.proofs.Reading.{digit-is, number-none, number-zero, n
 use borrow.Author.Needs.{needs}
 use Rattle.script.proofs.words.number_at.Statement.{statement}
 use Rattle.script.proofs.words.number_at.Tie as tie
-use Rattle.script.proofs.words.number_at.Reads as reads
-use Rattle.script.proofs.words.number_at.Lts as lts
-use Rattle.script.proofs.words.digits_at.Reads as digits-at-reads
-use Rattle.script.proofs.words.is_digit.Reads as is-digit-reads
 
 returns : tie.Need-returns
 returns c = search number-none

@@ -2,9 +2,6 @@ use Rattle.script.proofs.Reading.{or-found, or-other}
 use borrow.Author.Needs.{needs}
 use Rattle.script.proofs.words.or_word.Statement.{statement}
 use Rattle.script.proofs.words.or_word.Tie as tie
-use Rattle.script.proofs.words.or_word.Reads as reads
-use Rattle.script.proofs.words.or_word.Lts as lts
-use Rattle.script.proofs.words.word_at.Reads as word-at-reads
 
 enum-known-g : tie.Need-enum-known-g
 enum-known-g c = search needs

@@ -1,13 +1,8 @@
-use mathlib.Core.Path.{_≡_, refl, sym, ap, _∙_}
+use mathlib.Core.Path.{_∙_}
 use Rattle.script.proofs.Reading.{piece-byte, piece-address, piece-mode, piece-self}
 use borrow.Author.Needs.{needs}
 use Rattle.script.proofs.words.piece_at.Statement.{statement}
 use Rattle.script.proofs.words.piece_at.Tie as tie
-use Rattle.script.proofs.words.piece_at.Reads as reads
-use Rattle.script.proofs.words.piece_at.Lts as lts
-use Rattle.script.proofs.words.byte_at.Reads as byte-at-reads
-use Rattle.script.proofs.words.mode_at.Reads as mode-at-reads
-use Rattle.script.proofs.words.number_at.Reads as number-at-reads
 
 number-at-requires : tie.Need-number-at-requires
 number-at-requires c κs = search needs

@@ -1,14 +1,11 @@
-use borrow.Author.Needs.{needs}
 use native.Mathlib.Omega.{arith}
-use mathlib.Core.Path.{_≡_, refl, sym, ap, _∙_}
-use Prim.Native.Nat.{ℕ, _+_, _-_, _*_, _≤_, _<_}
-use lib.ListN.{length, getD, drop}
+use mathlib.Core.Path.{_≡_, refl}
+use Prim.Native.Nat.{_-_}
+use lib.ListN.{length, drop}
 use Rattle.script.proofs.Reading.{word-end, word-out, word-not, word-turn}
 use Rattle.model.specs.Script.Read.{word}
 use Rattle.script.proofs.words.word_at.Statement.{statement}
 use Rattle.script.proofs.words.word_at.Tie as tie
-use Rattle.script.proofs.words.word_at.Reads as reads
-use Rattle.script.proofs.words.word_at.Lts as lts
 
 abbrev Inv-loop : tie.InvT-loop
 Inv-loop s at w v i₀ j₀ i j = word v (drop i w) (drop j s) ≡ word v w (drop at s)
