@@ -14,6 +14,9 @@ pub mod Boxes
 pub mod Ellipses
 pub mod Text
 pub mod Poke
+pub mod Codes
+pub mod Glyphs
+pub mod Flush
 pub mod Sends
 pub mod Calls
 pub mod Lists

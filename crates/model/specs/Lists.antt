@@ -18,7 +18,7 @@ use Rattle.model.specs.Boxes.{box}
 use Rattle.model.specs.Ellipses.{ellipse, circle}
 use Rattle.model.specs.Poke.{pokeMark}
 use Rattle.model.specs.Sends.{sendPending}
-use Rattle.model.specs.Calls.{Call, opening, reset, drawPoint, drawLine, drawBox, drawCircle, drawEllipse, checkPixel, writeByte, getRow, getColumn, setRow, setColumn, setPrintMode, takeDirtyArea, send, Lent, Outcome, filled, refusals, outcome}
+use Rattle.model.specs.Calls.{Call, opening, reset, drawPoint, drawLine, drawBox, drawCircle, drawEllipse, checkPixel, writeByte, flush, getRow, getColumn, setRow, setColumn, setPrintMode, takeDirtyArea, send, Lent, Outcome, filled, refusals, outcome}
 use lib.ListN.{length}
 
 -- ---- lists of calls
@@ -37,6 +37,7 @@ Typed (drawCircle x y r fill mode) = (x < 256) × (y < 256) × (r < 256) × (fil
 Typed (drawEllipse x y rx ry fill mode) = (x < 256) × (y < 256) × (rx < 256) × (ry < 256) × (fill < 256) × (mode < 256)
 Typed (checkPixel x y) = Unit {0}
 Typed (writeByte a v) = (a < 65536) × (v < 256)
+Typed (flush f) = Unit {0}
 Typed getRow = Unit {0}
 Typed getColumn = Unit {0}
 Typed (setRow n) = n < 256
@@ -83,6 +84,7 @@ effect g (drawCircle x y r fill mode) l = draws g (circle (g .stride) (height g)
 effect g (drawEllipse x y rx ry fill mode) l = draws g (ellipse (g .stride) (height g) x y rx ry (filled fill) (drawMode mode))
 effect g (checkPixel x y) l = nothing
 effect g (writeByte a v) l = let s = decode g (l .rec) in marks (pokeMark g (s .keys) (s .head .graphics) a)
+effect g (flush f) l = marks (whole (g .stride) (height g))
 effect g getRow l = nothing
 effect g getColumn l = nothing
 effect g (setRow n) l = nothing

@@ -23,6 +23,10 @@ VALUE = 4
 abbrev pub RADIUS : ℕ
 RADIUS = 6
 
+-- flush: a byte past the end of its font
+abbrev pub GLYPH : ℕ
+GLYPH = 7
+
 -- an ellipse of over 512 steps
 abbrev pub ENDLESS : ℕ
 ENDLESS = 8
