@@ -1,5 +1,5 @@
--- GB codes: the test of both bytes, taken apart.
-use mathlib.Core.Path.{_≡_, refl, ap, _∙_}
+-- The choice of a glyph: rows of emoji, the test of a GB code, the extra list, one source after another.
+use mathlib.Core.Path.{_≡_, refl, sym, ap, _∙_}
 use mathlib.Core.Bool.{Bool, true, false, _&&_}
 use mathlib.Core.List.{List, [], _∷_}
 use Prim.Native.Nat.{ℕ, _+_, _-_, _*_, _/_, _≤_}
@@ -9,7 +9,12 @@ use lib.Dec.{leb, ltb}
 use lib.ListN.{length}
 use Rattle.model.specs.declared.Found.{Found}
 use Rattle.model.specs.declared.Found.the-variants.{At, Nothing}
-use Rattle.model.specs.Codes.{indexIn, gbRow, gbIndex, extraFrom, extraOffset}
+use Rattle.model.specs.Codes.{indexIn, emojiIndex, gbRow, gbIndex, extraFrom, extraOffset}
+use Rattle.model.specs.declared.Glyph.{Glyph}
+use Rattle.model.specs.declared.Glyph.the-variants.{Emoji, Gb, Extra, Hexadecimal}
+use Rattle.model.specs.Glyphs.{orElse, glyphOf}
+use Rattle.laws.specs.Codes.{found-at, found-nothing}
+use Rattle.flush.specs.Choice.{extraGlyph, otherGlyph}
 use Rattle.laws.specs.Tests.{tests, all-true, if-cases}
 
 pub no-row : (before lead trail : ℕ) → Nothing ≡ indexIn [] before lead trail
@@ -36,3 +41,26 @@ gb-none lead trail e = rw e
 pub extra-start : (list : List ℕ) (code : ℕ) → extraOffset list code ≡ extraFrom list code 0 (length list / 6 - 0)
 unfolding extraOffset
 extra-start list code = let q : length list / 6 ≡ length list / 6 - 0 = omega arith in ap (extraFrom list code 0) q
+
+-- ---- one source after another
+
+module _ (list : List ℕ) (lead trail : ℕ) {f : Found} where
+  pub extra-at : (i : ℕ) {k : ℕ} → k ≡ 256 * lead + trail → f ≡ extraOffset list k → f ≡ At i → Extra i ≡ extraGlyph list lead trail
+  extra-at i {k} e h a = found-at i Extra Hexadecimal (sym h ∙ a) ∙ ap (λ (n : ℕ). orElse (extraOffset list n) Extra Hexadecimal) e
+
+  pub extra-none : {k : ℕ} → k ≡ 256 * lead + trail → f ≡ extraOffset list k → f ≡ Nothing → Hexadecimal ≡ extraGlyph list lead trail
+  extra-none {k} e h a = found-nothing Extra Hexadecimal (sym h ∙ a) refl ∙ ap (λ (n : ℕ). orElse (extraOffset list n) Extra Hexadecimal) e
+
+  pub gb-at : (i : ℕ) → f ≡ gbIndex lead trail → f ≡ At i → Gb i ≡ otherGlyph list lead trail
+  gb-at i h a = found-at i Gb (extraGlyph list lead trail) (sym h ∙ a)
+
+  pub gb-else : {g : Glyph} → f ≡ gbIndex lead trail → f ≡ Nothing → g ≡ extraGlyph list lead trail → g ≡ otherGlyph list lead trail
+  gb-else h a e = found-nothing Gb (extraGlyph list lead trail) (sym h ∙ a) e
+
+  pub emoji-at : (version i : ℕ) → f ≡ emojiIndex version lead trail → f ≡ At i → Emoji i ≡ glyphOf version list lead trail
+  unfolding glyphOf
+  emoji-at version i h a = found-at i Emoji (otherGlyph list lead trail) (sym h ∙ a)
+
+  pub emoji-else : (version : ℕ) {g : Glyph} → f ≡ emojiIndex version lead trail → f ≡ Nothing → g ≡ otherGlyph list lead trail → g ≡ glyphOf version list lead trail
+  unfolding glyphOf
+  emoji-else version h a e = found-nothing Emoji (otherGlyph list lead trail) (sym h ∙ a) e
