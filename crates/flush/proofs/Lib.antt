@@ -1,3 +1,4 @@
 pub mod Choosing
 pub mod Walking
 pub mod Painting
+pub mod Fitting

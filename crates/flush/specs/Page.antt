@@ -29,3 +29,15 @@ PartFits emoji gb extra Hexadecimal = Unit {0}
 -- the end of the characters of a byte's two digits in the 8-line font
 abbrev pub codeEnd : ℕ → ℕ
 codeEnd b = max (8 * digit (b / 16)) (8 * digit (b % 16)) + 8
+
+-- a text of st columns and n rows
+pub record Text (st n : ℕ) : Type 0 where
+  pub wide : 0 < st
+  pub narrow : st ≤ 32
+  pub low : n ≤ 16
+
+-- a screen for it
+pub record Page (st n : ℕ) (screen : List ℕ) : Type 0 where
+  pub text : Text st n
+  pub small : length screen ≤ 65536
+  pub sized : 16 * (st * n) ≤ length screen
