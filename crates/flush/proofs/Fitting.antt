@@ -14,7 +14,7 @@ use Rattle.model.specs.declared.Form.{Form}
 use Rattle.model.specs.declared.Form.the-variants.{Blank, Single, Pair, Code}
 use Rattle.model.specs.Glyphs.{Fonts, digit, glyphOf, fontsFit, column, code}
 use Rattle.model.specs.Flush.{Shown, topOf, rightOf, flagAt, glyphStores, formStores, stores, spot, formOf, formAt, next, walk}
-use Rattle.laws.specs.Tests.{tests, by-lt}
+use Rattle.laws.specs.Tests.{tests, by-lt, and-true}
 use Rattle.laws.specs.Glyphs.{fits-append, column-fits, lines-fits}
 use Rattle.laws.specs.FlushWalk.{Within, rest, rest-more, rest-end, rest-start}
 use Rattle.flush.specs.Fits.{codeFits, glyphFits, formFits, walkFits}
@@ -139,3 +139,11 @@ module _ (st n : ℕ) (text : List ℕ) (version : ℕ) (f : Fonts) where
       let q : formFits version f (getD text (s .cell) 0) (getD text (s .cell + 1) 0) (formAt st n text s) ≡ false =
       sym (ef ∙ (λ k. formFits version f (eb k) (et k) ((em ∙ ap (λ (x : ℕ). formOf st n x s) eb) k))) ∙ bad in
       sym (fits-step s w l ∙ ap (λ (t : Bool). t && walkFits text version f (rest st n text (next st n text s))) q) ∙ h
+
+  -- where the rest passes, what is shown here does
+  pub fits-here : (s : Spot) {b trail : ℕ} {m : Form} → Within st n s → s .row < n → b ≡ getD text (s .cell) 0 → trail ≡ getD text (s .cell + 1) 0
+      → m ≡ formOf st n b s → walkFits text version f (rest st n text s) ≡ true → formFits version f b trail m ≡ true
+  fits-here s w l eb et em h =
+      (λ k. formFits version f (eb k) (et k) ((em ∙ ap (λ (x : ℕ). formOf st n x s) eb) k))
+      ∙ and-true (formFits version f (getD text (s .cell) 0) (getD text (s .cell + 1) 0) (formAt st n text s)) (walkFits text version f (rest st n text (next st n text s)))
+      (sym (fits-step s w l) ∙ h) .0

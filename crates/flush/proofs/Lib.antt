@@ -2,3 +2,5 @@ pub mod Choosing
 pub mod Walking
 pub mod Painting
 pub mod Fitting
+pub mod Showing
+pub mod Texts
