@@ -4,3 +4,4 @@ pub mod Painting
 pub mod Fitting
 pub mod Showing
 pub mod Texts
+pub mod Clearing
