@@ -2,6 +2,7 @@
 // A contract cites the call's `outcome` (crates/model/specs/Calls.antt) on every input; `[]` stands for what the call is not lent.
 pub mod dirty;
 pub mod ellipses;
+pub mod flushes;
 pub mod glass;
 pub mod lines;
 pub mod open;
