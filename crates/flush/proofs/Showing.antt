@@ -1,14 +1,14 @@
 -- What is shown at a spot, in code: room for it on the screen, its bytes in the fonts, and what painting it leaves.
 use mathlib.Core.Path.{_≡_, refl, sym, ap, _∙_}
-use mathlib.Core.Bool.{Bool, true, false, cond, _&&_}
-use mathlib.Core.List.{List, [], _∷_, _++_}
-use Prim.Native.Nat.{ℕ, zero, suc, _+_, _-_, _*_, _/_, _%_, _≤_, _<_, max}
+use mathlib.Core.Bool.{Bool, true, false, cond}
+use mathlib.Core.List.{List}
+use Prim.Native.Nat.{ℕ, suc, _+_, _*_, _/_, _%_, _≤_, _<_}
 use native.Mathlib.Nat.{mul-le-mul-left, mul-suc}
 use native.Mathlib.Numerals.{add-one}
 use native.Mathlib.Omega.{arith}
-use borrow.Author.Tests.{eqb-false, eq-eqb, leb-true, lt-ltb, le-ltb}
+use borrow.Author.Tests.{eq-eqb, leb-true}
 use lib.Dec.{leb, ltb, eqb}
-use lib.ListN.{length, getD, take, drop, length-take, length-drop}
+use lib.ListN.{length, take, drop, length-take, length-drop}
 use Rattle.model.specs.declared.Glyph.{Glyph}
 use Rattle.model.specs.declared.Glyph.the-variants.{Emoji, Gb, Extra, Hexadecimal}
 use Rattle.model.specs.declared.Spot.{Spot}
@@ -16,10 +16,10 @@ use Rattle.model.specs.declared.Form.{Form}
 use Rattle.model.specs.declared.Form.the-variants.{Blank, Single, Pair, Code}
 use Rattle.model.specs.Glyphs.{Fonts, digit, glyphOf, paint, column, lines, code}
 use Rattle.model.specs.Flush.{isLast, formOf, topOf, rightOf, flagAt, glyphStores, formStores}
-use Rattle.laws.specs.Tests.{tests, by-lt, by-test, if-cases, and-true, clash}
-use Rattle.laws.specs.Glyphs.{paint-append, length-paint, glyphLines, paintLines, part-lines}
+use Rattle.laws.specs.Tests.{tests, by-lt, if-cases, and-true, clash}
+use Rattle.laws.specs.Glyphs.{paint-append, glyphLines, paintLines, part-lines}
 use Rattle.flush.specs.Fits.{codeFits, glyphFits, formFits}
-use Rattle.flush.specs.Page.{Text, Page, OnPage, Room, PairRoom, partOf, PartFits, codeEnd, isHexadecimal}
+use Rattle.flush.specs.Page.{OnPage, Room, PairRoom, partOf, PartFits, codeEnd, isHexadecimal}
 
 -- ---- hexadecimal or not
 
@@ -115,14 +115,14 @@ module _ (st n : ℕ) (screen : List ℕ) (s : Spot) (o : OnPage st n screen s) 
     cell = o .cell;
     left = form-room;
     right = if-cases (λ (k : ℕ). Room st screen k 16) (ltb (s .column + 1) st) (λ t. record {
-        narrow = o .page .text .narrow;
-        small = o .page .small;
-        inside = omega (arith, tests, line-room, o .page .sized);
-      }) (λ t. let l = not-last b e (omega (arith, tests, o .column)) in record {
-        narrow = o .page .text .narrow;
-        small = o .page .small;
-        inside = omega (arith, below-room l, o .page .sized, o .page .text .wide);
-      });
+      narrow = o .page .text .narrow;
+      small = o .page .small;
+      inside = omega (arith, tests, line-room, o .page .sized);
+    }) (λ t. let l = not-last b e (omega (arith, tests, o .column)) in record {
+      narrow = o .page .text .narrow;
+      small = o .page .small;
+      inside = omega (arith, below-room l, o .page .sized, o .page .text .wide);
+    });
     beside = record {
       narrow = o .page .text .narrow;
       small = o .page .small;

@@ -1,17 +1,17 @@
 -- The whole text: what is left of the walk, painted on the screen as it stands, gives what the whole gives.
-use mathlib.Core.Path.{_≡_, refl, sym, ap, _∙_}
+use mathlib.Core.Path.{_≡_, sym, ap, _∙_}
 use mathlib.Core.Bool.{Bool}
 use mathlib.Core.List.{List}
-use Prim.Native.Nat.{ℕ, _+_, _*_, _≤_, _<_}
+use Prim.Native.Nat.{ℕ, _+_, _≤_, _<_}
 use native.Mathlib.Omega.{arith}
 use lib.ListN.{length, getD}
 use Rattle.model.specs.declared.Spot.{Spot}
 use Rattle.model.specs.declared.Form.{Form}
 use Rattle.model.specs.Glyphs.{Fonts, Store, paint}
-use Rattle.model.specs.Flush.{Shown, spot, formOf, formAt, next, formStores, shownStores, stores, textStores}
-use Rattle.laws.specs.Glyphs.{paint-append, length-paint}
+use Rattle.model.specs.Flush.{Shown, spot, formOf, formAt, next, formStores, stores, textStores}
+use Rattle.laws.specs.Glyphs.{paint-append}
 use Rattle.laws.specs.FlushWalk.{Within, rest, rest-more, rest-end, rest-start}
-use Rattle.flush.specs.Page.{Text, Page, OnPage}
+use Rattle.flush.specs.Page.{Page, OnPage}
 use Rattle.flush.proofs.Walking.{cell-small}
 
 pub on-page : (st n : ℕ) (old screen : List ℕ) (s : Spot) → Page st n old → length screen ≡ length old → Within st n s → s .row < n → OnPage st n screen s

@@ -116,7 +116,18 @@ pub fn text_fits(
         let b = byte_at(text, cell);
         let trail = byte_at(text, cell + 1);
         let f = form_of(columns, rows, b, s);
-        if form_fits(version, ascii8, ascii16, gb, emoji, list, extra, b, trail, f) {
+        if form_fits(
+            version,
+            ascii8,
+            ascii16,
+            gb,
+            emoji,
+            list,
+            extra,
+            b,
+            trail,
+            f,
+        ) {
             s = spot_after(columns, s, cells_of(f));
         } else {
             return false;

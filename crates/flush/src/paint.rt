@@ -87,7 +87,15 @@ fn paint_pair<'a>(
     let glyph = load_glyph(glyph_part(emoji, gb, extra, g));
     let inverse = is_inverse(flags, cell);
     let inverse2 = is_inverse(flags, cell + 1);
-    paint_glyph(columns, screen, top, right_of(columns, s), glyph, inverse, inverse2);
+    paint_glyph(
+        columns,
+        screen,
+        top,
+        right_of(columns, s),
+        glyph,
+        inverse,
+        inverse2,
+    );
 }
 
 // What is shown at a spot, of byte b and the next one.
@@ -119,11 +127,33 @@ fn paint_form<'a>(
             let cell = s.cell;
             let inverse = is_inverse(flags, cell);
             let from = 16 * (b as usize);
-            paint_column(columns, screen, top_of(columns, s), ascii16, from, 16, inverse);
+            paint_column(
+                columns,
+                screen,
+                top_of(columns, s),
+                ascii16,
+                from,
+                16,
+                inverse,
+            );
         }
         Form::Pair => {
             let g = glyph_of(version, list, b, trail);
-            paint_pair(columns, screen, flags, ascii8, ascii16, gb, emoji, list, extra, s, b, trail, g);
+            paint_pair(
+                columns,
+                screen,
+                flags,
+                ascii8,
+                ascii16,
+                gb,
+                emoji,
+                list,
+                extra,
+                s,
+                b,
+                trail,
+                g,
+            );
         }
         Form::Code => paint_code(columns, screen, top_of(columns, s), ascii8, b),
     }

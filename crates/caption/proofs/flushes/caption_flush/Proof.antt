@@ -1,55 +1,61 @@
+use mathlib.Core.Path.{sym, _∙_}
+use Rattle.model.specs.Glyphs.{fonts}
+use Rattle.caption.proofs.Flushing.{flush-stops, flush-memory, flush-ends, flush-glyph}
 use borrow.Author.Needs.{needs}
 use Rattle.caption.proofs.flushes.caption_flush.Statement.{statement}
 use Rattle.caption.proofs.flushes.caption_flush.Tie as tie
-use Rattle.caption.proofs.flushes.caption_flush.Reads as reads
-use Rattle.caption.proofs.flushes.caption_flush.Lts as lts
-use Rattle.caption.proofs.flushes.flush_done.Reads as flush-done-reads
-use Rattle.caption.proofs.flushes.glyphs_fit.Reads as glyphs-fit-reads
-use Rattle.record.proofs.entry.enter.Reads as enter-reads
 
--- src/flushes.rt:122:9
 enter-requires : tie.Need-enter-requires
 enter-requires c κs = search needs
 
--- src/flushes.rt:125:9
 same-length : tie.Need-same-length
 same-length c = search needs
 
--- src/flushes.rt:125:9
 returns : tie.Need-returns
-returns c = ?
+returns c =
+    let k = c .before .before .before .before .before .before .before .before .before .before .before in
+    let a = k .args in
+    flush-stops (a .rec .now) (a .memory .now) (fonts (a .ascii8 .now) (a .ascii16 .now) (a .gb .now) (a .emoji .now) (a .list .now) (a .extra .now)) (c .before .enter .ensures) (c .if1 .taken)
 
--- src/flushes.rt:127:8
 glyphs-fit-requires : tie.Need-glyphs-fit-requires
-glyphs-fit-requires c κs = ?
+glyphs-fit-requires c κs =
+    let k = c .before .before .before .before .before .before .before .before .before .before .before .before in
+    let a = k .args in
+    let n = c .before .before .enter .ensures in
+    let z = c .before .if1 .left in
+    (flush-memory (a .rec .now) (a .memory .now) (fonts (a .ascii8 .now) (a .ascii16 .now) (a .gb .now) (a .emoji .now) (a .list .now) (a .extra .now)) n z, n .known z .text)
 
--- src/flushes.rt:128:9
 flush-done-requires : tie.Need-flush-done-requires
-flush-done-requires c κs = ?
+flush-done-requires c κs =
+    let k = c .before .before .before .before .before .before .before .before .before .before .before .before .before .before .before .before in
+    let a = k .args in
+    let n = c .before .before .before .before .before .before .enter .ensures in
+    let z = c .before .before .before .before .before .if1 .left in
+    (n .known z, (flush-memory (a .rec .now) (a .memory .now) (fonts (a .ascii8 .now) (a .ascii16 .now) (a .gb .now) (a .emoji .now) (a .list .now) (a .extra .now)) n z, sym (c .before .before .before .glyphs-fit .ensures) ∙ c .before .before .if2 .taken))
 
--- src/flushes.rt:128:9
 same-length-2 : tie.Need-same-length-2
 same-length-2 c = search needs
 
--- src/flushes.rt:128:9
 same-length-3 : tie.Need-same-length-3
 same-length-3 c = search needs
 
--- src/flushes.rt:128:9
 returns-2 : tie.Need-returns-2
-returns-2 c = ?
+returns-2 c =
+    let k = c .before .before .before .before .before .before .before .before .before .before .before .before .before .before .before .before .before .before .before .before .before in
+    let a = k .args in
+    flush-ends (a .rec .now) (a .memory .now) (fonts (a .ascii8 .now) (a .ascii16 .now) (a .gb .now) (a .emoji .now) (a .list .now) (a .extra .now)) (c .before .before .before .before .before .before .before .before .before .before .before .enter .ensures) (c .before .before .before .before .before .before .before .before .before .before .if1 .left) (c .before .before .before .before .before .before .before .before .glyphs-fit .ensures) (c .before .before .before .before .before .before .before .if2 .taken) (c .before .before .before .before .flush-done .ensures)
 
--- src/flushes.rt:109:1
 same-length-4 : tie.Need-same-length-4
 same-length-4 c = search needs
 
--- src/flushes.rt:109:1
 same-length-5 : tie.Need-same-length-5
 same-length-5 c = search needs
 
--- src/flushes.rt:109:1
 returns-3 : tie.Need-returns-3
-returns-3 c = ?
+returns-3 c =
+    let k = c .before .before .before .before .before .before .before .before .before .before .before .before .before .before in
+    let a = k .args in
+    flush-glyph (a .rec .now) (a .memory .now) (fonts (a .ascii8 .now) (a .ascii16 .now) (a .gb .now) (a .emoji .now) (a .list .now) (a .extra .now)) (c .before .before .before .before .enter .ensures) (c .before .before .before .if1 .left) (c .before .glyphs-fit .ensures) (c .if2 .left)
 
 pub caption-flush-spec : {M : Type 1} → statement M
 caption-flush-spec =

@@ -1,37 +1,32 @@
+use Rattle.model.specs.Glyphs.{fonts}
+use Rattle.caption.proofs.Flushing.{glyphs-tested}
 use borrow.Author.Needs.{needs}
 use Rattle.caption.proofs.flushes.glyphs_fit.Statement.{statement}
 use Rattle.caption.proofs.flushes.glyphs_fit.Tie as tie
-use Rattle.caption.proofs.flushes.glyphs_fit.Reads as reads
-use Rattle.caption.proofs.flushes.glyphs_fit.Lts as lts
-use Rattle.flush.proofs.fit.text_fits.Reads as text-fits-reads
 
--- src/flushes.rt:40:16
 cast-from : tie.Need-cast-from
 cast-from c = search needs
 
--- src/flushes.rt:41:14
 add-to : tie.Need-add-to
 add-to c = search needs
 
--- src/flushes.rt:46:9
 sub-text-fits : tie.Need-sub-text-fits
 sub-text-fits c = search needs
 
--- src/flushes.rt:46:9
 part-text-fits-start : tie.Need-part-text-fits-start
 part-text-fits-start c = search needs
 
--- src/flushes.rt:46:9
 part-text-fits-end : tie.Need-part-text-fits-end
 part-text-fits-end c = search needs
 
--- src/flushes.rt:43:5
 text-fits-requires : tie.Need-text-fits-requires
 text-fits-requires c κs = search needs
 
--- src/flushes.rt:27:1
 returns : tie.Need-returns
-returns c = ?
+returns c =
+    let k = c .before .before .before .before .before .before .before .before .before .before in
+    let a = k .args in
+    glyphs-tested (a .memory .now) (a .h) (fonts (a .ascii8 .now) (a .ascii16 .now) (a .gb .now) (a .emoji .now) (a .list .now) (a .extra .now)) (c .text-fits .ensures)
 
 pub glyphs-fit-spec : {M : Type 1} → statement M
 glyphs-fit-spec =

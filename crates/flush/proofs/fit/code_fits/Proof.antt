@@ -2,35 +2,25 @@ use Rattle.flush.proofs.Fitting.{code-tested}
 use borrow.Author.Needs.{needs}
 use Rattle.flush.proofs.fit.code_fits.Statement.{statement}
 use Rattle.flush.proofs.fit.code_fits.Tie as tie
-use Rattle.flush.proofs.fit.code_fits.Reads as reads
-use Rattle.flush.proofs.fit.code_fits.Lts as lts
-use Rattle.flush.proofs.glyph.digit_of.Reads as digit-of-reads
 
--- src/fit.rt:23:20
 digit-of-requires : tie.Need-digit-of-requires
 digit-of-requires c κs = search needs
 
--- src/fit.rt:23:16
 mul-high : tie.Need-mul-high
 mul-high c = search needs
 
--- src/fit.rt:23:16
 add-high : tie.Need-add-high
 add-high c = search needs
 
--- src/fit.rt:24:19
 digit-of-requires-2 : tie.Need-digit-of-requires-2
 digit-of-requires-2 c κs = search needs
 
--- src/fit.rt:24:15
 mul-low : tie.Need-mul-low
 mul-low c = search needs
 
--- src/fit.rt:24:15
 add-low : tie.Need-add-low
 add-low c = search needs
 
--- src/fit.rt:20:1
 returns : tie.Need-returns
 returns c = code-tested _ _ (c .before .digit-of .ensures .0) (c .digit-of2 .ensures .0)
 

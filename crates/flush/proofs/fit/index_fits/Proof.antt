@@ -2,10 +2,7 @@ use lib.ListN.{length}
 use Rattle.flush.proofs.Fitting.{index-fits}
 use Rattle.flush.proofs.fit.index_fits.Statement.{statement}
 use Rattle.flush.proofs.fit.index_fits.Tie as tie
-use Rattle.flush.proofs.fit.index_fits.Reads as reads
-use Rattle.flush.proofs.fit.index_fits.Lts as lts
 
--- src/fit.rt:29:1
 returns : tie.Need-returns
 returns c = index-fits (c .args .index) (length (c .args .font .now))
 

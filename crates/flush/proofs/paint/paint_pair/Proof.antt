@@ -10,51 +10,36 @@ use Rattle.flush.proofs.Showing.{room-at, codes-end, part-fits, part-lo
 use borrow.Author.Needs.{needs}
 use Rattle.flush.proofs.paint.paint_pair.Statement.{statement}
 use Rattle.flush.proofs.paint.paint_pair.Tie as tie
-use Rattle.flush.proofs.paint.paint_pair.Reads as reads
-use Rattle.flush.proofs.paint.paint_pair.Lts as lts
-use Rattle.flush.proofs.glyph.glyph_part.Reads as glyph-part-reads
-use Rattle.flush.proofs.glyph.load_glyph.Reads as load-glyph-reads
-use Rattle.flush.proofs.glyph.paint_code.Reads as paint-code-reads
-use Rattle.flush.proofs.glyph.paint_glyph.Reads as paint-glyph-reads
-use Rattle.flush.proofs.paint.is_hexadecimal.Reads as is-hexadecimal-reads
-use Rattle.flush.proofs.paint.right_of.Reads as right-of-reads
-use Rattle.flush.proofs.paint.top_of.Reads as top-of-reads
-use Rattle.record.proofs.inverse.is_inverse.Reads as is-inverse-reads
 
--- src/paint.rt:80:9
 top-of-requires : tie.Need-top-of-requires
 top-of-requires c κs = search needs
 
--- src/paint.rt:81:8
 is-hexadecimal-requires : tie.Need-is-hexadecimal-requires
 is-hexadecimal-requires c κs = search needs
 
--- src/paint.rt:82:9
 paint-code-requires : tie.Need-paint-code-requires
 paint-code-requires c κs =
     let k = c .before .before .before .before .before .before .before .before .before .before .before .before in
-    let a = k .args in
-    (room-at (a .columns) (a .screen .now) (a .screen .now) 16 (k .pre .0 .left) refl (c .before .before .before .top-of .ensures .0),
-    codes-end (fonts (a .ascii8 .now) (a .ascii16 .now) (a .gb .now) (a .emoji .now) (a .list .now) (a .extra .now)) (a .lead) (a .trail) (a .g) (c .before .before .is-hexadecimal .ensures) (c .before .if1 .taken) (k .pre .1) .0)
+    let a = k .args in (
+      room-at (a .columns) (a .screen .now) (a .screen .now) 16 (k .pre .0 .left) refl (c .before .before .before .top-of .ensures .0),
+      codes-end (fonts (a .ascii8 .now) (a .ascii16 .now) (a .gb .now) (a .emoji .now) (a .list .now) (a .extra .now)) (a .lead) (a .trail) (a .g) (c .before .before .is-hexadecimal .ensures) (c .before .if1 .taken) (k .pre .1) .0,
+    )
 
--- src/paint.rt:83:37
 add-paint-code : tie.Need-add-paint-code
 add-paint-code c = search needs
 
--- src/paint.rt:83:9
 paint-code-requires-2 : tie.Need-paint-code-requires-2
 paint-code-requires-2 c κs =
     let k = c .before .before .before .before .before .before .before .before .before .before .before .before .before .before .before .before in
-    let a = k .args in
-    (room-at (a .columns) (a .screen .now) (c .before .before .before .paint-code .last .1 .0) 16 (k .pre .0 .beside)
-    (ap length (c .before .before .before .paint-code .ensures) ∙ length-paint (code (a .columns) (a .ascii8 .now) (c .before .before .before .before .before .before .before .top-of .result) (a .lead)) (a .screen .now)) (ap (λ (x : ℕ). x + 1) (c .before .before .before .before .before .before .before .top-of .ensures .0)),
-    codes-end (fonts (a .ascii8 .now) (a .ascii16 .now) (a .gb .now) (a .emoji .now) (a .list .now) (a .extra .now)) (a .lead) (a .trail) (a .g) (c .before .before .before .before .before .before .is-hexadecimal .ensures) (c .before .before .before .before .before .if1 .taken) (k .pre .1) .1)
+    let a = k .args in (
+      room-at (a .columns) (a .screen .now) (c .before .before .before .paint-code .last .1 .0) 16 (k .pre .0 .beside)
+          (ap length (c .before .before .before .paint-code .ensures) ∙ length-paint (code (a .columns) (a .ascii8 .now) (c .before .before .before .before .before .before .before .top-of .result) (a .lead)) (a .screen .now)) (ap (λ (x : ℕ). x + 1) (c .before .before .before .before .before .before .before .top-of .ensures .0)),
+      codes-end (fonts (a .ascii8 .now) (a .ascii16 .now) (a .gb .now) (a .emoji .now) (a .list .now) (a .extra .now)) (a .lead) (a .trail) (a .g) (c .before .before .before .before .before .before .is-hexadecimal .ensures) (c .before .before .before .before .before .if1 .taken) (k .pre .1) .1,
+    )
 
--- src/paint.rt:84:9
 same-length : tie.Need-same-length
 same-length c = search needs
 
--- src/paint.rt:84:9
 returns : tie.Need-returns
 returns c =
     let k = c .before .before .before .before .before .before .before .before .before .before .before .before .before .before .before .before .before .before .before in
@@ -62,14 +47,12 @@ returns c =
     codes-shown (a .columns) (map flagOf (a .flags .now)) (fonts (a .ascii8 .now) (a .ascii16 .now) (a .gb .now) (a .emoji .now) (a .list .now) (a .extra .now)) (a .s) (a .lead) (a .trail) (a .screen .now) (a .g)
     (c .before .before .before .before .before .before .before .before .before .is-hexadecimal .ensures) (c .before .before .before .before .before .before .before .before .if1 .taken) (c .before .before .before .before .before .before .before .before .before .before .top-of .ensures .0) (c .before .before .before .before .before .before .paint-code .ensures) (c .before .before .paint-code2 .ensures)
 
--- src/paint.rt:87:28
 glyph-part-requires : tie.Need-glyph-part-requires
 glyph-part-requires c κs =
     let k = c .before .before .before .before .before .before .before .before .before .before .before in
     let a = k .args in
     part-fits (fonts (a .ascii8 .now) (a .ascii16 .now) (a .gb .now) (a .emoji .now) (a .list .now) (a .extra .now)) (a .lead) (a .trail) (a .g) (k .pre .1)
 
--- src/paint.rt:87:9
 load-glyph-requires : tie.Need-load-glyph-requires
 load-glyph-requires c κs =
     let k = c .before .before .before .before .before .before .before .before .before .before .before .before in
@@ -77,31 +60,24 @@ load-glyph-requires c κs =
     part-long (a .emoji .now) (a .gb .now) (a .extra .now) (a .g) (part-fits (fonts (a .ascii8 .now) (a .ascii16 .now) (a .gb .now) (a .emoji .now) (a .list .now) (a .extra .now)) (a .lead) (a .trail) (a .g) (k .pre .1))
     (c .before .before .is-hexadecimal .ensures) (c .before .if1 .left) (c .glyph-part .ensures)
 
--- src/paint.rt:88:9
 is-inverse-requires : tie.Need-is-inverse-requires
 is-inverse-requires c κs = search needs
 
--- src/paint.rt:89:38
 add-is-inverse : tie.Need-add-is-inverse
 add-is-inverse c = search needs
 
--- src/paint.rt:89:9
 is-inverse-requires-2 : tie.Need-is-inverse-requires-2
 is-inverse-requires-2 c κs = search needs
 
--- src/paint.rt:90:39
 right-of-requires : tie.Need-right-of-requires
 right-of-requires c κs = search needs
 
--- src/paint.rt:90:5
 paint-glyph-requires : tie.Need-paint-glyph-requires
 paint-glyph-requires c κs = search needs
 
--- src/paint.rt:61:1
 same-length-2 : tie.Need-same-length-2
 same-length-2 c = search needs
 
--- src/paint.rt:61:1
 returns-2 : tie.Need-returns-2
 returns-2 c =
     let k = c .before .before .before .before .before .before .before .before .before .before .before .before .before .before .before .before .before .before .before .before in

@@ -16,14 +16,6 @@ use Rattle.flush.proofs.Fitting.{fits-start, fits-here, fits-turn}
 use Rattle.flush.proofs.Texts.{left, on-page, text-start, text-turn, text-end}
 use Rattle.flush.proofs.paint.paint_text.Statement.{statement}
 use Rattle.flush.proofs.paint.paint_text.Tie as tie
-use Rattle.flush.proofs.paint.paint_text.Reads as reads
-use Rattle.flush.proofs.paint.paint_text.Lts as lts
-use Rattle.flush.proofs.paint.paint_form.Reads as paint-form-reads
-use Rattle.flush.proofs.walk.byte_at.Reads as byte-at-reads
-use Rattle.flush.proofs.walk.cells_of.Reads as cells-of-reads
-use Rattle.flush.proofs.walk.form_of.Reads as form-of-reads
-use Rattle.flush.proofs.walk.spot_after.Reads as spot-after-reads
-use Rattle.flush.proofs.walk.start.Reads as start-reads
 
 abbrev Inv-loop : tie.InvT-loop
 Inv-loop columns rows screen₀ text flags version ascii8 ascii16 gb emoji list extra s₀ screen s =
@@ -35,25 +27,24 @@ Inv-loop columns rows screen₀ text flags version ascii8 ascii16 gb emoji list 
 abbrev μ-loop : tie.MeasureT-loop
 μ-loop columns rows screen₀ text flags version ascii8 ascii16 gb emoji list extra s₀ screen s = placesLeft columns rows s
 
--- src/paint.rt:151:9
 start-requires : tie.Need-start-requires Inv-loop μ-loop
 start-requires c κs =
     tt
 
--- src/paint.rt:152:5
 loop-holds : tie.Need-loop-holds Inv-loop μ-loop
 loop-holds c =
     let k = c .before .before .before .before .before .before .before .before .before .before in
-    let a = k .args in
-    (rw (c .start .ensures) (within-start (a .columns) (a .rows) (k .pre .0 .text .wide)), refl,
-    rw (c .start .ensures) (sym (fits-start (a .columns) (a .rows) (a .text .now) (a .version) (fonts (a .ascii8 .now) (a .ascii16 .now) (a .gb .now) (a .emoji .now) (a .list .now) (a .extra .now))) ∙ k .pre .1), text-start (a .columns) (a .rows) (a .text .now) (map flagOf (a .flags .now)) (a .version) (fonts (a .ascii8 .now) (a .ascii16 .now) (a .gb .now) (a .emoji .now) (a .list .now) (a .extra .now)) (a .screen .now) (c .start .ensures))
+    let a = k .args in (
+      rw (c .start .ensures) (within-start (a .columns) (a .rows) (k .pre .0 .text .wide)),
+      refl,
+      rw (c .start .ensures) (sym (fits-start (a .columns) (a .rows) (a .text .now) (a .version) (fonts (a .ascii8 .now) (a .ascii16 .now) (a .gb .now) (a .emoji .now) (a .list .now) (a .extra .now))) ∙ k .pre .1),
+      text-start (a .columns) (a .rows) (a .text .now) (map flagOf (a .flags .now)) (a .version) (fonts (a .ascii8 .now) (a .ascii16 .now) (a .gb .now) (a .emoji .now) (a .list .now) (a .extra .now)) (a .screen .now) (c .start .ensures),
+    )
 
--- src/paint.rt:154:13
 byte-at-requires : tie.Need-byte-at-requires Inv-loop μ-loop
 byte-at-requires c κs =
     tt
 
--- src/paint.rt:155:35
 add-byte-at : tie.Need-add-byte-at Inv-loop μ-loop
 add-byte-at c =
     let k = c .before .before .before .before .before .before .before .before .before .before .before .before .before .before in
@@ -61,31 +52,30 @@ add-byte-at c =
     let l = c .before .before .before .loop in
     omega (arith, cell-small _ _ (l .s) (l .inv .0) (k .pre .0 .text .narrow) (k .pre .0 .text .low))
 
--- src/paint.rt:155:13
 byte-at-requires-2 : tie.Need-byte-at-requires-2 Inv-loop μ-loop
 byte-at-requires-2 c κs =
     tt
 
--- src/paint.rt:156:13
 form-of-requires : tie.Need-form-of-requires Inv-loop μ-loop
 form-of-requires c κs =
     let l = c .before .before .before .before .loop in (l .inv .0 .column, c .before .before .if1 .taken)
 
--- src/paint.rt:157:9
 paint-form-requires : tie.Need-paint-form-requires Inv-loop μ-loop
 paint-form-requires c κs =
     let k = c .before .before .before .before .before .before .before .before .before .before .before .before .before .before .before .before .before in
     let a = k .args in
-    let l = c .before .before .before .before .before .before .loop in
-    (on-page (a .columns) (a .rows) (a .screen .now) (l .screen) (l .s) (k .pre .0) (l .inv .1) (l .inv .0) (c .before .before .before .before .if1 .taken), (c .before .form-of .ensures,
-    fits-here (a .columns) (a .rows) (a .text .now) (a .version) (fonts (a .ascii8 .now) (a .ascii16 .now) (a .gb .now) (a .emoji .now) (a .list .now) (a .extra .now)) (l .s) (l .inv .0) (c .before .before .before .before .if1 .taken) (c .before .before .before .byte-at .ensures) (c .before .before .byte-at2 .ensures) (c .before .form-of .ensures) (l .inv .2)))
+    let l = c .before .before .before .before .before .before .loop in (
+      on-page (a .columns) (a .rows) (a .screen .now) (l .screen) (l .s) (k .pre .0) (l .inv .1) (l .inv .0) (c .before .before .before .before .if1 .taken),
+      (
+        c .before .form-of .ensures,
+        fits-here (a .columns) (a .rows) (a .text .now) (a .version) (fonts (a .ascii8 .now) (a .ascii16 .now) (a .gb .now) (a .emoji .now) (a .list .now) (a .extra .now)) (l .s) (l .inv .0) (c .before .before .before .before .if1 .taken) (c .before .before .before .byte-at .ensures) (c .before .before .byte-at2 .ensures) (c .before .form-of .ensures) (l .inv .2),
+      ),
+    )
 
--- src/paint.rt:174:36
 cells-of-requires : tie.Need-cells-of-requires Inv-loop μ-loop
 cells-of-requires c κs =
     tt
 
--- src/paint.rt:174:9
 spot-after-requires : tie.Need-spot-after-requires Inv-loop μ-loop
 spot-after-requires c κs =
     let k = c .before .before .before .before .before .before .before .before .before .before .before .before .before .before .before .before .before .before .before .before .before in
@@ -93,7 +83,6 @@ spot-after-requires c κs =
     let small = cell-small _ _ (l .s) (l .inv .0) (k .pre .0 .text .narrow) (k .pre .0 .text .low) in
     (omega arith, omega (arith, l .inv .0 .column, k .pre .0 .text .narrow), omega (arith, l .inv .0 .row, k .pre .0 .text .low), taken-small _ (c .cells-of .ensures))
 
--- src/paint.rt:152:5
 loop-less : tie.Need-loop-less Inv-loop μ-loop
 loop-less c =
     let k = c .before .before .before .before .before .before .before .before .before .before .before .before .before .before .before .before .before .before .before .before .before .before in
@@ -102,27 +91,25 @@ loop-less c =
     left-turn (a .columns) (a .rows) (a .text .now) (l .s) (l .inv .0) (c .before .before .before .before .before .before .before .before .before .if1 .taken)
     (stepped (a .columns) (a .rows) (a .text .now) (l .s) (c .before .before .before .before .before .before .before .before .byte-at .ensures) (c .before .before .before .before .before .before .form-of .ensures) (c .before .cells-of .ensures) (c .spot-after .ensures))
 
--- src/paint.rt:152:5
 loop-again : tie.Need-loop-again Inv-loop μ-loop
 loop-again c =
     let k = c .before .before .before .before .before .before .before .before .before .before .before .before .before .before .before .before .before .before .before .before .before .before in
     let a = k .args in
     let l = c .before .before .before .before .before .before .before .before .before .before .before .loop in
     let e = stepped (a .columns) (a .rows) (a .text .now) (l .s) (c .before .before .before .before .before .before .before .before .byte-at .ensures) (c .before .before .before .before .before .before .form-of .ensures) (c .before .cells-of .ensures) (c .spot-after .ensures) in
-    let here = fits-here (a .columns) (a .rows) (a .text .now) (a .version) (fonts (a .ascii8 .now) (a .ascii16 .now) (a .gb .now) (a .emoji .now) (a .list .now) (a .extra .now)) (l .s) (l .inv .0) (c .before .before .before .before .before .before .before .before .before .if1 .taken) (c .before .before .before .before .before .before .before .before .byte-at .ensures) (c .before .before .before .before .before .before .before .byte-at2 .ensures) (c .before .before .before .before .before .before .form-of .ensures) (l .inv .2) in
-    (within-turn (a .columns) (a .rows) (a .text .now) (l .s) (l .inv .0) (c .before .before .before .before .before .before .before .before .before .if1 .taken) e,
-    ap length (c .before .before .before .before .paint-form .ensures) ∙ length-paint (formStores (a .columns) (map flagOf (a .flags .now)) (a .version) (fonts (a .ascii8 .now) (a .ascii16 .now) (a .gb .now) (a .emoji .now) (a .list .now) (a .extra .now)) (l .s) (c .before .before .before .before .before .before .before .before .byte-at .result) (c .before .before .before .before .before .before .before .byte-at2 .result) (c .before .before .before .before .before .before .form-of .result)) (l .screen) ∙ l .inv .1,
-    ap (λ (t : Spot). walkFits (a .text .now) (a .version) (fonts (a .ascii8 .now) (a .ascii16 .now) (a .gb .now) (a .emoji .now) (a .list .now) (a .extra .now)) (rest (a .columns) (a .rows) (a .text .now) t)) e
-    ∙ fits-turn (a .columns) (a .rows) (a .text .now) (a .version) (fonts (a .ascii8 .now) (a .ascii16 .now) (a .gb .now) (a .emoji .now) (a .list .now) (a .extra .now)) (l .s) (l .inv .0) (c .before .before .before .before .before .before .before .before .before .if1 .taken) (c .before .before .before .before .before .before .before .before .byte-at .ensures) (c .before .before .before .before .before .before .before .byte-at2 .ensures) (c .before .before .before .before .before .before .form-of .ensures) refl here (l .inv .2),
-    ap (λ (t : Spot). paint (left (a .columns) (a .rows) (a .text .now) (map flagOf (a .flags .now)) (a .version) (fonts (a .ascii8 .now) (a .ascii16 .now) (a .gb .now) (a .emoji .now) (a .list .now) (a .extra .now)) t) (c .before .before .before .before .paint-form .last .1 .1 .0)) e
-    ∙ text-turn (a .columns) (a .rows) (a .text .now) (map flagOf (a .flags .now)) (a .version) (fonts (a .ascii8 .now) (a .ascii16 .now) (a .gb .now) (a .emoji .now) (a .list .now) (a .extra .now)) (l .screen) (l .s) (l .inv .0) (c .before .before .before .before .before .before .before .before .before .if1 .taken) (c .before .before .before .before .before .before .before .before .byte-at .ensures) (c .before .before .before .before .before .before .before .byte-at2 .ensures) (c .before .before .before .before .before .before .form-of .ensures) (c .before .before .before .before .paint-form .ensures) (l .inv .3))
+    let here = fits-here (a .columns) (a .rows) (a .text .now) (a .version) (fonts (a .ascii8 .now) (a .ascii16 .now) (a .gb .now) (a .emoji .now) (a .list .now) (a .extra .now)) (l .s) (l .inv .0) (c .before .before .before .before .before .before .before .before .before .if1 .taken) (c .before .before .before .before .before .before .before .before .byte-at .ensures) (c .before .before .before .before .before .before .before .byte-at2 .ensures) (c .before .before .before .before .before .before .form-of .ensures) (l .inv .2) in (
+      within-turn (a .columns) (a .rows) (a .text .now) (l .s) (l .inv .0) (c .before .before .before .before .before .before .before .before .before .if1 .taken) e,
+      ap length (c .before .before .before .before .paint-form .ensures) ∙ length-paint (formStores (a .columns) (map flagOf (a .flags .now)) (a .version) (fonts (a .ascii8 .now) (a .ascii16 .now) (a .gb .now) (a .emoji .now) (a .list .now) (a .extra .now)) (l .s) (c .before .before .before .before .before .before .before .before .byte-at .result) (c .before .before .before .before .before .before .before .byte-at2 .result) (c .before .before .before .before .before .before .form-of .result)) (l .screen) ∙ l .inv .1,
+      ap (λ (t : Spot). walkFits (a .text .now) (a .version) (fonts (a .ascii8 .now) (a .ascii16 .now) (a .gb .now) (a .emoji .now) (a .list .now) (a .extra .now)) (rest (a .columns) (a .rows) (a .text .now) t)) e
+          ∙ fits-turn (a .columns) (a .rows) (a .text .now) (a .version) (fonts (a .ascii8 .now) (a .ascii16 .now) (a .gb .now) (a .emoji .now) (a .list .now) (a .extra .now)) (l .s) (l .inv .0) (c .before .before .before .before .before .before .before .before .before .if1 .taken) (c .before .before .before .before .before .before .before .before .byte-at .ensures) (c .before .before .before .before .before .before .before .byte-at2 .ensures) (c .before .before .before .before .before .before .form-of .ensures) refl here (l .inv .2),
+      ap (λ (t : Spot). paint (left (a .columns) (a .rows) (a .text .now) (map flagOf (a .flags .now)) (a .version) (fonts (a .ascii8 .now) (a .ascii16 .now) (a .gb .now) (a .emoji .now) (a .list .now) (a .extra .now)) t) (c .before .before .before .before .paint-form .last .1 .1 .0)) e
+          ∙ text-turn (a .columns) (a .rows) (a .text .now) (map flagOf (a .flags .now)) (a .version) (fonts (a .ascii8 .now) (a .ascii16 .now) (a .gb .now) (a .emoji .now) (a .list .now) (a .extra .now)) (l .screen) (l .s) (l .inv .0) (c .before .before .before .before .before .before .before .before .before .if1 .taken) (c .before .before .before .before .before .before .before .before .byte-at .ensures) (c .before .before .before .before .before .before .before .byte-at2 .ensures) (c .before .before .before .before .before .before .form-of .ensures) (c .before .before .before .before .paint-form .ensures) (l .inv .3),
+    )
 
--- src/paint.rt:133:1
 same-length : tie.Need-same-length Inv-loop μ-loop
 same-length c =
     let l = c .before .before .loop in l .inv .1
 
--- src/paint.rt:133:1
 returns : tie.Need-returns Inv-loop μ-loop
 returns c =
     let k = c .before .before .before .before .before .before .before .before .before .before .before .before .before in

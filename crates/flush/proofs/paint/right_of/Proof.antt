@@ -5,48 +5,37 @@ use borrow.Author.Tests.{lt-ltb, le-ltb}
 use borrow.Author.Needs.{needs}
 use Rattle.flush.proofs.paint.right_of.Statement.{statement}
 use Rattle.flush.proofs.paint.right_of.Tie as tie
-use Rattle.flush.proofs.paint.right_of.Reads as reads
-use Rattle.flush.proofs.paint.right_of.Lts as lts
 
--- src/paint.rt:41:18
 add-column : tie.Need-add-column
 add-column c = search needs
 
--- src/paint.rt:43:22
 mul-result : tie.Need-mul-result
 mul-result c =
     omega (arith, mul-le-mul (c .before .before .before .pre .0) (c .before .before .before .pre .1))
 
--- src/paint.rt:43:16
 mul-result-2 : tie.Need-mul-result-2
 mul-result-2 c =
     omega (arith, mul-le-mul (c .before .before .before .pre .0) (c .before .before .before .pre .1))
 
--- src/paint.rt:43:16
 add-result : tie.Need-add-result
 add-result c =
     omega (arith, mul-le-mul (c .before .before .before .pre .0) (c .before .before .before .pre .1))
 
--- src/paint.rt:43:9
 returns : tie.Need-returns
 returns c =
     rw (lt-ltb _ _ (c .before .if1 .taken))
 
--- src/paint.rt:45:17
 add-below : tie.Need-add-below
 add-below c = search needs
 
--- src/paint.rt:46:11
 mul-result-3 : tie.Need-mul-result-3
 mul-result-3 c =
     let l : c .before .before .before .args .s .row + 1 ≤ 17 = omega (arith, c .before .before .before .pre .1) in omega (arith, mul-le-mul (c .before .before .before .pre .0) l)
 
--- src/paint.rt:46:5
 mul-result-4 : tie.Need-mul-result-4
 mul-result-4 c =
     let l : c .before .before .before .args .s .row + 1 ≤ 17 = omega (arith, c .before .before .before .pre .1) in omega (arith, mul-le-mul (c .before .before .before .pre .0) l)
 
--- src/paint.rt:37:1
 returns-2 : tie.Need-returns-2
 returns-2 c =
     rw (le-ltb _ _ (c .before .if1 .left)) (omega arith)

@@ -3,22 +3,16 @@ use native.Mathlib.Nat.{mul-le-mul}
 use native.Mathlib.Omega.{arith}
 use Rattle.flush.proofs.paint.top_of.Statement.{statement}
 use Rattle.flush.proofs.paint.top_of.Tie as tie
-use Rattle.flush.proofs.paint.top_of.Reads as reads
-use Rattle.flush.proofs.paint.top_of.Lts as lts
 
--- src/paint.rt:33:11
 mul-result : tie.Need-mul-result
 mul-result c = omega (arith, mul-le-mul (c .before .pre .0) (c .before .pre .1))
 
--- src/paint.rt:33:5
 mul-result-2 : tie.Need-mul-result-2
 mul-result-2 c = omega (arith, mul-le-mul (c .before .pre .0) (c .before .pre .1))
 
--- src/paint.rt:33:5
 add-result : tie.Need-add-result
 add-result c = omega (arith, mul-le-mul (c .before .before .pre .0) (c .before .before .pre .1))
 
--- src/paint.rt:29:1
 returns : tie.Need-returns
 returns c = (refl, omega (arith, mul-le-mul (c .before .before .pre .0) (c .before .before .pre .1)))
 
