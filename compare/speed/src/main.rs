@@ -4,7 +4,7 @@
 
 mod plain;
 
-use calls::{Buffers, Call};
+use calls::{Buffers, Call, FontsLent};
 use driver::core_side::{self, Answering};
 use reference::Reference;
 use std::hint::black_box;
@@ -21,6 +21,9 @@ fn main() {
     checked_entry(core);
     for (name, call) in drawings() {
         drawing(name, &call, core);
+    }
+    for (name, text) in texts() {
+        flush(name, &text, core);
     }
 }
 
@@ -46,9 +49,24 @@ fn drawing(name: &str, call: &Call, core: Option<Answering>) {
     report(name, &mut by_reference, core, std::slice::from_ref(call));
 }
 
+/// A flush of a text of 100 cells, with the fonts whole and no extra list.
+fn flush(name: &str, text: &[u8], core: Option<Answering>) {
+    let call = Call::Flush { fonts: FontsLent::whole(vec![]) };
+    let mut buffers = opened();
+    buffers.memory[8192..][..text.len()].copy_from_slice(text);
+    let mut reference = Reference::default();
+    reference.load(&buffers.record, &buffers.memory);
+    reference.call(&call);
+    let mut by_reference = || reference.flush_alone();
+    report_on(name, &mut by_reference, core, std::slice::from_ref(&call), buffers);
+}
+
 /// One line of the table; the core's part is empty where it hasn't got the call.
 fn report(name: &str, rust: &mut dyn FnMut(), core: Option<Answering>, calls: &[Call]) {
-    let mut buffers = opened();
+    report_on(name, rust, core, calls, opened());
+}
+
+fn report_on(name: &str, rust: &mut dyn FnMut(), core: Option<Answering>, calls: &[Call], mut buffers: Buffers) {
     let core = core.filter(|_| core_side::has(calls[0].number()));
     let mut turn = calls.iter().cycle();
     let mut by_core = core.map(|core| {
@@ -110,5 +128,17 @@ fn drawings() -> Vec<(&'static str, Call)> {
         ("ellipse", Call::DrawEllipse { x: 80, y: 40, rx: 70, ry: 30, fill: 0, mode: 2 }),
         ("bitmap", Call::PaintBitmap { address: 9000, x: 5, y: 5, width: 64, height: 64, mode: 0 }),
         ("poke", Call::WriteByte { address: 4500, byte: 0x5a }),
+    ]
+}
+
+fn texts() -> Vec<(&'static str, Vec<u8>)> {
+    let pairs = |lead: u8, trail: u8| (0..50).flat_map(|k| [lead + (k % 4), trail + k]).collect();
+    vec![
+        ("flush, blank", vec![0; 100]),
+        ("flush, one byte a cell", (0..100).map(|k| 32 + k % 90).collect()),
+        ("flush, GB", pairs(176, 161)),
+        ("flush, emoji", pairs(248, 161)),
+        ("flush, hexadecimal", pairs(129, 64)),
+        ("flush, pairs over the rows' ends", [vec![65], pairs(176, 161)].concat()[..100].to_vec()),
     ]
 }
