@@ -5,3 +5,4 @@ pub mod Fitting
 pub mod Showing
 pub mod Texts
 pub mod Clearing
+pub mod Whole

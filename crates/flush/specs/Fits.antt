@@ -2,7 +2,7 @@
 use mathlib.Core.Bool.{Bool, true, _&&_}
 use mathlib.Core.List.{List, [], _∷_}
 use Prim.Native.Nat.{ℕ, _+_, _*_, _/_, _%_}
-use lib.Dec.{leb}
+use lib.Dec.{leb, ltb}
 use lib.ListN.{length, getD}
 use Rattle.model.specs.declared.Glyph.{Glyph}
 use Rattle.model.specs.declared.Glyph.the-variants.{Emoji, Gb, Extra, Hexadecimal}
@@ -30,3 +30,8 @@ formFits version f b trail Code = codeFits (f .ascii8) b
 unfoldable pub walkFits : List ℕ → ℕ → Fonts → List Shown → Bool
 walkFits text version f [] = true
 walkFits text version f (w ∷ ws) = formFits version f (getD text (w .spot .cell) 0) (getD text (w .spot .cell + 1) 0) (w .form) && walkFits text version f ws
+
+-- fonts that hold every code: the digits up to F, 128 characters, 7,614 GB characters, 527 emoji; and no entry of the extra list
+unfoldable pub wholeFonts : List ℕ → List ℕ → List ℕ → List ℕ → List ℕ → Bool
+wholeFonts ascii8 ascii16 gb emoji list =
+    ((leb 568 (length ascii8) && leb 2048 (length ascii16)) && (leb 243648 (length gb) && leb 16864 (length emoji))) && ltb (length list) 6

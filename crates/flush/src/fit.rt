@@ -14,7 +14,7 @@ ghost use lib.Dec.{leb};
 ghost use lib.ListN.{length};
 ghost use Rattle.model.specs.Glyphs.{fonts};
 ghost use Rattle.model.specs.Flush.{spot, walk};
-ghost use Rattle.flush.specs.Fits.{codeFits, glyphFits, formFits, walkFits};
+ghost use Rattle.flush.specs.Fits.{codeFits, glyphFits, formFits, walkFits, wholeFonts};
 ghost use Rattle.flush.specs.Page.{Text};
 
 fn code_fits(ascii8: &[u8], b: u8) -> bool
@@ -95,7 +95,16 @@ fn form_fits(
     }
 }
 
-pub fn text_fits(
+// Fonts that hold every code, and no extra list: then any text fits, and the walk is spared.
+fn fonts_whole(ascii8: &[u8], ascii16: &[u8], gb: &[u8], emoji: &[u8], list: &[u8]) -> bool
+    ensures { λ r. ⌜ r ≡ wholeFonts (now (ascii8 .entry)) (now (ascii16 .entry)) (now (gb .entry)) (now (emoji .entry)) (now (list .entry)) ⌝ }
+{
+    let ascii = (568 <= ascii8.len()) & (2048 <= ascii16.len());
+    let pairs = (243648 <= gb.len()) & (16864 <= emoji.len());
+    (ascii & pairs) & (list.len() < 6)
+}
+
+fn walk_fits(
     columns: usize,
     rows: usize,
     text: &[u8],
@@ -134,4 +143,25 @@ pub fn text_fits(
         }
     }
     true
+}
+
+pub fn text_fits(
+    columns: usize,
+    rows: usize,
+    text: &[u8],
+    version: u8,
+    ascii8: &[u8],
+    ascii16: &[u8],
+    gb: &[u8],
+    emoji: &[u8],
+    list: &[u8],
+    extra: &[u8],
+) -> bool
+    requires { ⌜ Text columns rows ⌝ }
+    ensures { λ r. ⌜ r ≡ walkFits (now (text .entry)) version (fonts (now (ascii8 .entry)) (now (ascii16 .entry)) (now (gb .entry)) (now (emoji .entry)) (now (list .entry)) (now (extra .entry))) (walk columns rows (now (text .entry)) (rows * columns) (spot 0 0 0)) ⌝ }
+{
+    if fonts_whole(ascii8, ascii16, gb, emoji, list) {
+        return true;
+    }
+    walk_fits(columns, rows, text, version, ascii8, ascii16, gb, emoji, list, extra)
 }

@@ -1,0 +1,135 @@
+-- Whole fonts: emoji indices are below 527, GB indices below 7,614, digits below G, so any text of bytes fits.
+use mathlib.Core.Path.{_≡_, refl, sym, ap, _∙_}
+use mathlib.Core.Bool.{Bool, true, false, cond, _&&_}
+use mathlib.Core.List.{List, [], _∷_}
+use Prim.Native.Nat.{ℕ, zero, suc, _+_, _-_, _*_, _/_, _%_, _≤_, _<_}
+use native.Mathlib.Omega.{arith}
+use borrow.Author.Tests.{le-leb, lt-ltb, le-ltb, leb-true, ltb-true}
+use lib.Dec.{leb, ltb, eqb}
+use lib.ListN.{length, getD}
+use mir.Syntax.{w8}
+use mir.Val.{Fits}
+use Rattle.model.specs.declared.Found.{Found}
+use Rattle.model.specs.declared.Found.the-variants.{At, Nothing}
+use Rattle.model.specs.declared.Glyph.{Glyph}
+use Rattle.model.specs.declared.Glyph.the-variants.{Emoji, Gb, Extra, Hexadecimal}
+use Rattle.model.specs.declared.Spot.{Spot}
+use Rattle.model.specs.declared.Form.{Form}
+use Rattle.model.specs.declared.Form.the-variants.{Blank, Single, Pair, Code}
+use Rattle.model.specs.Rects.{every}
+use Rattle.model.specs.Codes.{CodeRow, emojiRows, inRow, indexIn, emojiIndex, gbRow, gbIndex, extraFrom, extraOffset}
+use Rattle.model.specs.Glyphs.{Fonts, digit, orElse, glyphOf}
+use Rattle.model.specs.Flush.{Shown, isLast, formOf, next, walk}
+use Rattle.laws.specs.Tests.{tests, all-true, and-true, by-test, by-lt, if-cases, clash}
+use Rattle.flush.specs.Fits.{codeFits, glyphFits, formFits, walkFits, wholeFonts}
+
+-- ---- indices
+
+-- an index, where there is one, is below n
+abbrev pub below : Found → ℕ → Type 0
+below (At i) n = i < n
+below Nothing n = Unit {0}
+
+-- how many codes the rows have
+total : List CodeRow → ℕ
+total [] = 0
+total (r ∷ rs) = (r .last + 1 - r .first) + total rs
+
+index-below : (rs : List CodeRow) (before lead trail n : ℕ) → before + total rs ≤ n → below (indexIn rs before lead trail) n
+unfolding indexIn inRow total
+index-below [] before lead trail n h = tt
+index-below (r ∷ rs) before lead trail n h =
+    if-cases (λ (x : Found). below x n) (every (eqb lead (r .lead) ∷ leb (r .first) trail ∷ leb trail (r .last) ∷ []))
+    (λ e. let a = all-true (eqb lead (r .lead) ∷ leb (r .first) trail ∷ leb trail (r .last) ∷ []) e in omega (arith, tests))
+    (λ e. index-below rs (before + (r .last + 1 - r .first)) lead trail n (omega arith))
+
+pub emoji-below : (version lead trail : ℕ) → below (emojiIndex version lead trail) 527
+unfolding emojiIndex total
+emoji-below zero lead trail = index-below (emojiRows 0) 0 lead trail 527 (omega arith)
+emoji-below (suc n) lead trail = index-below (emojiRows 1) 0 lead trail 527 (omega arith)
+
+pub gb-below : (lead trail : ℕ) → below (gbIndex lead trail) 7614
+unfolding gbIndex
+gb-below lead trail =
+    if-cases (λ (x : Found). below x 7614) (every (leb 161 lead ∷ leb lead 247 ∷ leb 161 trail ∷ leb trail 254 ∷ []))
+    (λ e. let a = all-true (leb 161 lead ∷ leb lead 247 ∷ leb 161 trail ∷ leb trail 254 ∷ []) e in
+    let r : gbRow (lead - 161) ≤ 80 = if-cases (λ (k : ℕ). k ≤ 80) (ltb 8 (lead - 161)) (λ t. omega (arith, tests)) (λ t. omega (arith, tests)) in
+    omega (arith, tests))
+    (λ e. tt)
+
+no-extra : (list : List ℕ) (code : ℕ) → length list < 6 → extraOffset list code ≡ Nothing
+unfolding extraOffset extraFrom
+no-extra list code h = let q : length list / 6 ≡ 0 = omega arith in ap (extraFrom list code 0) q
+
+digit-most : (n : ℕ) → n < 16 → digit n ≤ 70
+digit-most n h = if-cases (λ (k : ℕ). k ≤ 70) (ltb n 10) (λ e. omega (arith, tests)) (λ e. omega arith)
+
+-- ---- what is shown
+
+module _ (f : Fonts) (w : wholeFonts (f .ascii8) (f .ascii16) (f .gb) (f .emoji) (f .extraList) ≡ true) where
+  record Whole : Type 0 where
+    ascii8 : 568 ≤ length (f .ascii8)
+    ascii16 : 2048 ≤ length (f .ascii16)
+    gb : 243648 ≤ length (f .gb)
+    emoji : 16864 ≤ length (f .emoji)
+    list : length (f .extraList) < 6
+
+  whole : Whole
+  unfolding wholeFonts
+  whole =
+      let a = and-true ((leb 568 (length (f .ascii8)) && leb 2048 (length (f .ascii16))) && (leb 243648 (length (f .gb)) && leb 16864 (length (f .emoji)))) (ltb (length (f .extraList)) 6) w in
+      let b = and-true (leb 568 (length (f .ascii8)) && leb 2048 (length (f .ascii16))) (leb 243648 (length (f .gb)) && leb 16864 (length (f .emoji))) (a .0) in
+      let c = and-true (leb 568 (length (f .ascii8))) (leb 2048 (length (f .ascii16))) (b .0) in
+      let d = and-true (leb 243648 (length (f .gb))) (leb 16864 (length (f .emoji))) (b .1) in
+      record {
+        ascii8 = leb-true 568 (length (f .ascii8)) (c .0);
+        ascii16 = leb-true 2048 (length (f .ascii16)) (c .1);
+        gb = leb-true 243648 (length (f .gb)) (d .0);
+        emoji = leb-true 16864 (length (f .emoji)) (d .1);
+        list = ltb-true (length (f .extraList)) 6 (a .1);
+      }
+
+  code-whole : (b : ℕ) → b < 256 → codeFits (f .ascii8) b ≡ true
+  unfolding codeFits
+  code-whole b h =
+      rw (le-leb (8 * digit (b / 16) + 8) (length (f .ascii8)) (omega (arith, whole .ascii8, digit-most (b / 16) (omega arith))),
+      le-leb (8 * digit (b % 16) + 8) (length (f .ascii8)) (omega (arith, whole .ascii8, digit-most (b % 16) (omega arith))))
+
+  -- source by source
+  extra-whole : (lead trail : ℕ) → lead < 256 → trail < 256 → glyphFits f lead trail (orElse (extraOffset (f .extraList) (256 * lead + trail)) Extra Hexadecimal) ≡ true
+  unfolding orElse glyphFits
+  extra-whole lead trail hl ht = rw (no-extra (f .extraList) (256 * lead + trail) (whole .list), code-whole lead hl, code-whole trail ht)
+
+  gb-whole : (lead trail : ℕ) → lead < 256 → trail < 256 → (x : Found) → below x 7614
+      → glyphFits f lead trail (orElse x Gb (orElse (extraOffset (f .extraList) (256 * lead + trail)) Extra Hexadecimal)) ≡ true
+  unfolding orElse glyphFits
+  gb-whole lead trail hl ht (At i) h = le-leb (32 * i + 32) (length (f .gb)) (omega (arith, whole .gb))
+  gb-whole lead trail hl ht Nothing h = extra-whole lead trail hl ht
+
+  emoji-whole : (lead trail : ℕ) → lead < 256 → trail < 256 → (x : Found) → below x 527
+      → glyphFits f lead trail (orElse x Emoji (orElse (gbIndex lead trail) Gb (orElse (extraOffset (f .extraList) (256 * lead + trail)) Extra Hexadecimal))) ≡ true
+  unfolding orElse glyphFits
+  emoji-whole lead trail hl ht (At i) h = le-leb (32 * i + 32) (length (f .emoji)) (omega (arith, whole .emoji))
+  emoji-whole lead trail hl ht Nothing h = gb-whole lead trail hl ht (gbIndex lead trail) (gb-below lead trail)
+
+  glyph-whole : (version lead trail : ℕ) → lead < 256 → trail < 256 → glyphFits f lead trail (glyphOf version (f .extraList) lead trail) ≡ true
+  unfolding glyphOf
+  glyph-whole version lead trail hl ht = emoji-whole lead trail hl ht (emojiIndex version lead trail) (emoji-below version lead trail)
+
+  form-whole : (st n version b trail : ℕ) (s : Spot) → b < 256 → trail < 256 → formFits version f b trail (formOf st n b s) ≡ true
+  unfolding formOf formFits
+  form-whole st n version b trail s hb ht =
+      if-cases (λ (m : Form). formFits version f b trail m ≡ true) (eqb b 0) (λ e. refl)
+      (λ e. if-cases (λ (m : Form). formFits version f b trail m ≡ true) (ltb b 128)
+      (λ t. le-leb (16 * b + 16) (length (f .ascii16)) (omega (arith, tests, whole .ascii16)))
+      (λ t. if-cases (λ (m : Form). formFits version f b trail m ≡ true) (isLast st n s) (λ u. code-whole b hb) (λ u. glyph-whole version b trail hb ht)))
+
+  pub walk-whole : (st n version : ℕ) (text : List ℕ) → ((i : ℕ) → Fits w8 (getD text i 0)) → (k : ℕ) (s : Spot)
+      → true ≡ walkFits text version f (walk st n text k s)
+  unfolding walk walkFits
+  walk-whole st n version text h zero s = refl
+  walk-whole st n version text h (suc k) s =
+      if-cases (λ (ws : List Shown). true ≡ walkFits text version f ws) (ltb (s .row) n)
+      (λ e. rw (form-whole st n version (getD text (s .cell) 0) (getD text (s .cell + 1) 0) s (h (s .cell) .fits) (h (s .cell + 1) .fits))
+      (walk-whole st n version text h k (next st n text s)))
+      (λ e. refl)
