@@ -19,7 +19,7 @@ use Rattle.model.specs.Flush.{isLast, formOf, topOf, rightOf, flagAt, glyphStor
 use Rattle.laws.specs.Tests.{tests, by-lt, if-cases, and-true, clash}
 use Rattle.laws.specs.Glyphs.{paint-append, glyphLines, paintLines, part-lines}
 use Rattle.flush.specs.Fits.{codeFits, glyphFits, formFits}
-use Rattle.flush.specs.Page.{OnPage, Room, PairRoom, partOf, PartFits, codeEnd, isHexadecimal}
+use Rattle.flush.specs.Page.{OnPage, Room, PairRoom, FormRoom, partOf, PartFits, codeEnd, isHexadecimal}
 
 -- ---- hexadecimal or not
 
@@ -89,7 +89,7 @@ module _ (st n : ℕ) (screen : List ℕ) (s : Spot) (o : OnPage st n screen s) 
   line-room : st * s .row + st ≤ st * n
   line-room = omega (arith, mul-suc st (s .row), mul-le-mul-left {m = suc (s .row)} {n = n} st (o .row))
 
-  pub form-room : Room st screen (topOf st (s .row) (s .column)) 16
+  form-room : Room st screen (topOf st (s .row) (s .column)) 16
   form-room = record {
     narrow = o .page .text .narrow;
     small = o .page .small;
@@ -108,7 +108,7 @@ module _ (st n : ℕ) (screen : List ℕ) (s : Spot) (o : OnPage st n screen s) 
   below-room : s .row + 1 < n → st * (s .row + 1) + st ≤ st * n
   below-room l = omega (arith, mul-suc st (s .row + 1), mul-le-mul-left {m = suc (s .row + 1)} {n = n} st (omega arith))
 
-  pub pair-room : (b : ℕ) → Pair ≡ formOf st n b s → PairRoom st screen s
+  pair-room : (b : ℕ) → Pair ≡ formOf st n b s → PairRoom st screen s
   pair-room b e = record {
     row = omega (arith, o .row, o .page .text .low);
     column = omega (arith, o .column, o .page .text .narrow);
@@ -130,6 +130,14 @@ module _ (st n : ℕ) (screen : List ℕ) (s : Spot) (o : OnPage st n screen s) 
           (λ l. let m = not-last b e (omega (arith, o .column)) in
           omega (arith, mul-suc st (s .row), add-one (s .row), below-room m, o .page .sized, o .page .text .wide, o .column));
     };
+  }
+
+  pub shown-room : (b : ℕ) {m : Form} → m ≡ formOf st n b s → FormRoom st screen s m
+  shown-room b e = record {
+    row = omega (arith, o .row, o .page .text .low);
+    column = omega (arith, o .column, o .page .text .narrow);
+    left = form-room;
+    pair = λ q. pair-room b (sym q ∙ e);
   }
 
 pub room-at : (st : ℕ) (screen t : List ℕ) (h : ℕ) {place k : ℕ} → Room st screen place h → length t ≡ length screen → k ≡ place → Room st t k h

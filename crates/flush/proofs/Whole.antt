@@ -1,26 +1,24 @@
 -- Whole fonts: emoji indices are below 527, GB indices below 7,614, digits below G, so any text of bytes fits.
-use mathlib.Core.Path.{_≡_, refl, sym, ap, _∙_}
-use mathlib.Core.Bool.{Bool, true, false, cond, _&&_}
+use mathlib.Core.Path.{_≡_, refl, ap}
+use mathlib.Core.Bool.{true, _&&_}
 use mathlib.Core.List.{List, [], _∷_}
 use Prim.Native.Nat.{ℕ, zero, suc, _+_, _-_, _*_, _/_, _%_, _≤_, _<_}
 use native.Mathlib.Omega.{arith}
-use borrow.Author.Tests.{le-leb, lt-ltb, le-ltb, leb-true, ltb-true}
+use borrow.Author.Tests.{le-leb, leb-true, ltb-true}
 use lib.Dec.{leb, ltb, eqb}
 use lib.ListN.{length, getD}
 use mir.Syntax.{w8}
 use mir.Val.{Fits}
 use Rattle.model.specs.declared.Found.{Found}
 use Rattle.model.specs.declared.Found.the-variants.{At, Nothing}
-use Rattle.model.specs.declared.Glyph.{Glyph}
 use Rattle.model.specs.declared.Glyph.the-variants.{Emoji, Gb, Extra, Hexadecimal}
 use Rattle.model.specs.declared.Spot.{Spot}
 use Rattle.model.specs.declared.Form.{Form}
-use Rattle.model.specs.declared.Form.the-variants.{Blank, Single, Pair, Code}
 use Rattle.model.specs.Rects.{every}
 use Rattle.model.specs.Codes.{CodeRow, emojiRows, inRow, indexIn, emojiIndex, gbRow, gbIndex, extraFrom, extraOffset}
 use Rattle.model.specs.Glyphs.{Fonts, digit, orElse, glyphOf}
 use Rattle.model.specs.Flush.{Shown, isLast, formOf, next, walk}
-use Rattle.laws.specs.Tests.{tests, all-true, and-true, by-test, by-lt, if-cases, clash}
+use Rattle.laws.specs.Tests.{tests, all-true, and-true, if-cases}
 use Rattle.flush.specs.Fits.{codeFits, glyphFits, formFits, walkFits, wholeFonts}
 
 -- ---- indices
@@ -92,8 +90,10 @@ module _ (f : Fonts) (w : wholeFonts (f .ascii8) (f .ascii16) (f .gb) (f .emoji)
   code-whole : (b : ℕ) → b < 256 → codeFits (f .ascii8) b ≡ true
   unfolding codeFits
   code-whole b h =
-      rw (le-leb (8 * digit (b / 16) + 8) (length (f .ascii8)) (omega (arith, whole .ascii8, digit-most (b / 16) (omega arith))),
-      le-leb (8 * digit (b % 16) + 8) (length (f .ascii8)) (omega (arith, whole .ascii8, digit-most (b % 16) (omega arith))))
+      rw (
+        le-leb (8 * digit (b / 16) + 8) (length (f .ascii8)) (omega (arith, whole .ascii8, digit-most (b / 16) (omega arith))),
+        le-leb (8 * digit (b % 16) + 8) (length (f .ascii8)) (omega (arith, whole .ascii8, digit-most (b % 16) (omega arith))),
+      )
 
   -- source by source
   extra-whole : (lead trail : ℕ) → lead < 256 → trail < 256 → glyphFits f lead trail (orElse (extraOffset (f .extraList) (256 * lead + trail)) Extra Hexadecimal) ≡ true

@@ -1,11 +1,14 @@
 -- What painting asks of the screen and of the fonts.
 use mathlib.Core.Bool.{Bool, true, false}
 use mathlib.Core.List.{List, []}
+use mathlib.Core.Path.{_≡_}
 use Prim.Native.Nat.{ℕ, _+_, _*_, _/_, _%_, _≤_, _<_, max}
 use lib.ListN.{length, take, drop}
 use Rattle.model.specs.declared.Glyph.{Glyph}
 use Rattle.model.specs.declared.Glyph.the-variants.{Emoji, Gb, Extra, Hexadecimal}
 use Rattle.model.specs.declared.Spot.{Spot}
+use Rattle.model.specs.declared.Form.{Form}
+use Rattle.model.specs.declared.Form.the-variants.{Pair}
 use Rattle.model.specs.Glyphs.{digit}
 use Rattle.model.specs.Flush.{topOf, rightOf}
 
@@ -60,6 +63,13 @@ pub record PairRoom (st : ℕ) (screen : List ℕ) (s : Spot) : Type 0 where
   pub left : Room st screen (topOf st (s .row) (s .column)) 16
   pub right : Room st screen (rightOf st s) 16
   pub beside : Room st screen (topOf st (s .row) (s .column) + 1) 16
+
+-- what is shown at a spot lies on the screen
+pub record FormRoom (st : ℕ) (screen : List ℕ) (s : Spot) (f : Form) : Type 0 where
+  pub row : s .row ≤ 16
+  pub column : s .column ≤ 32
+  pub left : Room st screen (topOf st (s .row) (s .column)) 16
+  pub pair : f ≡ Pair → PairRoom st screen s
 
 unfoldable pub isHexadecimal : Glyph → Bool
 isHexadecimal (Emoji i) = false

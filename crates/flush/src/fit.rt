@@ -163,5 +163,16 @@ pub fn text_fits(
     if fonts_whole(ascii8, ascii16, gb, emoji, list) {
         return true;
     }
-    walk_fits(columns, rows, text, version, ascii8, ascii16, gb, emoji, list, extra)
+    walk_fits(
+        columns,
+        rows,
+        text,
+        version,
+        ascii8,
+        ascii16,
+        gb,
+        emoji,
+        list,
+        extra,
+    )
 }

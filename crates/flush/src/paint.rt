@@ -21,9 +21,9 @@ ghost use Prim.Native.Nat.{_*_, _≤_, _<_};
 ghost use lib.ListN.{length};
 ghost use Rattle.model.specs.Record.{flagOf};
 ghost use Rattle.model.specs.Glyphs.{fonts, paint};
-ghost use Rattle.model.specs.Flush.{spot, formOf, walk, topOf, rightOf, glyphStores, formStores, textStores};
+ghost use Rattle.model.specs.Flush.{spot, walk, topOf, rightOf, glyphStores, formStores, textStores};
 ghost use Rattle.flush.specs.Fits.{glyphFits, formFits, walkFits};
-ghost use Rattle.flush.specs.Page.{Page, OnPage, PairRoom, isHexadecimal};
+ghost use Rattle.flush.specs.Page.{Page, FormRoom, PairRoom, isHexadecimal};
 
 // The screen byte at the top of a spot's column.
 fn top_of(columns: usize, s: Spot) -> usize
@@ -101,7 +101,6 @@ fn paint_pair<'a>(
 // What is shown at a spot, of byte b and the next one.
 fn paint_form<'a>(
     columns: usize,
-    rows: usize,
     screen: &mut [u8],
     flags: &[u8],
     version: u8,
@@ -116,8 +115,7 @@ fn paint_form<'a>(
     trail: u8,
     f: Form,
 )
-    requires { ⌜ OnPage columns rows (now screen) s ⌝ }
-    requires { ⌜ f ≡ formOf columns rows b s ⌝ }
+    requires { ⌜ FormRoom columns (now screen) s f ⌝ }
     requires { ⌜ formFits version (fonts (now ascii8) (now ascii16) (now gb) (now emoji) (now list) (now extra)) b trail f ≡ true ⌝ }
     ensures { λ _. ⌜ now (screen .exit) ≡ paint (formStores columns (map flagOf (now (flags .entry))) version (fonts (now (ascii8 .entry)) (now (ascii16 .entry)) (now (gb .entry)) (now (emoji .entry)) (now (list .entry)) (now (extra .entry))) s b trail f) (now (screen .entry)) ⌝ }
 {
@@ -186,7 +184,6 @@ pub fn paint_text<'a>(
         let f = form_of(columns, rows, b, s);
         paint_form(
             columns,
-            rows,
             screen,
             flags,
             version,

@@ -6,27 +6,19 @@ use Rattle.flush.proofs.Whole.{walk-whole}
 use borrow.Author.Needs.{needs}
 use Rattle.flush.proofs.fit.text_fits.Statement.{statement}
 use Rattle.flush.proofs.fit.text_fits.Tie as tie
-use Rattle.flush.proofs.fit.text_fits.Reads as reads
-use Rattle.flush.proofs.fit.text_fits.Lts as lts
-use Rattle.flush.proofs.fit.fonts_whole.Reads as fonts-whole-reads
-use Rattle.flush.proofs.fit.walk_fits.Reads as walk-fits-reads
 
--- src/fit.rt:163:8
 fonts-whole-requires : tie.Need-fonts-whole-requires
 fonts-whole-requires c κs = search needs
 
--- src/fit.rt:164:9
 returns : tie.Need-returns
 returns c =
     let a = c .before .before .before .before .before .before .before .before .before .args in
     walk-whole (fonts (a .ascii8 .now) (a .ascii16 .now) (a .gb .now) (a .emoji .now) (a .list .now) (a .extra .now)) (sym (c .before .fonts-whole .ensures) ∙ c .if1 .taken) (a .columns) (a .rows) (a .version) (a .text .now) (c .before .before .before .before .before .before .before .before .shared-slice-known .given)
     (a .rows * a .columns) (spot 0 0 0)
 
--- src/fit.rt:166:5
 walk-fits-requires : tie.Need-walk-fits-requires
 walk-fits-requires c κs = search needs
 
--- src/fit.rt:148:1
 returns-2 : tie.Need-returns-2
 returns-2 c = search needs
 

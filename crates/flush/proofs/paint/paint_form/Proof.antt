@@ -1,9 +1,9 @@
 -- One law for each form: its room, its bytes, what it leaves.
-use mathlib.Core.Path.{refl, sym, _∙_}
+use mathlib.Core.Path.{refl}
 use mathlib.Core.List.{map}
 use Rattle.model.specs.Record.{flagOf}
 use Rattle.model.specs.Glyphs.{fonts}
-use Rattle.flush.proofs.Showing.{room-at, form-room, pair-room, single-in, pair-in, code-in, blank-shown, single-shown, pair-shown, code-shown}
+use Rattle.flush.proofs.Showing.{room-at, single-in, pair-in, code-in, blank-shown, single-shown, pair-shown, code-shown}
 use borrow.Author.Needs.{needs}
 use Rattle.flush.proofs.paint.paint_form.Statement.{statement}
 use Rattle.flush.proofs.paint.paint_form.Tie as tie
@@ -27,8 +27,8 @@ paint-column-requires : tie.Need-paint-column-requires
 paint-column-requires c κs =
     let k = c .before .before .before .before .before .before .before .before .before .before .before .before .before in
     let a = k .args in (
-      room-at (a .columns) (a .screen .now) (a .screen .now) 16 (form-room (a .columns) (a .rows) (a .screen .now) (a .s) (k .pre .0)) refl (c .top-of .ensures .0),
-      single-in (a .version) (fonts (a .ascii8 .now) (a .ascii16 .now) (a .gb .now) (a .emoji .now) (a .list .now) (a .extra .now)) (a .b) (a .trail) (c .before .before .before .enum-told2 .given .1) (k .pre .1 .1),
+      room-at (a .columns) (a .screen .now) (a .screen .now) 16 (k .pre .0 .left) refl (c .top-of .ensures .0),
+      single-in (a .version) (fonts (a .ascii8 .now) (a .ascii16 .now) (a .gb .now) (a .emoji .now) (a .list .now) (a .extra .now)) (a .b) (a .trail) (c .before .before .before .enum-told2 .given .1) (k .pre .1),
     )
 
 enum-told-3 : tie.Need-enum-told-3
@@ -41,8 +41,8 @@ paint-pair-requires : tie.Need-paint-pair-requires
 paint-pair-requires c κs =
     let k = c .before .before .before .before .before .before .before .before .before .before .before .before in
     let a = k .args in (
-      pair-room (a .columns) (a .rows) (a .screen .now) (a .s) (k .pre .0) (a .b) (sym (c .before .before .enum-told3 .given .1) ∙ k .pre .1 .0),
-      pair-in (a .version) (fonts (a .ascii8 .now) (a .ascii16 .now) (a .gb .now) (a .emoji .now) (a .list .now) (a .extra .now)) (a .b) (a .trail) (c .before .before .enum-told3 .given .1) (c .before .glyph-of .ensures) (k .pre .1 .1),
+      k .pre .0 .pair (c .before .before .enum-told3 .given .1),
+      pair-in (a .version) (fonts (a .ascii8 .now) (a .ascii16 .now) (a .gb .now) (a .emoji .now) (a .list .now) (a .extra .now)) (a .b) (a .trail) (c .before .before .enum-told3 .given .1) (c .before .glyph-of .ensures) (k .pre .1),
     )
 
 enum-told-4 : tie.Need-enum-told-4
@@ -55,8 +55,8 @@ paint-code-requires : tie.Need-paint-code-requires
 paint-code-requires c κs =
     let k = c .before .before .before .before .before .before .before .before .before .before .before .before in
     let a = k .args in (
-      room-at (a .columns) (a .screen .now) (a .screen .now) 16 (form-room (a .columns) (a .rows) (a .screen .now) (a .s) (k .pre .0)) refl (c .top-of2 .ensures .0),
-      code-in (a .version) (fonts (a .ascii8 .now) (a .ascii16 .now) (a .gb .now) (a .emoji .now) (a .list .now) (a .extra .now)) (a .b) (a .trail) (c .before .before .enum-told4 .given .1) (k .pre .1 .1),
+      room-at (a .columns) (a .screen .now) (a .screen .now) 16 (k .pre .0 .left) refl (c .top-of2 .ensures .0),
+      code-in (a .version) (fonts (a .ascii8 .now) (a .ascii16 .now) (a .gb .now) (a .emoji .now) (a .list .now) (a .extra .now)) (a .b) (a .trail) (c .before .before .enum-told4 .given .1) (k .pre .1),
     )
 
 returns : tie.Need-returns

@@ -13,6 +13,7 @@ use Rattle.laws.specs.FlushWalk.{Within, placesLeft, rest}
 use Rattle.flush.specs.Fits.{walkFits}
 use Rattle.flush.proofs.Walking.{cell-small, within-start, stepped, taken-small, within-turn, left-turn}
 use Rattle.flush.proofs.Fitting.{fits-start, fits-here, fits-turn}
+use Rattle.flush.proofs.Showing.{shown-room}
 use Rattle.flush.proofs.Texts.{left, on-page, text-start, text-turn, text-end}
 use Rattle.flush.proofs.paint.paint_text.Statement.{statement}
 use Rattle.flush.proofs.paint.paint_text.Tie as tie
@@ -65,11 +66,8 @@ paint-form-requires c κs =
     let k = c .before .before .before .before .before .before .before .before .before .before .before .before .before .before .before .before .before in
     let a = k .args in
     let l = c .before .before .before .before .before .before .loop in (
-      on-page (a .columns) (a .rows) (a .screen .now) (l .screen) (l .s) (k .pre .0) (l .inv .1) (l .inv .0) (c .before .before .before .before .if1 .taken),
-      (
-        c .before .form-of .ensures,
-        fits-here (a .columns) (a .rows) (a .text .now) (a .version) (fonts (a .ascii8 .now) (a .ascii16 .now) (a .gb .now) (a .emoji .now) (a .list .now) (a .extra .now)) (l .s) (l .inv .0) (c .before .before .before .before .if1 .taken) (c .before .before .before .byte-at .ensures) (c .before .before .byte-at2 .ensures) (c .before .form-of .ensures) (l .inv .2),
-      ),
+      shown-room (a .columns) (a .rows) (l .screen) (l .s) (on-page (a .columns) (a .rows) (a .screen .now) (l .screen) (l .s) (k .pre .0) (l .inv .1) (l .inv .0) (c .before .before .before .before .if1 .taken)) _ (c .before .form-of .ensures),
+      fits-here (a .columns) (a .rows) (a .text .now) (a .version) (fonts (a .ascii8 .now) (a .ascii16 .now) (a .gb .now) (a .emoji .now) (a .list .now) (a .extra .now)) (l .s) (l .inv .0) (c .before .before .before .before .if1 .taken) (c .before .before .before .byte-at .ensures) (c .before .before .byte-at2 .ensures) (c .before .form-of .ensures) (l .inv .2),
     )
 
 cells-of-requires : tie.Need-cells-of-requires Inv-loop μ-loop
@@ -102,7 +100,7 @@ loop-again c =
       ap length (c .before .before .before .before .paint-form .ensures) ∙ length-paint (formStores (a .columns) (map flagOf (a .flags .now)) (a .version) (fonts (a .ascii8 .now) (a .ascii16 .now) (a .gb .now) (a .emoji .now) (a .list .now) (a .extra .now)) (l .s) (c .before .before .before .before .before .before .before .before .byte-at .result) (c .before .before .before .before .before .before .before .byte-at2 .result) (c .before .before .before .before .before .before .form-of .result)) (l .screen) ∙ l .inv .1,
       ap (λ (t : Spot). walkFits (a .text .now) (a .version) (fonts (a .ascii8 .now) (a .ascii16 .now) (a .gb .now) (a .emoji .now) (a .list .now) (a .extra .now)) (rest (a .columns) (a .rows) (a .text .now) t)) e
           ∙ fits-turn (a .columns) (a .rows) (a .text .now) (a .version) (fonts (a .ascii8 .now) (a .ascii16 .now) (a .gb .now) (a .emoji .now) (a .list .now) (a .extra .now)) (l .s) (l .inv .0) (c .before .before .before .before .before .before .before .before .before .if1 .taken) (c .before .before .before .before .before .before .before .before .byte-at .ensures) (c .before .before .before .before .before .before .before .byte-at2 .ensures) (c .before .before .before .before .before .before .form-of .ensures) refl here (l .inv .2),
-      ap (λ (t : Spot). paint (left (a .columns) (a .rows) (a .text .now) (map flagOf (a .flags .now)) (a .version) (fonts (a .ascii8 .now) (a .ascii16 .now) (a .gb .now) (a .emoji .now) (a .list .now) (a .extra .now)) t) (c .before .before .before .before .paint-form .last .1 .1 .0)) e
+      ap (λ (t : Spot). paint (left (a .columns) (a .rows) (a .text .now) (map flagOf (a .flags .now)) (a .version) (fonts (a .ascii8 .now) (a .ascii16 .now) (a .gb .now) (a .emoji .now) (a .list .now) (a .extra .now)) t) (c .before .before .before .before .paint-form .last .1 .0)) e
           ∙ text-turn (a .columns) (a .rows) (a .text .now) (map flagOf (a .flags .now)) (a .version) (fonts (a .ascii8 .now) (a .ascii16 .now) (a .gb .now) (a .emoji .now) (a .list .now) (a .extra .now)) (l .screen) (l .s) (l .inv .0) (c .before .before .before .before .before .before .before .before .before .if1 .taken) (c .before .before .before .before .before .before .before .before .byte-at .ensures) (c .before .before .before .before .before .before .before .byte-at2 .ensures) (c .before .before .before .before .before .before .form-of .ensures) (c .before .before .before .before .paint-form .ensures) (l .inv .3),
     )
 
