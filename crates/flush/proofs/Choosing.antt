@@ -4,7 +4,7 @@ use mathlib.Core.Bool.{true, false, _&&_}
 use mathlib.Core.List.{List, [], _∷_}
 use Prim.Native.Nat.{ℕ, _+_, _-_, _*_, _/_, _≤_}
 use native.Mathlib.Omega.{arith}
-use lib.Dec.{leb, ltb}
+use lib.Dec.{leb}
 use lib.ListN.{length}
 use Rattle.model.specs.declared.Found.{Found}
 use Rattle.model.specs.declared.Found.the-variants.{At, Nothing}
@@ -14,14 +14,11 @@ use Rattle.model.specs.declared.Glyph.the-variants.{Emoji, Gb, Extra, Hexadecim
 use Rattle.model.specs.Glyphs.{orElse, glyphOf}
 use Rattle.laws.specs.Codes.{found-at, found-nothing}
 use Rattle.flush.specs.Choice.{extraGlyph, otherGlyph}
-use Rattle.laws.specs.Tests.{tests, all-true, if-cases}
+use Rattle.laws.specs.Tests.{tests, all-true}
 
 pub no-row : (before lead trail : ℕ) → Nothing ≡ indexIn [] before lead trail
 unfolding indexIn
 no-row before lead trail = refl
-
-pub gb-row-most : (s : ℕ) → gbRow s ≤ s
-gb-row-most s = if-cases (λ (k : ℕ). k ≤ s) (ltb 8 s) (λ e. omega (arith, tests)) (λ e. omega arith)
 
 pub gb-from : (lead trail : ℕ) → (((leb 161 lead && leb lead 247) && leb 161 trail) && leb trail 254) ≡ true → (161 ≤ lead) × (161 ≤ trail)
 gb-from lead trail e = let a = all-true (leb 161 lead ∷ leb lead 247 ∷ leb 161 trail ∷ leb trail 254 ∷ []) e in (omega (arith, tests), omega (arith, tests))

@@ -84,7 +84,7 @@ fn emoji_index(version: u8, lead: u8, trail: u8) -> Found
 
 // Rows 10-15 have the glyphs of rows 4-9.
 fn gb_row(s: usize) -> usize
-    ensures { λ r. ⌜ r ≡ gbRow s ⌝ }
+    ensures { λ r. ⌜ (r ≡ gbRow s) × (r ≤ s) ⌝ }
 {
     if 8 < s { s - 6 } else { s }
 }

@@ -71,9 +71,11 @@ pub fn spot_after(columns: usize, s: Spot, k: usize) -> Spot
             column: column,
         };
     }
+    let cell = s.cell + k;
+    let below = s.row + 1;
     Spot {
-        cell: s.cell + k,
-        row: s.row + 1,
+        cell: cell,
+        row: below,
         column: 0,
     }
 }

@@ -1,6 +1,5 @@
-use Rattle.flush.proofs.Choosing.{gb-row-most}
 use mathlib.Core.Path.{ap}
-use Prim.Native.Nat.{ℕ, _+_, _-_, _*_}
+use Prim.Native.Nat.{ℕ, _*_}
 use Rattle.model.specs.declared.Found.the-variants.{At}
 use native.Mathlib.Omega.{arith}
 use borrow.Author.Needs.{needs}
@@ -17,7 +16,7 @@ gb-row-requires : tie.Need-gb-row-requires
 gb-row-requires c κs = search needs
 
 mul-t5 : tie.Need-mul-t5
-mul-t5 c = omega (arith, c .gb-row .ensures, gb-row-most (c .before .args .lead - 161))
+mul-t5 c = search needs
 
 sub-t4 : tie.Need-sub-t4
 sub-t4 c = search needs
@@ -26,10 +25,10 @@ cast-t6 : tie.Need-cast-t6
 cast-t6 c = search needs
 
 add-t7 : tie.Need-add-t7
-add-t7 c = omega (arith, c .gb-row .ensures, gb-row-most (c .before .args .lead - 161))
+add-t7 c = search needs
 
 returns : tie.Need-returns
-returns c = ap (λ (r : ℕ). At (94 * r + (c .before .args .trail - 161))) (c .gb-row .ensures)
+returns c = ap At (omega (arith, ap (λ (r : ℕ). 94 * r) (c .gb-row .ensures .0)))
 
 pub gb-place-spec : {M : Type 1} → statement M
 gb-place-spec =

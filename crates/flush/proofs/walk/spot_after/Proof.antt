@@ -6,20 +6,20 @@ use Rattle.flush.proofs.walk.spot_after.Tie as tie
 add-column : tie.Need-add-column
 add-column c = search needs
 
-add-t6 : tie.Need-add-t6
-add-t6 c = search needs
+add-t8 : tie.Need-add-t8
+add-t8 c = search needs
 
 returns : tie.Need-returns
 returns c = search after-row
 
-add-t7 : tie.Need-add-t7
-add-t7 c = search needs
+add-cell : tie.Need-add-cell
+add-cell c = search needs
 
-add-t8 : tie.Need-add-t8
-add-t8 c = search needs
+add-below : tie.Need-add-below
+add-below c = search needs
 
 returns-2 : tie.Need-returns-2
 returns-2 c = search after-end
 
 pub spot-after-spec : {M : Type 1} → statement M
-spot-after-spec = tie.close (tie.spec add-column add-t6 returns add-t7 add-t8 returns-2)
+spot-after-spec = tie.close (tie.spec add-column add-t8 returns add-cell add-below returns-2)
