@@ -3,7 +3,7 @@ use mathlib.Core.Path.{_≡_, refl, sym, ap, _∙_}
 use mathlib.Core.Logic.{inl, inr}
 use mathlib.Core.Bool.{Bool, true, false, cond, xor}
 use mathlib.Core.List.{List, [], _∷_, _++_}
-use Prim.Native.Nat.{ℕ, zero, suc, _+_, _-_, _*_, _≤_, _<_}
+use Prim.Native.Nat.{ℕ, zero, suc, _+_, _-_, _*_, _≤_, _<_, min}
 use native.Mathlib.Omega.{arith}
 use lib.Dec.{ltb}
 use lib.IntN.{ℤ, pos, negsuc, subℕ}
@@ -58,6 +58,18 @@ paint-write x y m s = λ i. record { x = x; y = y; op = λ v. paint-point m s v 
 
 max-sub : (n k : ℕ) → maxZero (subℕ n k) ≡ n - k
 max-sub n k = if-cases (λ (z : ℤ). maxZero z ≡ n - k) (ltb n k) (λ e. omega (arith, tests)) (λ e. refl)
+
+pub shown-before : (z n size : ℕ) → shown (negsuc z) n size ≡ record { skip = z + 1; from = 0; to = min (n - (z + 1)) size }
+unfolding shown
+shown-before z n size =
+    let a : suc z ≡ z + 1 = omega arith in
+    let b : maxZero (subℕ n (suc z)) ≡ n - (z + 1) = max-sub n (suc z) ∙ ap (λ (k : ℕ). n - k) a in
+    λ i. record { skip = a i; from = 0; to = min (b i) size }
+
+pub shown-after : (z n size : ℕ) → shown (pos z) n size ≡ record { skip = 0; from = z; to = min (z + n) size }
+unfolding shown
+shown-after zero n size = refl
+shown-after (suc z) n size = refl
 
 -- what is shown lies on the axis and among the n places
 pub shown-in : (z : ℤ) (n size : ℕ) → shown z n size .from < shown z n size .to
