@@ -26,8 +26,16 @@ fn paint_as(mode: PaintMode, bit: bool) -> DrawMode
         PaintMode::Copy => if bit { DrawMode::Or } else { DrawMode::Clear },
         PaintMode::Or => if bit { DrawMode::Or } else { DrawMode::Unknown },
         PaintMode::Not => if bit { DrawMode::Clear } else { DrawMode::Or },
-        PaintMode::And => if bit { DrawMode::Unknown } else { DrawMode::Clear },
-        PaintMode::Xor => if bit { DrawMode::Xor } else { DrawMode::Unknown },
+        PaintMode::And => if bit {
+            DrawMode::Unknown
+        } else {
+            DrawMode::Clear
+        },
+        PaintMode::Xor => if bit {
+            DrawMode::Xor
+        } else {
+            DrawMode::Unknown
+        },
     }
 }
 
@@ -81,7 +89,18 @@ fn paint_lines(
     let mut j = down.skip;
     let mut y = down.from;
     while y < to {
-        paint_line(stride, height, screen, bytes, lines, source, across, j, y, mode);
+        paint_line(
+            stride,
+            height,
+            screen,
+            bytes,
+            lines,
+            source,
+            across,
+            j,
+            y,
+            mode,
+        );
         j += 1;
         y += 1;
     }
@@ -121,22 +140,23 @@ pub fn paint_bitmap(
 {
     let across = shown(x, width as usize, 8 * stride);
     let down = shown(y, lines as usize, height);
-    if across.from < across.to {
-        if down.from < down.to {
-            let bytes = ((width as usize) + 7) / 8;
-            paint_lines(
-                stride,
-                height,
-                screen,
-                bytes,
-                lines as usize,
-                source,
-                across,
-                down,
-                mode,
-            );
-            return shown_marks(across, down);
-        }
+    if across.to <= across.from {
+        return no_marks();
     }
-    no_marks()
+    if down.to <= down.from {
+        return no_marks();
+    }
+    let bytes = ((width as usize) + 7) / 8;
+    paint_lines(
+        stride,
+        height,
+        screen,
+        bytes,
+        lines as usize,
+        source,
+        across,
+        down,
+        mode,
+    );
+    shown_marks(across, down)
 }
