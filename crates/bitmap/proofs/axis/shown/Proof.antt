@@ -2,46 +2,33 @@ use Rattle.bitmap.proofs.Signed.{before-cast, before-add, before-shown,
 use borrow.Author.Needs.{needs}
 use Rattle.bitmap.proofs.axis.shown.Statement.{statement}
 use Rattle.bitmap.proofs.axis.shown.Tie as tie
-use Rattle.bitmap.proofs.axis.shown.Reads as reads
-use Rattle.bitmap.proofs.axis.shown.Lts as lts
-use Rattle.bitmap.proofs.axis.beyond.Reads as beyond-reads
-use Rattle.bitmap.proofs.axis.least.Reads as least-reads
 
--- src/axis.rt:26:23
 cast-before : tie.Need-cast-before
 cast-before c = before-cast (c .before .args .z) (c .before .good .0) (c .if1 .taken)
 
--- src/axis.rt:26:22
 add-before : tie.Need-add-before
 add-before c = before-add (c .before .args .z) (c .before .good .0) (c .if1 .taken)
 
--- src/axis.rt:30:23
 beyond-requires : tie.Need-beyond-requires
 beyond-requires c κs = search needs
 
--- src/axis.rt:30:17
 least-requires : tie.Need-least-requires
 least-requires c κs = search needs
 
--- src/axis.rt:27:9
 returns : tie.Need-returns
 returns c =
     let a = c .before .before .before in
     before-shown (a .args .z) (a .args .n) _ (a .good .0) (c .before .before .if1 .taken) (c .before .beyond .ensures) (c .least .ensures)
 
--- src/axis.rt:33:17
 cast-first : tie.Need-cast-first
 cast-first c = after-cast (c .before .args .z) (c .before .good .0) (c .if1 .left)
 
--- src/axis.rt:37:19
 add-least : tie.Need-add-least
 add-least c = after-add (c .before .args .z) (c .before .args .n) (c .before .good .0) (c .if1 .left) (c .before .pre)
 
--- src/axis.rt:37:13
 least-requires-2 : tie.Need-least-requires-2
 least-requires-2 c κs = search needs
 
--- src/axis.rt:21:1
 returns-2 : tie.Need-returns-2
 returns-2 c =
     let a = c .before .before in

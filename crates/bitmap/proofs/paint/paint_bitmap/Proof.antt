@@ -5,52 +5,37 @@ use Rattle.bitmap.proofs.Painting.{shown-given, shown-lies, source-scre
 use borrow.Author.Needs.{needs}
 use Rattle.bitmap.proofs.paint.paint_bitmap.Statement.{statement}
 use Rattle.bitmap.proofs.paint.paint_bitmap.Tie as tie
-use Rattle.bitmap.proofs.paint.paint_bitmap.Reads as reads
-use Rattle.bitmap.proofs.paint.paint_bitmap.Lts as lts
-use Rattle.bitmap.proofs.axis.shown.Reads as shown-reads
-use Rattle.bitmap.proofs.paint.paint_lines.Reads as paint-lines-reads
-use Rattle.bitmap.proofs.paint.shown_marks.Reads as shown-marks-reads
-use Rattle.pixels.proofs.marks.no_marks.Reads as no-marks-reads
 
--- src/paint.rt:122:43
 mul-shown : tie.Need-mul-shown
 mul-shown c = search needs
 
--- src/paint.rt:122:9
 shown-requires : tie.Need-shown-requires
 shown-requires c κs = search needs
 
--- src/paint.rt:123:9
 shown-requires-2 : tie.Need-shown-requires-2
 shown-requires-2 c κs = search needs
 
--- src/paint.rt:125:9
 no-marks-requires : tie.Need-no-marks-requires
 no-marks-requires c κs = search needs
 
--- src/paint.rt:125:9
 returns : tie.Need-returns
 returns c =
     let a = c .before .before .before .before .before .before .before in
     bitmap-beside _ _ _ (a .args .x) (a .args .y) _ _ _ _ (shown-given (a .args .x) _ _ (a .fits .x) (c .before .before .before .before .shown .ensures)) (shown-given (a .args .y) _ _ (a .fits .y) (c .before .before .before .shown2 .ensures))
     (c .before .if1 .taken) (c .no-marks .ensures)
 
--- src/paint.rt:128:9
 no-marks-requires-2 : tie.Need-no-marks-requires-2
 no-marks-requires-2 c κs = search needs
 
--- src/paint.rt:128:9
 returns-2 : tie.Need-returns-2
 returns-2 c =
     let a = c .before .before .before .before .before .before .before .before .before in
     bitmap-below _ _ _ (a .args .x) (a .args .y) _ _ _ _ (shown-given (a .args .x) _ _ (a .fits .x) (c .before .before .before .before .before .before .shown .ensures)) (shown-given (a .args .y) _ _ (a .fits .y) (c .before .before .before .before .before .shown2 .ensures))
     (c .before .before .before .if1 .left) (c .before .if2 .taken) (c .no-marks2 .ensures)
 
--- src/paint.rt:130:18
 add-bytes : tie.Need-add-bytes
 add-bytes c = search needs
 
--- src/paint.rt:131:5
 paint-lines-requires : tie.Need-paint-lines-requires
 paint-lines-requires c κs =
     let a = c .before .before .before .before .before .before .before .before .before in
@@ -58,7 +43,6 @@ paint-lines-requires c κs =
     let down = shown-lies (a .args .y) (a .args .lines) (a .args .height) (shown-given (a .args .y) _ _ (a .fits .y) (c .before .before .before .before .before .shown2 .ensures)) (c .before .if2 .left) in
     (a .pre .0, (source-screen (a .args .width) (a .args .lines) (a .args .source .now) (a .pre .1) (omega arith) (omega arith) (omega arith) (omega arith), omega arith))
 
--- src/paint.rt:142:5
 shown-marks-requires : tie.Need-shown-marks-requires
 shown-marks-requires c κs =
     let a = c .before .before .before .before .before .before .before .before .before .before .before .before in
@@ -66,11 +50,9 @@ shown-marks-requires c κs =
     let down = shown-lies (a .args .y) (a .args .lines) (a .args .height) (shown-given (a .args .y) _ _ (a .fits .y) (c .before .before .before .before .before .before .before .before .shown2 .ensures)) (c .before .before .before .before .if2 .left) in
     omega (arith, a .pre .0)
 
--- src/paint.rt:107:1
 same-length : tie.Need-same-length
 same-length c = search needs
 
--- src/paint.rt:107:1
 returns-3 : tie.Need-returns-3
 returns-3 c =
     let a = c .before .before .before .before .before .before .before .before .before .before .before .before .before in

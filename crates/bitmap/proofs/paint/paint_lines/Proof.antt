@@ -8,9 +8,6 @@ use Rattle.laws.specs.Writes.{screen-draw}
 use Rattle.laws.specs.Bitmaps.{lines-turn, lines-end}
 use Rattle.bitmap.proofs.paint.paint_lines.Statement.{statement}
 use Rattle.bitmap.proofs.paint.paint_lines.Tie as tie
-use Rattle.bitmap.proofs.paint.paint_lines.Reads as reads
-use Rattle.bitmap.proofs.paint.paint_lines.Lts as lts
-use Rattle.bitmap.proofs.paint.paint_line.Reads as paint-line-reads
 
 abbrev Inv-loop : tie.InvT-loop
 Inv-loop stride height screen₀ bytes lines source across mode to j₀ y₀ screen j y =
@@ -20,40 +17,32 @@ Inv-loop stride height screen₀ bytes lines source across mode to j₀ y₀ scr
 abbrev μ-loop : tie.MeasureT-loop
 μ-loop stride height screen₀ bytes lines source across mode to j₀ y₀ screen j y = to - y
 
--- src/paint.rt:83:5
 loop-holds : tie.Need-loop-holds Inv-loop μ-loop
 loop-holds c = (c .before .before .pre .0, c .before .before .pre .1 .1 .3, refl)
 
--- src/paint.rt:84:9
 paint-line-requires : tie.Need-paint-line-requires Inv-loop μ-loop
 paint-line-requires c κs =
     let a = c .before .before .before .before .before in
     (c .before .before .loop .inv .0, (a .pre .1 .0, (a .pre .1 .1 .0, a .pre .1 .1 .1, omega arith, omega arith)))
 
--- src/paint.rt:85:9
 add-j : tie.Need-add-j Inv-loop μ-loop
 add-j c = omega arith
 
--- src/paint.rt:86:9
 add-y : tie.Need-add-y Inv-loop μ-loop
 add-y c = omega arith
 
--- src/paint.rt:83:5
 loop-less : tie.Need-loop-less Inv-loop μ-loop
 loop-less c = omega arith
 
--- src/paint.rt:83:5
 loop-again : tie.Need-loop-again Inv-loop μ-loop
 loop-again c =
     let at = c .before .before .before .before .before .loop in
     let painted = c .before .before .paint-line .ensures in
     (screen-draw _ _ _ (at .inv .0) painted, omega arith, lines-turn _ _ _ _ _ (at .j) (at .y) _ _ _ _ (omega arith) painted (at .inv .2))
 
--- src/paint.rt:64:1
 same-length : tie.Need-same-length Inv-loop μ-loop
 same-length c = omega arith
 
--- src/paint.rt:64:1
 returns : tie.Need-returns Inv-loop μ-loop
 returns c = search lines-end
 
