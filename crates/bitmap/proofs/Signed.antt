@@ -68,12 +68,6 @@ before-shown z n size {a} {b} f h p q =
     let r : b ≡ min (n - (k .0 + 1)) size = q ∙ ap (λ (x : ℕ). min x size) (p ∙ ap (λ (x : ℕ). n - (x + 1)) i) in
     (λ j. record { skip = i j + 1; from = 0; to = r j }) ∙ sym (shown-before (k .0) n size) ∙ ap (λ (x : ℤ). shown x n size) (sym (k .1))
 
-pub after-cast : (z : ℤ) → mag z < 2 ^ 31 → ltZ (read z) (pos 0) ≡ false → T (nonNeg (read z)) × Fits w64 (natAbs (read z))
-after-cast z f h =
-    let p = positive z f h in
-    let l : p .0 < 2 ^ 31 = rw (p .1) at f in
-    rw (same z f, p .1) (tt, record { fits = omega arith })
-
 pub after-add : (z : ℤ) (n : ℕ) → mag z < 2 ^ 31 → ltZ (read z) (pos 0) ≡ false → n < 256 → Fits w64 (natAbs (read z) + n)
 after-add z n f h s =
     let p = positive z f h in

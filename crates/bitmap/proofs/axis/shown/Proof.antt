@@ -1,4 +1,5 @@
-use Rattle.bitmap.proofs.Signed.{before-cast, before-add, before-shown, after-cast, after-add, after-shown}
+use Rattle.pixels.proofs.Axis.{axis-cast}
+use Rattle.bitmap.proofs.Signed.{before-cast, before-add, before-shown, after-add, after-shown}
 use borrow.Author.Needs.{needs}
 use Rattle.bitmap.proofs.axis.shown.Statement.{statement}
 use Rattle.bitmap.proofs.axis.shown.Tie as tie
@@ -21,7 +22,7 @@ returns c =
     before-shown (a .args .z) (a .args .n) _ (a .good .0) (c .before .before .if1 .taken) (c .before .beyond .ensures) (c .least .ensures)
 
 cast-first : tie.Need-cast-first
-cast-first c = after-cast (c .before .args .z) (c .before .good .0) (c .if1 .left)
+cast-first c = axis-cast (c .before .args .z) (c .before .good .0) (c .if1 .left)
 
 add-least : tie.Need-add-least
 add-least c = after-add (c .before .args .z) (c .before .args .n) (c .before .good .0) (c .if1 .left) (c .before .pre)

@@ -105,8 +105,11 @@ returns c =
     let small = source-small (a .args .width) (a .args .height) (omega arith) (omega arith) in
     let fits = source-in (a .args .address) (a .args .width) (a .args .height) (omega arith) (a .pre .1 .1) in
     let count = c .before .before .before .before .before .before .before .before .before .before .before .before .before .before .before .before .source-bytes .ensures in
-    bitmap-drew (a .args .rec .now) (a .args .memory .now) (a .args .address) (a .args .x) (a .args .y) (a .args .width) (a .args .height) (a .args .mode) (a .args .h) (c .before .before .before .before .before .before .paint-bitmap .result) (c .before .before .before .before .before .before .paint-bitmap .last .1 .1 .0)
-    (a .pre .0) (a .pre .1 .0) (c .before .before .before .before .before .before .before .before .before .paint-mode .ensures) (source-kept (a .args .address) _ (a .args .memory .now) _ _ (omega (arith, a .pre .1 .0)) (c .before .before .before .before .before .before .before .before .before .before .before .before .put-bytes .ensures) ∙ ap (λ (k : ℕ). window (a .args .address) k (a .args .memory .now)) count)
+    bitmap-drew (a .args .rec .now) (a .args .memory .now) (a .args .address) (a .args .x) (a .args .y) (a .args .width) (a .args .height) (a .args .mode) (a .args .h)
+    (c .before .before .before .before .before .before .paint-bitmap .result) (c .before .before .before .before .before .before .paint-bitmap .last .1 .1 .0)
+    (a .pre .0) (a .pre .1 .0) (c .before .before .before .before .before .before .before .before .before .paint-mode .ensures)
+    (source-kept (a .args .address) _ (a .args .memory .now) _ _ (omega (arith, a .pre .1 .0)) (c .before .before .before .before .before .before .before .before .before .before .before .before .put-bytes .ensures)
+    ∙ ap (λ (k : ℕ). window (a .args .address) k (a .args .memory .now)) count)
     (rw (toZ-ofZ {w = w32} {z = a .args .x} (a .fits .x), toZ-ofZ {w = w32} {z = a .args .y} (a .fits .y)) at (c .before .before .before .before .before .before .paint-bitmap .ensures)) (c .before .before .mark-record .ensures)
 
 pub bitmap-done-spec : {M : Type 1} → statement M

@@ -37,7 +37,9 @@ same-length-4 c = search needs
 returns-3 : tie.Need-returns-3
 returns-3 c =
     let a = c .before .before .before .before .before .before .before .before .before .before .before .before .before .before .before in
-    bitmap-ends (a .args .rec .now) (a .args .memory .now) (a .args .address) (a .args .x) (a .args .y) (a .args .width) (a .args .height) (a .args .mode) (c .before .before .before .before .before .before .before .before .before .before .before .enter .ensures) (c .before .before .before .before .before .before .before .before .before .before .if1 .left) (c .before .before .before .before .before .before .before .before .before .if2 .left) (c .before .before .before .before .before .before .before .before .source-fits .ensures) (c .before .before .before .before .before .before .before .if3 .taken)
+    bitmap-ends (a .args .rec .now) (a .args .memory .now) (a .args .address) (a .args .x) (a .args .y) (a .args .width) (a .args .height) (a .args .mode)
+    (c .before .before .before .before .before .before .before .before .before .before .before .enter .ensures) (c .before .before .before .before .before .before .before .before .before .before .if1 .left)
+    (c .before .before .before .before .before .before .before .before .before .if2 .left) (c .before .before .before .before .before .before .before .before .source-fits .ensures) (c .before .before .before .before .before .before .before .if3 .taken)
     (rw (toZ-ofZ {w = w32} {z = a .args .x} (a .fits .x), toZ-ofZ {w = w32} {z = a .args .y} (a .fits .y)) at (c .before .before .before .before .bitmap-done .ensures))
 
 same-length-5 : tie.Need-same-length-5
