@@ -17,6 +17,7 @@ pub mod Stores
 pub mod Keys
 pub mod Writes
 pub mod Points
+pub mod Solid
 pub mod Lines
 pub mod Runs
 pub mod Slopes
