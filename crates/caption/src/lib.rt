@@ -2,7 +2,6 @@
 // A contract cites the call's `outcome` (crates/model/specs/Calls.antt) on every input; `[]` stands for what the call is not lent.
 pub mod dirty;
 pub mod ellipses;
-pub mod glass;
 pub mod lines;
 pub mod open;
 pub mod points;

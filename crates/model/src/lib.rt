@@ -1,5 +1,7 @@
 // The types that code and definitions share. Every definition of document 01 stands in specs/; no function has a body here.
 
+pub mod glass;
+
 // left < right and top < bottom, right and bottom not included; the empty rectangle is four zeros.
 pub struct Rect {
     pub left: u16,
