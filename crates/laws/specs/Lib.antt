@@ -24,6 +24,7 @@ pub mod Slopes
 pub mod DrawLine
 pub mod Boxes
 pub mod Ellipses
+pub mod Bitmaps
 pub mod EllipseSteps
 pub mod EllipseMarks
 pub mod EllipseWalks

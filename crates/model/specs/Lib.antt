@@ -12,6 +12,7 @@ pub mod Points
 pub mod Lines
 pub mod Boxes
 pub mod Ellipses
+pub mod Bitmaps
 pub mod Text
 pub mod Poke
 pub mod Sends

@@ -19,6 +19,10 @@ WINDOW = 3
 abbrev pub VALUE : ℕ
 VALUE = 4
 
+-- a bitmap of nonzero size whose source runs past memory
+abbrev pub SOURCE : ℕ
+SOURCE = 5
+
 -- an ellipse radius above 127
 abbrev pub RADIUS : ℕ
 RADIUS = 6

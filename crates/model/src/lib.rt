@@ -41,6 +41,21 @@ pub enum DrawMode {
     Unknown,
 }
 
+pub enum PaintMode {
+    Copy,
+    Or,
+    Not,
+    And,
+    Xor,
+}
+
+// The places of an axis that show a run of places which may start before it: from `from` up to `to`, `to` not included. `skip` of the run lie before the axis.
+pub struct Shown {
+    pub skip: usize,
+    pub from: usize,
+    pub to: usize,
+}
+
 // Results that hold more than a code. With a refusal all numbers but the code are 0.
 #[repr(C)]
 pub struct Value {
