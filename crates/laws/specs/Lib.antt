@@ -30,4 +30,7 @@ pub mod EllipseMarks
 pub mod EllipseWalks
 pub mod EllipseDrawn
 pub mod Counts
+pub mod Codes
+pub mod Glyphs
+pub mod FlushWalk
 pub mod Calls
