@@ -1,0 +1,5 @@
+-- Picture is what a picture says, Pictures the theorem. Writes finds the pixels that a list of writes changes, Drawings takes a drawing to its picture,
+-- Bitmaps the two pictures of bitmaps, Differing counts differing pixels, Scripts runs the two scripts.
+pub mod Picture
+pub mod Writes
+pub mod Drawings
