@@ -4,6 +4,7 @@ use mathlib.Core.Bool.{true, _&&_}
 use mathlib.Core.List.{List, [], _∷_}
 use Prim.Native.Nat.{ℕ, _+_, _≤_, _<_}
 use native.Mathlib.Omega.{arith}
+use lib.Dec.{eqb}
 use lib.ListN.{length}
 use borrow.Author.Tests.{eq-eqb}
 use Rattle.model.specs.declared.Rect.{Rect}
@@ -40,13 +41,19 @@ module _ (l : Lent) (u : Unmarked l) where
   formed : WellFormed base (decode base (l .rec))
   formed = well-formed base (l .rec) passing
 
+  pub screen-fits : graphicsIn l + 1600 ≤ length (l .memory)
+  screen-fits = rw (u .memory) (screen-in base glass (decode base (l .rec)) formed)
+
+  pub lent-fits : (eqb (length (l .rec)) 170 && memoryFits l) ≡ true
+  lent-fits = λ i. eq-eqb (length (l .rec)) 170 (u .sized) i && eq-eqb (length (l .memory)) 65536 (u .memory) i
+
   -- a call is accepted where its own tests pass
   pub accepted-on : (c : Call) (ts : List Test) → refusals base c l ≡ lentTest base (l .rec) (memoryFits l) ∷ stateTest base (l .rec) ∷ ts → AllPass ts
       → refusal (refusals base c l) ≡ 0
   accepted-on c ts e a =
       ap refusal e
       ∙ pass-accepted (lentTest base (l .rec) (memoryFits l) ∷ stateTest base (l .rec) ∷ ts)
-      ((λ i. eq-eqb (length (l .rec)) 170 (u .sized) i && eq-eqb (length (l .memory)) 65536 (u .memory) i), (u .passes, a))
+      (lent-fits, (u .passes, a))
 
   pub outcome-done : (c : Call) → refusal (refusals base c l) ≡ 0 → outcome base c l ≡ done base c l
   unfolding outcome ruled
@@ -87,7 +94,7 @@ module _ (l : Lent) (u : Unmarked l) where
         let new = draw 20 (seen 20 80 (d .writes)) (screenIn l) in
         let long : length new ≡ 1600 = length-draw 20 (seen 20 80 (d .writes)) (screenIn l) ∙ screen-long base glass s (l .memory) formed (u .memory) in
         ap (λ (t : State). screenOf base (t .head .graphics) (withScreen (graphicsIn l) new (l .memory))) left-state
-        ∙ window-same (graphicsIn l) 1600 new (l .memory) long (rw (u .memory) (screen-in base glass s formed))
+        ∙ window-same (graphicsIn l) 1600 new (l .memory) long screen-fits
 
   pub drew : (c : Call) (ts : List Test) (d : Drawing) (ps : List PixelWrite) (dirty owed : Rect)
       → refusals base c l ≡ lentTest base (l .rec) (memoryFits l) ∷ stateTest base (l .rec) ∷ ts → AllPass ts → done base c l ≡ answered 0 [] (drawing base d l)

@@ -3,3 +3,5 @@
 pub mod Picture
 pub mod Writes
 pub mod Drawings
+pub mod Shapes
+pub mod Bitmaps
