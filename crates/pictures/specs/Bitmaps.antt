@@ -1,13 +1,13 @@
 -- The pictures of bitmaps: one source byte clipped at the left edge, and the last address that SOURCE lets pass.
-use mathlib.Core.Path.{_≡_, refl, sym, ap, _∙_}
+use mathlib.Core.Path.{_≡_, refl, ap, _∙_}
 use mathlib.Core.Logic.{inr}
 use mathlib.Core.Bool.{true, false}
 use mathlib.Core.List.{List, [], _∷_}
-use Prim.Native.Nat.{ℕ, suc, _+_, _≤_, _<_}
+use Prim.Native.Nat.{ℕ, _+_, _≤_, _<_}
 use native.Mathlib.Omega.{arith}
 use lib.Dec.{leb}
 use lib.IntN.{ℤ, pos, negsuc}
-use lib.ListN.{length, getD, take, drop}
+use lib.ListN.{length, getD, take}
 use lib.Seq.{drop-cons}
 use borrow.Author.Tests.{le-leb}
 use Rattle.model.specs.Geometry.{base}
@@ -38,8 +38,7 @@ unfolding refusals done sourceFits bitmap shown shownRect paintedLines paintedLi
 bitmap-clipped a h l u e =
     let source : window a 1 (l .memory) ≡ 0x81 ∷ [] = window-one (l .memory) a (omega (arith, u .memory)) ∙ ap (λ (b : ℕ). b ∷ []) e in
     drew l u (paintBitmap a (negsuc 0) (pos 0) 8 1 0) (test VALUE true ∷ test SOURCE (leb (a + 1) 65536) ∷ [])
-    (bitmap 20 80 (0x81 ∷ []) (negsuc 0) (pos 0) 8 1 (paintMode 0)) leftOf81 (rect 0 0 7 1) (rect 0 0 7 1)
-    refl (refl, (le-leb (a + 1) 65536 (omega arith), tt))
+    (bitmap 20 80 (0x81 ∷ []) (negsuc 0) (pos 0) 8 1 (paintMode 0)) _ _ _ refl (refl, (le-leb (a + 1) 65536 (omega arith), tt))
     (ap (λ (s : List ℕ). answered 0 [] (drawing base (bitmap 20 80 s (negsuc 0) (pos 0) 8 1 (paintMode 0)) l)) source)
     (inr (omega arith)) refl refl refl
 

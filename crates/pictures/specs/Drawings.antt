@@ -2,7 +2,7 @@
 use mathlib.Core.Path.{_≡_, refl, sym, ap, _∙_}
 use mathlib.Core.Bool.{true, _&&_}
 use mathlib.Core.List.{List, [], _∷_}
-use Prim.Native.Nat.{ℕ, _+_, _≤_, _<_}
+use Prim.Native.Nat.{ℕ, _+_, _≤_}
 use native.Mathlib.Omega.{arith}
 use lib.Dec.{eqb}
 use lib.ListN.{length}
@@ -24,7 +24,7 @@ use Rattle.laws.specs.Record.{Passing, decode-encode}
 use Rattle.laws.specs.States.{well-formed}
 use Rattle.order.specs.Formed.{marked-formed}
 use Rattle.order.specs.Step.{Glass, screen-in, screen-long}
-use Rattle.pictures.specs.Picture.{Unmarked, Changed, Drew, withMarks, graphicsIn, screenIn}
+use Rattle.pictures.specs.Picture.{Unmarked, Drew, withMarks, graphicsIn, screenIn}
 use Rattle.pictures.specs.Writes.{pictured, changed}
 
 pub glass : Glass base

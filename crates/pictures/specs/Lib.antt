@@ -8,3 +8,4 @@ pub mod Shapes
 pub mod Bitmaps
 pub mod Differing
 pub mod Scripts
+pub mod Pictures

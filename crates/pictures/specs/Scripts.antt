@@ -1,34 +1,33 @@
 -- The two scripts: the record is found by computing, the screen and the panel by laws of windows and pixels.
 use mathlib.Core.Path.{_≡_, refl, sym, ap, _∙_}
 use mathlib.Core.Logic.{_≢_, _⊎_, inl, inr}
-use mathlib.Core.Bool.{Bool, true, false, not, cond, _&&_}
-use mathlib.Core.List.{List, [], _∷_, _++_, map}
+use mathlib.Core.Bool.{true, false, not, _&&_}
+use mathlib.Core.List.{List, [], _∷_, _++_}
 use Prim.Native.Nat.{ℕ, zero, suc, _+_, _≤_, _<_}
 use native.Mathlib.Omega.{arith}
-use lib.Dec.{ltb, eqb}
-use lib.ListN.{length, getD, take, drop, set, replicate, getD-replicate, length-set}
+use lib.ListN.{length, take, set, getD-replicate, length-set}
 use borrow.Author.Tests.{eq-eqb, not-true}
 use Rattle.model.specs.declared.Rect.{Rect}
 use Rattle.model.specs.Geometry.{base}
 use Rattle.model.specs.Bits.{bitAt}
-use Rattle.model.specs.Pixels.{PixelWrite, place, bit, put, onScreen, writePixel, draw, seen, copyRun}
+use Rattle.model.specs.Pixels.{bit, put, onScreen, writePixel, draw, seen, copyRun}
 use Rattle.model.specs.Rects.{isEmpty, fits, join, cut, inside}
-use Rattle.model.specs.Memory.{window, withWindow, zeros, screenOf, withScreen}
+use Rattle.model.specs.Memory.{window, zeros, screenOf, withScreen}
 use Rattle.model.specs.Record.{State, decode, encode, valid, windows, bandsFit, stateFits, flagsFit, withPending}
-use Rattle.model.specs.Refusals.{LENT, STATE, VALUE, test, refusal, ruled}
-use Rattle.model.specs.Marks.{whole, updateDirty, joinOwed, owing, within, owes, marked, drawnOn}
+use Rattle.model.specs.Refusals.{ruled}
+use Rattle.model.specs.Marks.{updateDirty, joinOwed, owing, within, owes, marked, drawnOn}
 use Rattle.model.specs.Open.{isKey, withKeys, clearMemory, nothingPending, openPending, openState}
-use Rattle.model.specs.Points.{pointOp, pointRect, point, drawMode}
+use Rattle.model.specs.Points.{pointOp, pointRect, point}
 use Rattle.model.specs.Sends.{firstOwed, restOwed, takeOwed, nextLine, lineSent, sendPending, lineNumbers, sendNumbers, copyLine, sendPanel}
-use Rattle.model.specs.Calls.{Call, drawPoint, send, Lent, lent, Outcome, answered, memoryFits, panelFits, refusals, drawing, refused, done, outcome}
-use Rattle.model.specs.Lists.{owedLines, linesLeft, Differs, differing}
+use Rattle.model.specs.Calls.{Call, drawPoint, send, Lent, lent, Outcome, answered, refusals, drawing, refused, done, outcome}
+use Rattle.model.specs.Lists.{owedLines, linesLeft, differing}
 use Rattle.model.specs.Script.Read.{onFirst, lines, isDigit, goesOn, digits, atMost, number, word, orElse, mode, piece, isField, kept, andThen, matched, Line, call, choose, form, read}
-use Rattle.model.specs.Script.Run.{spelled, spaced, printed, doneWord, sentWord, endWord, said, answer, leaves, noKeys, opened, ending, runFrom, run, text}
+use Rattle.model.specs.Script.Run.{spelled, spaced, printed, endWord, said, answer, leaves, noKeys, opened, ending, runFrom, run, text}
 use Rattle.laws.specs.Tests.{by-eq, clash}
 use Rattle.laws.specs.Tables.{every-at}
-use Rattle.laws.specs.Calls.{AllPass, pass-accepted}
+use Rattle.laws.specs.Calls.{pass-accepted}
 use Rattle.laws.specs.Memory.{length-withWindow, window-same, window-set-out}
-use Rattle.laws.specs.Pixels.{length-put, put-same, put-other, length-copyRun, copyRun-same, copyRun-other}
+use Rattle.laws.specs.Pixels.{length-put, put-same, put-other, copyRun-same, copyRun-other}
 use Rattle.laws.specs.Keys.{length-withKeys}
 use Rattle.laws.specs.Loops.{length-zeros}
 use Rattle.laws.specs.Counts.{none-differ}

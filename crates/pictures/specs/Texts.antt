@@ -2,8 +2,8 @@
 use Prim.Native.Nat.{ℕ}
 use Prim.Native.Char.{code}
 use Prim.Native.String.{String, [], _∷_}
-use mathlib.Core.List.{List, [] as none, _∷_ as _then_}
+use mathlib.Core.List.{List, [] as []ᴸ, _∷_ as _∷ᴸ_}
 
 unfoldable pub bytesOf : String → List ℕ
-bytesOf [] = none
-bytesOf (c ∷ s) = code c then bytesOf s
+bytesOf [] = []ᴸ
+bytesOf (c ∷ s) = code c ∷ᴸ bytesOf s

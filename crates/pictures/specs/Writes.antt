@@ -40,11 +40,11 @@ module _ (st h : ℕ) where
   write-made w s x y n o hx =
       by-test (hits w x y)
       (λ e.
-          let p = and-true (eqb x (w .x)) (eqb y (w .y)) e in
-          let a : x ≡ w .x = eqb-true x (w .x) (p .0) in
-          let b : y ≡ w .y = eqb-true y (w .y) (p .1) in
-          let l = place-lt st h (w .x) (w .y) (o .0) (o .1) in
-          rw e (rw (a, b) (put-same st s (w .x) (w .y) (w .op (bit st s (w .x) (w .y))) (omega arith))))
+      let p = and-true (eqb x (w .x)) (eqb y (w .y)) e in
+      let a : x ≡ w .x = eqb-true x (w .x) (p .0) in
+      let b : y ≡ w .y = eqb-true y (w .y) (p .1) in
+      let l = place-lt st h (w .x) (w .y) (o .0) (o .1) in
+      rw e (rw (a, b) (put-same st s (w .x) (w .y) (w .op (bit st s (w .x) (w .y))) (omega arith))))
       (λ e. rw e (put-other st s (w .x) (w .y) (w .op (bit st s (w .x) (w .y))) x y (o .0) hx (miss w x y e)))
 
   pub draw-made : (ws : List PixelWrite) (s : List ℕ) (x y : ℕ) → length s ≡ st * h → Each On ws → x < 8 * st → bit st (draw st ws s) x y ≡ made ws x y (bit st s x y)
@@ -133,11 +133,11 @@ kept ws ps (w ∷ vs) x y v e n k =
     let p = and-true (names ps (w .x) (w .y) || alike (made ws (w .x) (w .y)) (λ u. u)) (othersKept ws ps vs) e in
     either (or-cases (hits w x y) (names vs x y) k)
     (λ q.
-        let c = and-true (eqb x (w .x)) (eqb y (w .y)) q in
-        let a : x ≡ w .x = eqb-true x (w .x) (c .0) in
-        let b : y ≡ w .y = eqb-true y (w .y) (c .1) in
-        let o : (names ps x y || alike (made ws x y) (λ u. u)) ≡ true = rw (a, b) (p .0) in
-        either (or-cases (names ps x y) (alike (made ws x y) (λ u. u)) o) (λ t. clash (names ps x y) t n) (λ t. alike-same (made ws x y) (λ u. u) t v))
+    let c = and-true (eqb x (w .x)) (eqb y (w .y)) q in
+    let a : x ≡ w .x = eqb-true x (w .x) (c .0) in
+    let b : y ≡ w .y = eqb-true y (w .y) (c .1) in
+    let o : (names ps x y || alike (made ws x y) (λ u. u)) ≡ true = rw (a, b) (p .0) in
+    either (or-cases (names ps x y) (alike (made ws x y) (λ u. u)) o) (λ t. clash (names ps x y) t n) (λ t. alike-same (made ws x y) (λ u. u) t v))
     (λ q. kept ws ps vs x y v (p .1) n q)
 
 each : (ws ps : List PixelWrite) (s : List ℕ) → length s ≡ 1600 → Each (λ w. (w .x < 160) × (w .y < 80)) ws → Each (λ w. (w .x < 160) × (w .y < 80)) ps → eachMade ws ps ≡ true
