@@ -16,6 +16,7 @@ use Rattle.model.specs.Calls.{drawPoint, drawLine, drawBox, drawCircle, paintBi
 use Rattle.model.specs.Script.Run.{text}
 use Rattle.pictures.specs.Texts.{bytesOf}
 use Rattle.pictures.specs.Picture.{rect, sets, clears, inverts, screenIn, Unmarked, Drew, Picture}
+use Rattle.pictures.specs.Start.{clearBytes, clear-unmarked}
 use Rattle.pictures.specs.Shapes.{point-off, point-unknown, line-clamped, line-sloped, box-past-bottom, box-row, circle-parts, circle-steps, circle-two, circle-one}
 use Rattle.pictures.specs.Bitmaps.{bitmap-clipped, source-refused, source-accepted}
 use Rattle.pictures.specs.Scripts.{point-send, send-point}
@@ -50,6 +51,8 @@ abbrev emojiOf : ℕ → ℕ → Found
 emojiOf version code = emojiIndex version (code / 256) (code % 256)
 
 pub record KnownPictures : Type 0 where
+  -- Each starts with dirty and owed empty: there are such lent bytes
+  pub start : Unmarked clearBytes
   -- Point (160, 0): nothing
   pub point-off : (mode : ℕ) → mode ≤ 3 → (l : Lent) → Unmarked l → outcome base (drawPoint 160 0 mode) l ≡ answered 0 [] l
   -- Point (5, 5) Unknown: only dirty and owed 5, 5, 6, 6
@@ -90,6 +93,7 @@ pub record KnownPictures : Type 0 where
 pub known-pictures : KnownPictures
 unfolding emojiIndex indexIn inRow
 known-pictures = record {
+  start = clear-unmarked;
   point-off = point-off;
   point-unknown = point-unknown;
   line-clamped = line-clamped;
