@@ -1,5 +1,5 @@
 -- The known pictures of document 01 that it stars, and both of its scripts, from the definitions of crates/model/specs. Picture.antt says what a picture is:
--- each starts with dirty and owed empty, in any record that passes STATE and over any memory.
+-- each starts with dirty and owed empty, in any record that passes STATE and over any memory. `text` of crates/model/specs/Script/Run.antt is what a script prints.
 use mathlib.Core.Path.{_≡_, refl}
 use mathlib.Core.List.{[], _∷_}
 use Prim.Native.Nat.{ℕ, _/_, _%_, _≤_, _<_}
