@@ -24,9 +24,13 @@ pub mod Slopes
 pub mod DrawLine
 pub mod Boxes
 pub mod Ellipses
+pub mod Bitmaps
 pub mod EllipseSteps
 pub mod EllipseMarks
 pub mod EllipseWalks
 pub mod EllipseDrawn
 pub mod Counts
+pub mod Codes
+pub mod Glyphs
+pub mod FlushWalk
 pub mod Calls

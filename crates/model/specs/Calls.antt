@@ -1,7 +1,7 @@
 -- The exported calls: for each its refusals in testing order, and what it answers and leaves. Every exported contract cites `outcome`.
 use mathlib.Core.Bool.{Bool, true, cond, _&&_}
 use mathlib.Core.List.{List, [], _∷_}
-use Prim.Native.Nat.{ℕ, zero, suc}
+use Prim.Native.Nat.{ℕ, zero, suc, _%_}
 use lib.Dec.{leb, ltb, eqb}
 use lib.IntN.{ℤ}
 use lib.ListN.{length}
@@ -11,17 +11,20 @@ use Rattle.model.specs.declared.Area.{Area}
 use Rattle.model.specs.declared.Sent.{Sent}
 use Rattle.model.specs.Geometry.{Geometry, height, rows, columns, screenBytes, memoryBytes}
 use Rattle.model.specs.Rects.{Rect, none}
-use Rattle.model.specs.Memory.{zeros, screenOf, withScreen}
+use Rattle.model.specs.Memory.{zeros, window, screenOf, withScreen}
 use Rattle.model.specs.Record.{State, decode, encode, valid, windows, recordBytes, withHead, withPending}
-use Rattle.model.specs.Refusals.{LENT, STATE, WINDOW, VALUE, RADIUS, ENDLESS, Test, test, refusal, ruled}
-use Rattle.model.specs.Marks.{Drawing, drawnOn, marked, withDirty}
+use Rattle.model.specs.Refusals.{LENT, STATE, WINDOW, VALUE, SOURCE, RADIUS, GLYPH, ENDLESS, Test, test, refusal, ruled}
+use Rattle.model.specs.Marks.{Drawing, whole, drawnOn, marked, withDirty}
 use Rattle.model.specs.Open.{clearMemory, openState, resetState}
 use Rattle.model.specs.Points.{drawMode, point, checkPoint}
 use Rattle.model.specs.Lines.{line}
 use Rattle.model.specs.Boxes.{box}
 use Rattle.model.specs.Ellipses.{ellipse, circle, radiiFit, stepsFit}
+use Rattle.model.specs.Bitmaps.{paintMode, sourceBytes, sourceFits, bitmap}
 use Rattle.model.specs.Text.{withRow, withColumn, withPrintMode}
 use Rattle.model.specs.Poke.{poked, pokeMark}
+use Rattle.model.specs.Glyphs.{Fonts, fontsFit}
+use Rattle.model.specs.Flush.{flushStores, flushed}
 use Rattle.model.specs.Sends.{sendPending, sendNumbers, sendPanel}
 
 -- every exported call that is lent the record, with the numbers that it is told
@@ -40,8 +43,11 @@ pub data Call : Type 0 where
   -- x, y, the two radii, fill, mode
   drawEllipse : ℕ → ℕ → ℕ → ℕ → ℕ → ℕ → Call
   checkPixel : ℤ → ℤ → Call
+  -- address, x, y, width, height, mode
+  paintBitmap : ℕ → ℤ → ℤ → ℕ → ℕ → ℕ → Call
   -- address, byte
   writeByte : ℕ → ℕ → Call
+  flush : Fonts → Call
   getRow : Call
   getColumn : Call
   setRow : ℕ → Call
@@ -93,6 +99,10 @@ memoryFits l = eqb (length (l .memory)) memoryBytes
 abbrev pub panelFits : Geometry → Lent → Bool
 panelFits g l = eqb (length (l .panel)) (screenBytes g)
 
+-- the extra list holds whole entries
+abbrev pub listFits : Fonts → Bool
+listFits f = eqb (length (f .extraList) % 6) 0
+
 -- the fill flag and the draw mode are listed
 abbrev pub fillFits : ℕ → ℕ → Bool
 fillFits fill mode = leb fill 1 && leb mode 3
@@ -118,7 +128,12 @@ refusals g (drawBox x1 y1 x2 y2 fill mode) l =
 refusals g (drawCircle x y r fill mode) l = ellipseTests g r r fill mode l
 refusals g (drawEllipse x y rx ry fill mode) l = ellipseTests g rx ry fill mode l
 refusals g (checkPixel x y) l = lentTest g (l .rec) (memoryFits l) ∷ stateTest g (l .rec) ∷ []
+refusals g (paintBitmap a x y w n mode) l =
+    lentTest g (l .rec) (memoryFits l) ∷ stateTest g (l .rec) ∷ test VALUE (leb mode 4) ∷ test SOURCE (sourceFits a w n) ∷ []
 refusals g (writeByte a v) l = lentTest g (l .rec) (memoryFits l) ∷ stateTest g (l .rec) ∷ []
+refusals g (flush f) l =
+    lentTest g (l .rec) (memoryFits l && listFits f) ∷ stateTest g (l .rec) ∷
+    test GLYPH (fontsFit (flushStores g f (decode g (l .rec)) (l .memory))) ∷ []
 refusals g getRow l = lentTest g (l .rec) true ∷ stateTest g (l .rec) ∷ []
 refusals g getColumn l = lentTest g (l .rec) true ∷ stateTest g (l .rec) ∷ []
 refusals g (setRow n) l = lentTest g (l .rec) true ∷ stateTest g (l .rec) ∷ test VALUE (ltb n (rows g)) ∷ []
@@ -137,7 +152,9 @@ numbers (drawBox x1 y1 x2 y2 fill mode) = 0
 numbers (drawCircle x y r fill mode) = 0
 numbers (drawEllipse x y rx ry fill mode) = 0
 numbers (checkPixel x y) = 1
+numbers (paintBitmap a x y w n mode) = 0
 numbers (writeByte a v) = 0
+numbers (flush f) = 0
 numbers getRow = 1
 numbers getColumn = 1
 numbers (setRow n) = 0
@@ -178,10 +195,16 @@ done g (drawCircle x y r fill mode) l = answered 0 [] (drawing g (circle (g .str
 done g (drawEllipse x y rx ry fill mode) l = answered 0 [] (drawing g (ellipse (g .stride) (height g) x y rx ry (filled fill) (drawMode mode)) l)
 done g (checkPixel x y) l =
     answered 0 (flag (checkPoint (g .stride) (height g) (screenOf g (decode g (l .rec) .head .graphics) (l .memory)) x y) ∷ []) l
+done g (paintBitmap a x y w n mode) l =
+    answered 0 [] (drawing g (bitmap (g .stride) (height g) (window a (sourceBytes w n) (l .memory)) x y w n (paintMode mode)) l)
 done g (writeByte a v) l =
     let s = decode g (l .rec) in
     let m = pokeMark g (s .keys) (s .head .graphics) a in
     answered 0 [] (lent (encode (marked g m m s)) (poked (s .keys) a v (l .memory)) (l .panel))
+done g (flush f) l =
+    let s = decode g (l .rec) in
+    let m = whole (g .stride) (height g) in
+    answered 0 [] (lent (encode (marked g m m s)) (withScreen (s .head .graphics) (flushed g f s (l .memory)) (l .memory)) (l .panel))
 done g getRow l = answered 0 (decode g (l .rec) .head .row ∷ []) l
 done g getColumn l = answered 0 (decode g (l .rec) .head .column ∷ []) l
 done g (setRow n) l = answered 0 [] (changed g (withRow n) l)

@@ -12,8 +12,12 @@ pub mod Points
 pub mod Lines
 pub mod Boxes
 pub mod Ellipses
+pub mod Bitmaps
 pub mod Text
 pub mod Poke
+pub mod Codes
+pub mod Glyphs
+pub mod Flush
 pub mod Sends
 pub mod Calls
 pub mod Lists

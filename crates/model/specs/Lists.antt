@@ -16,9 +16,11 @@ use Rattle.model.specs.Points.{drawMode, point}
 use Rattle.model.specs.Lines.{line}
 use Rattle.model.specs.Boxes.{box}
 use Rattle.model.specs.Ellipses.{ellipse, circle}
+use Rattle.model.specs.Bitmaps.{paintMode, sourceBytes, bitmap}
+use Rattle.model.specs.Memory.{window}
 use Rattle.model.specs.Poke.{pokeMark}
 use Rattle.model.specs.Sends.{sendPending}
-use Rattle.model.specs.Calls.{Call, opening, reset, drawPoint, drawLine, drawBox, drawCircle, drawEllipse, checkPixel, writeByte, getRow, getColumn, setRow, setColumn, setPrintMode, takeDirtyArea, send, Lent, Outcome, filled, refusals, outcome}
+use Rattle.model.specs.Calls.{Call, opening, reset, drawPoint, drawLine, drawBox, drawCircle, drawEllipse, checkPixel, paintBitmap, writeByte, flush, getRow, getColumn, setRow, setColumn, setPrintMode, takeDirtyArea, send, Lent, Outcome, filled, refusals, outcome}
 use lib.ListN.{length}
 
 -- ---- lists of calls
@@ -36,7 +38,9 @@ Typed (drawBox x1 y1 x2 y2 fill mode) = (x1 < 256) × (y1 < 256) × (x2 < 256) �
 Typed (drawCircle x y r fill mode) = (x < 256) × (y < 256) × (r < 256) × (fill < 256) × (mode < 256)
 Typed (drawEllipse x y rx ry fill mode) = (x < 256) × (y < 256) × (rx < 256) × (ry < 256) × (fill < 256) × (mode < 256)
 Typed (checkPixel x y) = Unit {0}
+Typed (paintBitmap a x y w n mode) = (a < 65536) × (w < 256) × (n < 256) × (mode < 256)
 Typed (writeByte a v) = (a < 65536) × (v < 256)
+Typed (flush f) = Unit {0}
 Typed getRow = Unit {0}
 Typed getColumn = Unit {0}
 Typed (setRow n) = n < 256
@@ -82,7 +86,10 @@ effect g (drawBox x1 y1 x2 y2 fill mode) l = draws g (box (g .stride) (height g)
 effect g (drawCircle x y r fill mode) l = draws g (circle (g .stride) (height g) x y r (filled fill) (drawMode mode))
 effect g (drawEllipse x y rx ry fill mode) l = draws g (ellipse (g .stride) (height g) x y rx ry (filled fill) (drawMode mode))
 effect g (checkPixel x y) l = nothing
+effect g (paintBitmap a x y w n mode) l =
+    draws g (bitmap (g .stride) (height g) (window a (sourceBytes w n) (l .memory)) x y w n (paintMode mode))
 effect g (writeByte a v) l = let s = decode g (l .rec) in marks (pokeMark g (s .keys) (s .head .graphics) a)
+effect g (flush f) l = marks (whole (g .stride) (height g))
 effect g getRow l = nothing
 effect g getColumn l = nothing
 effect g (setRow n) l = nothing

@@ -155,7 +155,7 @@ fn axis(z: i32, size: usize) -> usize
     if n < size { n } else { size }
 }
 
-fn pixel(stride: usize, height: usize, screen: &[u8], x: usize, y: usize) -> bool
+pub fn pixel(stride: usize, height: usize, screen: &[u8], x: usize, y: usize) -> bool
     requires { ⌜ Screen stride height (now screen) ⌝ }
     requires { ⌜ (x < 8 * stride) × (y < height) ⌝ }
     ensures { λ r. ⌜ r ≡ bit stride (now (screen .entry)) x y ⌝ }

@@ -141,7 +141,7 @@ fn pending_bytes(p: Pending) -> [u8; 20]
 }
 
 // `from` over the bytes of `to` that begin at a place.
-fn put_bytes(to: &mut [u8], at: usize, from: &[u8])
+pub fn put_bytes(to: &mut [u8], at: usize, from: &[u8])
     requires { ⌜ at + length (now from) ≤ length (now to) ⌝ }
     ensures { λ _. ⌜ now (to .exit) ≡ withWindow at (now (from .entry)) (now (to .entry)) ⌝ }
 {
