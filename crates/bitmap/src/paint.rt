@@ -2,9 +2,9 @@
 ghost use mathlib.Core.Path.{_≡_};
 ghost use Prim.Native.Nat.{_+_, _-_, _*_, _≤_, _<_};
 ghost use lib.ListN.{length};
-ghost use Rattle.model.specs.Pixels.{Screen, draw};
+ghost use Rattle.model.specs.Pixels.{Screen, writePixel, draw};
 ghost use Rattle.model.specs.Marks.{drawn, drawnOn};
-ghost use Rattle.model.specs.Bitmaps.{sourceBytes, paintedLine, paintedLines, bitmap};
+ghost use Rattle.model.specs.Bitmaps.{sourceBytes, paintedPixel, paintedLine, paintedLines, bitmap};
 ghost use Rattle.laws.specs.Points.{both};
 ghost use Rattle.laws.specs.Bitmaps.{paintAs, shownMark};
 use crate::axis::shown;
@@ -39,7 +39,31 @@ fn paint_as(mode: PaintMode, bit: bool) -> DrawMode
     }
 }
 
-// Line y of the screen by line j of the source, which has `lines` lines of `bytes` bytes.
+// Pixel (x, y) of the screen by pixel (i, j) of the source, which has `lines` lines of `bytes` bytes.
+fn paint_pixel(
+    stride: usize,
+    height: usize,
+    screen: &mut [u8],
+    bytes: usize,
+    lines: usize,
+    source: &[u8],
+    i: usize,
+    j: usize,
+    x: usize,
+    y: usize,
+    mode: PaintMode,
+)
+    requires { ⌜ Screen stride height (now screen) ⌝ }
+    requires { ⌜ Screen bytes lines (now source) ⌝ }
+    requires { ⌜ (i < 8 * bytes) × (j < lines) × (x < 8 * stride) × (y < height) ⌝ }
+    ensures { λ _. ⌜ now (screen .exit) ≡ writePixel stride (now (screen .entry)) (paintedPixel bytes (now (source .entry)) mode i j x y) ⌝ }
+{
+    let bit = pixel(bytes, lines, source, i, j);
+    let mask = point_mask(x);
+    plot_mask(stride, height, screen, x, y, mask, paint_as(mode, bit));
+}
+
+// Line y of the screen by line j of the source.
 fn paint_line(
     stride: usize,
     height: usize,
@@ -61,9 +85,19 @@ fn paint_line(
     let mut i = across.skip;
     let mut x = across.from;
     while x < to {
-        let bit = pixel(bytes, lines, source, i, j);
-        let mask = point_mask(x);
-        plot_mask(stride, height, screen, x, y, mask, paint_as(mode, bit));
+        paint_pixel(
+            stride,
+            height,
+            screen,
+            bytes,
+            lines,
+            source,
+            i,
+            j,
+            x,
+            y,
+            mode,
+        );
         i += 1;
         x += 1;
     }

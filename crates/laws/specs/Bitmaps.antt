@@ -19,7 +19,7 @@ use Rattle.model.specs.Pixels.{PixelWrite, bit, writePixel, draw, seen}
 use Rattle.model.specs.Rects.{none, fits}
 use Rattle.model.specs.Marks.{within, owes, drawn, drawnOn}
 use Rattle.model.specs.Points.{pointOp, pointWrite}
-use Rattle.model.specs.Bitmaps.{paintOp, sourceStride, maxZero, shown, shownRect, paintedLine, paintedLines, bitmap}
+use Rattle.model.specs.Bitmaps.{paintOp, sourceStride, maxZero, shown, shownRect, paintedPixel, paintedLine, paintedLines, bitmap}
 use Rattle.laws.specs.Tests.{tests, if-cases, by-lt}
 use Rattle.laws.specs.Rects.{fits-passes}
 use Rattle.laws.specs.Writes.{draw-append, seen-append, within-append, within-none, within-more, owes-mark, drawn-is}
@@ -53,6 +53,11 @@ paint-point Xor false false = refl
 
 paint-write : (x y : ℕ) (m : PaintMode) (s : Bool) → _≡_ {A = PixelWrite} (pointWrite x y (paintAs m s)) (record { x = x; y = y; op = paintOp m s })
 paint-write x y m s = λ i. record { x = x; y = y; op = λ v. paint-point m s v i }
+
+pub painted-pixel : (st k : ℕ) (source : List ℕ) (m : PaintMode) (i j x y : ℕ) (s e : List ℕ) {b : Bool} {d : DrawMode} → b ≡ bit k source i j → d ≡ paintAs m b
+    → e ≡ writePixel st s (pointWrite x y d) → e ≡ writePixel st s (paintedPixel k source m i j x y)
+painted-pixel st k source m i j x y s e p q w =
+    w ∙ ap (λ (z : DrawMode). writePixel st s (pointWrite x y z)) (q ∙ ap (paintAs m) p) ∙ ap (writePixel st s) (paint-write x y m (bit k source i j))
 
 -- ---- clipping
 
@@ -92,20 +97,17 @@ module _ (k : ℕ) (source : List ℕ) (m : PaintMode) where
   line-seen st h i j x y zero a b = refl
   line-seen st h i j x y (suc n) a b =
       rw (on-is st h x y (omega arith) b)
-      (ap (λ (l : List PixelWrite). record { x = x; y = y; op = paintOp m (bit k source i j) } ∷ l) (line-seen st h (suc i) j (suc x) y n (omega arith) b))
+      (ap (λ (l : List PixelWrite). paintedPixel k source m i j x y ∷ l) (line-seen st h (suc i) j (suc x) y n (omega arith) b))
 
   -- what is left of a line, painted on what stands, gives the whole
-  pub line-turn : (st i j x y to : ℕ) (s e t : List ℕ) {b : Bool} {d : DrawMode} → x < to → b ≡ bit k source i j → d ≡ paintAs m b
-      → e ≡ writePixel st s (pointWrite x y d) → draw st (paintedLine k source m i j x y (to - x)) s ≡ t
-      → draw st (paintedLine k source m (i + 1) j (x + 1) y (to - (x + 1))) e ≡ t
+  pub line-turn : (st i j x y to : ℕ) (s e t : List ℕ) → x < to → e ≡ writePixel st s (paintedPixel k source m i j x y)
+      → draw st (paintedLine k source m i j x y (to - x)) s ≡ t → draw st (paintedLine k source m (i + 1) j (x + 1) y (to - (x + 1))) e ≡ t
   unfolding paintedLine draw
-  line-turn st i j x y to s e t {b} {d} h p q w g =
+  line-turn st i j x y to s e t h w g =
       let n : to - x ≡ suc (to - (x + 1)) = omega arith in
       let a : i + 1 ≡ suc i = omega arith in
       let c : x + 1 ≡ suc x = omega arith in
-      let v : e ≡ writePixel st s (record { x = x; y = y; op = paintOp m (bit k source i j) }) =
-      w ∙ ap (λ (z : DrawMode). writePixel st s (pointWrite x y z)) (q ∙ ap (paintAs m) p) ∙ ap (writePixel st s) (paint-write x y m (bit k source i j)) in
-      (λ z. draw st (paintedLine k source m (a z) j (c z) y (to - (x + 1))) (v z))
+      (λ z. draw st (paintedLine k source m (a z) j (c z) y (to - (x + 1))) (w z))
       ∙ sym (ap (λ (l : ℕ). draw st (paintedLine k source m i j x y l) s) n) ∙ g
 
   pub line-end : (st i j x y to : ℕ) (s t : List ℕ) → to ≤ x → draw st (paintedLine k source m i j x y (to - x)) s ≡ t → s ≡ t

@@ -59,10 +59,14 @@ shownRect across down =
 
 -- ---- the pixels: line by line, left to right
 
--- n pixels of line y from x on, by source pixels of line j from i on. k is the source's stride
+-- pixel (x, y), by source pixel (i, j). k is the source's stride
+abbrev pub paintedPixel : ℕ → List ℕ → PaintMode → ℕ → ℕ → ℕ → ℕ → PixelWrite
+paintedPixel k source m i j x y = record { x = x; y = y; op = paintOp m (bit k source i j) }
+
+-- n pixels of line y from x on, by source pixels of line j from i on
 unfoldable pub paintedLine : ℕ → List ℕ → PaintMode → ℕ → ℕ → ℕ → ℕ → ℕ → List PixelWrite
 paintedLine k source m i j x y zero = []
-paintedLine k source m i j x y (suc n) = record { x = x; y = y; op = paintOp m (bit k source i j) } ∷ paintedLine k source m (suc i) j (suc x) y n
+paintedLine k source m i j x y (suc n) = paintedPixel k source m i j x y ∷ paintedLine k source m (suc i) j (suc x) y n
 
 -- n lines from y on, by source lines from j on
 unfoldable pub paintedLines : ℕ → List ℕ → PaintMode → Shown → ℕ → ℕ → ℕ → List PixelWrite

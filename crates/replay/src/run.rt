@@ -2,6 +2,7 @@
 use crate::answer;
 use crate::answer::Answer;
 use crate::call;
+use caption::bitmaps;
 use caption::dirty;
 use caption::ellipses;
 use caption::lines;
@@ -64,6 +65,19 @@ fn run_check_point(rec: &[u8], memory: &[u8], stored: &[u8; 16]) -> Value {
     )
 }
 
+fn run_paint_bitmap(rec: &mut [u8], memory: &mut [u8], stored: &[u8; 16]) -> u32 {
+    bitmaps::caption_paint_bitmap(
+        rec,
+        memory,
+        call::two(stored, 1),
+        call::signed(stored, 3),
+        call::signed(stored, 7),
+        stored[11],
+        stored[12],
+        stored[13],
+    )
+}
+
 fn run_set(rec: &mut [u8], stored: &[u8; 16]) -> u32 {
     let number = stored[1];
     match stored[0] {
@@ -84,6 +98,7 @@ pub fn run(rec: &mut [u8], memory: &mut [u8], stored: &[u8; 16]) -> Answer {
         call::RESET => answer::of_code(open::caption_reset(rec, memory)),
         call::DRAW_POINT..=call::DRAW_ELLIPSE => answer::of_code(run_draw(rec, memory, stored)),
         call::CHECK_POINT => answer::of_value(run_check_point(rec, memory, stored)),
+        call::PAINT_BITMAP => answer::of_code(run_paint_bitmap(rec, memory, stored)),
         call::GET_ROW => answer::of_value(text::caption_get_row(rec)),
         call::GET_COLUMN => answer::of_value(text::caption_get_column(rec)),
         call::SET_ROW..=call::SET_PRINT_MODE => answer::of_code(run_set(rec, stored)),

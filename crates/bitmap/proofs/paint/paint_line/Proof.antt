@@ -20,17 +20,10 @@ abbrev μ-loop : tie.MeasureT-loop
 loop-holds : tie.Need-loop-holds Inv-loop μ-loop
 loop-holds c = (c .before .before .pre .0, c .before .before .pre .1 .1 .1, refl)
 
-pixel-requires : tie.Need-pixel-requires Inv-loop μ-loop
-pixel-requires c κs = (c .before .before .before .before .pre .1 .0, omega arith)
-
-point-mask-requires : tie.Need-point-mask-requires Inv-loop μ-loop
-point-mask-requires c κs = tt
-
-paint-as-requires : tie.Need-paint-as-requires Inv-loop μ-loop
-paint-as-requires c κs = tt
-
-plot-mask-requires : tie.Need-plot-mask-requires Inv-loop μ-loop
-plot-mask-requires c κs = (c .before .before .before .before .before .loop .inv .0, (omega arith, c .before .before .point-mask .ensures))
+paint-pixel-requires : tie.Need-paint-pixel-requires Inv-loop μ-loop
+paint-pixel-requires c κs =
+    let a = c .before .before .before .before .before in
+    (c .before .before .loop .inv .0, (a .pre .1 .0, omega arith))
 
 add-i : tie.Need-add-i Inv-loop μ-loop
 add-i c = omega arith
@@ -43,13 +36,9 @@ loop-less c = omega arith
 
 loop-again : tie.Need-loop-again Inv-loop μ-loop
 loop-again c =
-    let at = c .before .before .before .before .before .before .before .before .loop in
-    let written = c .before .before .plot-mask .ensures in (
-      screen-write _ _ _ (at .inv .0) written,
-      omega arith,
-      line-turn _ _ _ _ (at .i) _ (at .x) _ _ _ _ _ (omega arith) (c .before .before .before .before .before .before .pixel .ensures)
-          (c .before .before .before .paint-as .ensures) written (at .inv .2),
-    )
+    let at = c .before .before .before .before .before .loop in
+    let written = c .before .before .paint-pixel .ensures in
+    (screen-write _ _ _ (at .inv .0) written, omega arith, line-turn _ _ _ _ (at .i) _ (at .x) _ _ _ _ _ (omega arith) written (at .inv .2))
 
 same-length : tie.Need-same-length Inv-loop μ-loop
 same-length c = omega arith
@@ -64,10 +53,7 @@ paint-line-spec =
     Inv-loop
     μ-loop
     loop-holds
-    pixel-requires
-    point-mask-requires
-    paint-as-requires
-    plot-mask-requires
+    paint-pixel-requires
     add-i
     add-x
     loop-less
