@@ -1,10 +1,10 @@
 // `caption_paint_bitmap`.
-use crate::glass::HEIGHT;
-use crate::glass::MEMORY_BYTES;
-use crate::glass::SCREEN_BYTES;
-use crate::glass::STRIDE;
 use model::Head;
 use model::PaintMode;
+use model::glass::HEIGHT;
+use model::glass::MEMORY_BYTES;
+use model::glass::SCREEN_BYTES;
+use model::glass::STRIDE;
 use record::entry;
 use record::layout;
 use record::update;

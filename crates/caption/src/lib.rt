@@ -3,7 +3,6 @@
 pub mod bitmaps;
 pub mod dirty;
 pub mod ellipses;
-pub mod glass;
 pub mod lines;
 pub mod open;
 pub mod points;

@@ -1,6 +1,7 @@
 // Row, column and print mode.
 use model::Head;
 use model::Value;
+use model::glass;
 use record::entry;
 use record::update;
 ghost use mathlib.Core.Path.{_≡_};
@@ -62,7 +63,7 @@ pub extern "C" fn caption_set_row(rec: &mut [u8], row: u8) -> u32
     if code != 0 {
         return code;
     }
-    if row > 4 {
+    if row >= glass::ROWS {
         return 4;
     }
     update::set_head(rec, e.head, with_row(e.head, row));
@@ -86,7 +87,7 @@ pub extern "C" fn caption_set_column(rec: &mut [u8], column: u8) -> u32
     if code != 0 {
         return code;
     }
-    if column > 19 {
+    if column >= glass::COLUMNS {
         return 4;
     }
     update::set_head(rec, e.head, with_column(e.head, column));

@@ -17,6 +17,7 @@ pub mod Stores
 pub mod Keys
 pub mod Writes
 pub mod Points
+pub mod Solid
 pub mod Lines
 pub mod Runs
 pub mod Slopes
@@ -29,4 +30,7 @@ pub mod EllipseMarks
 pub mod EllipseWalks
 pub mod EllipseDrawn
 pub mod Counts
+pub mod Codes
+pub mod Glyphs
+pub mod FlushWalk
 pub mod Calls

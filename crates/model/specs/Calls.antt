@@ -1,7 +1,7 @@
 -- The exported calls: for each its refusals in testing order, and what it answers and leaves. Every exported contract cites `outcome`.
 use mathlib.Core.Bool.{Bool, true, cond, _&&_}
 use mathlib.Core.List.{List, [], _∷_}
-use Prim.Native.Nat.{ℕ, zero, suc}
+use Prim.Native.Nat.{ℕ, zero, suc, _%_}
 use lib.Dec.{leb, ltb, eqb}
 use lib.IntN.{ℤ}
 use lib.ListN.{length}
@@ -13,8 +13,8 @@ use Rattle.model.specs.Geometry.{Geometry, height, rows, columns, screen
 use Rattle.model.specs.Rects.{Rect, none}
 use Rattle.model.specs.Memory.{zeros, window, screenOf, withScreen}
 use Rattle.model.specs.Record.{State, decode, encode, valid, windows, recordBytes, withHead, withPending}
-use Rattle.model.specs.Refusals.{LENT, STATE, WINDOW, VALUE, SOURCE, RADIUS, ENDLESS, Test, test, refusal, ruled}
-use Rattle.model.specs.Marks.{Drawing, drawnOn, marked, withDirty}
+use Rattle.model.specs.Refusals.{LENT, STATE, WINDOW, VALUE, SOURCE, RADIUS, GLYPH, ENDLESS, Test, test, refusal, ruled}
+use Rattle.model.specs.Marks.{Drawing, whole, drawnOn, marked, withDirty}
 use Rattle.model.specs.Open.{clearMemory, openState, resetState}
 use Rattle.model.specs.Points.{drawMode, point, checkPoint}
 use Rattle.model.specs.Lines.{line}
@@ -23,6 +23,8 @@ use Rattle.model.specs.Ellipses.{ellipse, circle, radiiFit, stepsFit}
 use Rattle.model.specs.Bitmaps.{paintMode, sourceBytes, sourceFits, bitmap}
 use Rattle.model.specs.Text.{withRow, withColumn, withPrintMode}
 use Rattle.model.specs.Poke.{poked, pokeMark}
+use Rattle.model.specs.Glyphs.{Fonts, fontsFit}
+use Rattle.model.specs.Flush.{flushStores, flushed}
 use Rattle.model.specs.Sends.{sendPending, sendNumbers, sendPanel}
 
 -- every exported call that is lent the record, with the numbers that it is told
@@ -45,6 +47,7 @@ pub data Call : Type 0 where
   paintBitmap : ℕ → ℤ → ℤ → ℕ → ℕ → ℕ → Call
   -- address, byte
   writeByte : ℕ → ℕ → Call
+  flush : Fonts → Call
   getRow : Call
   getColumn : Call
   setRow : ℕ → Call
@@ -96,6 +99,10 @@ memoryFits l = eqb (length (l .memory)) memoryBytes
 abbrev pub panelFits : Geometry → Lent → Bool
 panelFits g l = eqb (length (l .panel)) (screenBytes g)
 
+-- the extra list holds whole entries
+abbrev pub listFits : Fonts → Bool
+listFits f = eqb (length (f .extraList) % 6) 0
+
 -- the fill flag and the draw mode are listed
 abbrev pub fillFits : ℕ → ℕ → Bool
 fillFits fill mode = leb fill 1 && leb mode 3
@@ -124,6 +131,9 @@ refusals g (checkPixel x y) l = lentTest g (l .rec) (memoryFits l) ∷ stateTest
 refusals g (paintBitmap a x y w n mode) l =
     lentTest g (l .rec) (memoryFits l) ∷ stateTest g (l .rec) ∷ test VALUE (leb mode 4) ∷ test SOURCE (sourceFits a w n) ∷ []
 refusals g (writeByte a v) l = lentTest g (l .rec) (memoryFits l) ∷ stateTest g (l .rec) ∷ []
+refusals g (flush f) l =
+    lentTest g (l .rec) (memoryFits l && listFits f) ∷ stateTest g (l .rec) ∷
+    test GLYPH (fontsFit (flushStores g f (decode g (l .rec)) (l .memory))) ∷ []
 refusals g getRow l = lentTest g (l .rec) true ∷ stateTest g (l .rec) ∷ []
 refusals g getColumn l = lentTest g (l .rec) true ∷ stateTest g (l .rec) ∷ []
 refusals g (setRow n) l = lentTest g (l .rec) true ∷ stateTest g (l .rec) ∷ test VALUE (ltb n (rows g)) ∷ []
@@ -144,6 +154,7 @@ numbers (drawEllipse x y rx ry fill mode) = 0
 numbers (checkPixel x y) = 1
 numbers (paintBitmap a x y w n mode) = 0
 numbers (writeByte a v) = 0
+numbers (flush f) = 0
 numbers getRow = 1
 numbers getColumn = 1
 numbers (setRow n) = 0
@@ -190,6 +201,10 @@ done g (writeByte a v) l =
     let s = decode g (l .rec) in
     let m = pokeMark g (s .keys) (s .head .graphics) a in
     answered 0 [] (lent (encode (marked g m m s)) (poked (s .keys) a v (l .memory)) (l .panel))
+done g (flush f) l =
+    let s = decode g (l .rec) in
+    let m = whole (g .stride) (height g) in
+    answered 0 [] (lent (encode (marked g m m s)) (withScreen (s .head .graphics) (flushed g f s (l .memory)) (l .memory)) (l .panel))
 done g getRow l = answered 0 (decode g (l .rec) .head .row ∷ []) l
 done g getColumn l = answered 0 (decode g (l .rec) .head .column ∷ []) l
 done g (setRow n) l = answered 0 [] (changed g (withRow n) l)

@@ -15,6 +15,9 @@ pub mod Ellipses
 pub mod Bitmaps
 pub mod Text
 pub mod Poke
+pub mod Codes
+pub mod Glyphs
+pub mod Flush
 pub mod Sends
 pub mod Calls
 pub mod Lists

@@ -20,7 +20,7 @@ use Rattle.model.specs.Bitmaps.{paintMode, sourceBytes, bitmap}
 use Rattle.model.specs.Memory.{window}
 use Rattle.model.specs.Poke.{pokeMark}
 use Rattle.model.specs.Sends.{sendPending}
-use Rattle.model.specs.Calls.{Call, opening, reset, drawPoint, drawLine, drawBox, drawCircle, drawEllipse, checkPixel, paintBitmap, writeByte, getRow, getColumn, setRow, setColumn, setPrintMode, takeDirtyArea, send, Lent, Outcome, filled, refusals, outcome}
+use Rattle.model.specs.Calls.{Call, opening, reset, drawPoint, drawLine, drawBox, drawCircle, drawEllipse, checkPixel, paintBitmap, writeByte, flush, getRow, getColumn, setRow, setColumn, setPrintMode, takeDirtyArea, send, Lent, Outcome, filled, refusals, outcome}
 use lib.ListN.{length}
 
 -- ---- lists of calls
@@ -40,6 +40,7 @@ Typed (drawEllipse x y rx ry fill mode) = (x < 256) × (y < 256) × (rx < 256) �
 Typed (checkPixel x y) = Unit {0}
 Typed (paintBitmap a x y w n mode) = (a < 65536) × (w < 256) × (n < 256) × (mode < 256)
 Typed (writeByte a v) = (a < 65536) × (v < 256)
+Typed (flush f) = Unit {0}
 Typed getRow = Unit {0}
 Typed getColumn = Unit {0}
 Typed (setRow n) = n < 256
@@ -88,6 +89,7 @@ effect g (checkPixel x y) l = nothing
 effect g (paintBitmap a x y w n mode) l =
     draws g (bitmap (g .stride) (height g) (window a (sourceBytes w n) (l .memory)) x y w n (paintMode mode))
 effect g (writeByte a v) l = let s = decode g (l .rec) in marks (pokeMark g (s .keys) (s .head .graphics) a)
+effect g (flush f) l = marks (whole (g .stride) (height g))
 effect g getRow l = nothing
 effect g getColumn l = nothing
 effect g (setRow n) l = nothing

@@ -1,5 +1,7 @@
 // The types that code and definitions share. Every definition of document 01 stands in specs/; no function has a body here.
 
+pub mod glass;
+
 // left < right and top < bottom, right and bottom not included; the empty rectangle is four zeros.
 pub struct Rect {
     pub left: u16,
@@ -54,6 +56,35 @@ pub struct Shown {
     pub skip: usize,
     pub from: usize,
     pub to: usize,
+}
+
+// An index or an offset, where there is one.
+pub enum Found {
+    At(usize),
+    Nothing,
+}
+
+// Where a pair's glyph stands: its index in the emoji or the GB font, its offset in the extra font, or nowhere, so that it shows in hexadecimal.
+pub enum Glyph {
+    Emoji(usize),
+    Gb(usize),
+    Extra(usize),
+    Hexadecimal,
+}
+
+// Where a flush stands: the cell that is read, and the row and column where it is shown.
+pub struct Spot {
+    pub cell: usize,
+    pub row: usize,
+    pub column: usize,
+}
+
+// What is shown of a cell: nothing, one byte, a pair with the cell after it, or one byte in hexadecimal.
+pub enum Form {
+    Blank,
+    Single,
+    Pair,
+    Code,
 }
 
 // Results that hold more than a code. With a refusal all numbers but the code are 0.

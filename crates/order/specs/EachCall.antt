@@ -17,7 +17,7 @@ use Rattle.model.specs.declared.DrawMode.{DrawMode}
 use Rattle.model.specs.Bitmaps.{paintMode, sourceBytes, bitmap}
 use Rattle.model.specs.Memory.{window}
 use Rattle.model.specs.Text.{withRow, withColumn, withPrintMode}
-use Rattle.model.specs.Calls.{Call, opening, reset, drawPoint, drawLine, drawBox, drawCircle, drawEllipse, checkPixel, paintBitmap, writeByte, getRow, getColumn, setRow, setColumn, setPrintMode, takeDirtyArea, send, Lent, answered, filled, refusals, refused, done, outcome}
+use Rattle.model.specs.Calls.{Call, opening, reset, drawPoint, drawLine, drawBox, drawCircle, drawEllipse, checkPixel, paintBitmap, writeByte, flush, getRow, getColumn, setRow, setColumn, setPrintMode, takeDirtyArea, send, Lent, answered, filled, refusals, refused, done, outcome}
 use Rattle.model.specs.Lists.{accepted, Typed, Item, here, elsewhere, after, opens, effect, effectAt, itemEffect}
 use Rattle.laws.specs.Rects.{Fits, passes-fits}
 use Rattle.laws.specs.DrawLine.{line-fits}
@@ -30,6 +30,7 @@ use Rattle.order.specs.Step.{Glass, Good, Step, view, same-step}
 use Rattle.order.specs.Opens.{open-step, reset-step}
 use Rattle.order.specs.Draws.{drawing-step, point-fits}
 use Rattle.order.specs.Pokes.{poke-step}
+use Rattle.order.specs.Flushes.{flush-step}
 use Rattle.order.specs.Heads.{changed-step, row-fits, column-fits, print-fits, clean-fits}
 use Rattle.order.specs.Sent.{send-step}
 
@@ -71,6 +72,7 @@ module _ (g : Geometry) (k : Glass g) where
       drawing-step g k (bitmap (g .stride) (height g) source x y w n (paintMode mode)) l q
       (passes-fits 256 0 256 _ (bitmap-fits (g .stride) (height g) source x y w n (paintMode mode) (omega (arith, k .small)) (omega (arith, k .small))))
   call-step (writeByte b v) l t q a = poke-step g k b v l q
+  call-step (flush f) l t q a = flush-step g k f l q
   call-step getRow l t q a = same-step g l q
   call-step getColumn l t q a = same-step g l q
   call-step (setRow n) l t q a =

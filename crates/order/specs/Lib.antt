@@ -9,6 +9,7 @@ pub mod Step
 pub mod Opens
 pub mod Draws
 pub mod Pokes
+pub mod Flushes
 pub mod Heads
 pub mod Sent
 pub mod EachCall

@@ -5,7 +5,7 @@ use Prim.Native.Nat.{ℕ, zero, suc}
 use Rattle.model.specs.Geometry.{Geometry}
 use Rattle.model.specs.Memory.{zeros}
 use Rattle.model.specs.Refusals.{refusal, ruled}
-use Rattle.model.specs.Calls.{Call, opening, reset, drawPoint, drawLine, drawBox, drawCircle, drawEllipse, checkPixel, paintBitmap, writeByte, getRow, getColumn, setRow, setColumn, setPrintMode, takeDirtyArea, send, Lent, lent, Outcome, answered, refusals, numbers, refused, drawing, changed, done, outcome}
+use Rattle.model.specs.Calls.{Call, opening, reset, drawPoint, drawLine, drawBox, drawCircle, drawEllipse, checkPixel, paintBitmap, writeByte, flush, getRow, getColumn, setRow, setColumn, setPrintMode, takeDirtyArea, send, Lent, lent, Outcome, answered, refusals, numbers, refused, drawing, changed, done, outcome}
 
 -- the record alone; record and memory; all three
 pub data Parts : Type 0 where
@@ -24,6 +24,7 @@ takes (drawEllipse x y rx ry fill mode) = with-memory
 takes (checkPixel x y) = with-memory
 takes (paintBitmap a x y w n mode) = with-memory
 takes (writeByte a v) = with-memory
+takes (flush f) = with-memory
 takes getRow = record-only
 takes getColumn = record-only
 takes (setRow n) = record-only
@@ -61,6 +62,7 @@ module _ (g : Geometry) where
   each (checkPixel x y) l = (refl, refl)
   each (paintBitmap a x y w n mode) l = (refl, refl)
   each (writeByte a v) l = (refl, refl)
+  each (flush f) l = (refl, refl)
   each getRow l = (refl, refl)
   each getColumn l = (refl, refl)
   each (setRow n) l = (refl, refl)

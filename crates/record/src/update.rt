@@ -6,6 +6,7 @@ use model::Head;
 use model::Marks;
 use model::Pending;
 use model::Rect;
+use model::glass;
 ghost use mathlib.Core.Path.{_≡_};
 ghost use lib.ListN.{length};
 ghost use Rattle.model.specs.Geometry.{base, cells};
@@ -56,8 +57,8 @@ pub fn whole_screen() -> Rect
     Rect {
         left: 0,
         top: 0,
-        right: 160,
-        bottom: 80,
+        right: glass::RIGHT,
+        bottom: glass::BOTTOM,
     }
 }
 

@@ -1,7 +1,7 @@
 use Rattle.laws.specs.Runs.{masked}
 use borrow.Author.Needs.{needs}
-use Rattle.pixels.proofs.run.draw_mask.Statement.{statement}
-use Rattle.pixels.proofs.run.draw_mask.Tie as tie
+use Rattle.pixels.proofs.raster.draw_mask.Statement.{statement}
+use Rattle.pixels.proofs.raster.draw_mask.Tie as tie
 
 slice-read-mask-byte : tie.Need-slice-read-mask-byte
 slice-read-mask-byte c = search needs

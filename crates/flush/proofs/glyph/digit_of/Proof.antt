@@ -1,0 +1,26 @@
+use native.Mathlib.Omega.{arith}
+use Rattle.flush.proofs.Painting.{digit-low, digit-high}
+use borrow.Author.Needs.{needs}
+use Rattle.flush.proofs.glyph.digit_of.Statement.{statement}
+use Rattle.flush.proofs.glyph.digit_of.Tie as tie
+use Rattle.flush.proofs.glyph.digit_of.Reads as reads
+use Rattle.flush.proofs.glyph.digit_of.Lts as lts
+
+-- src/glyph.rt:130:9
+add-result : tie.Need-add-result
+add-result c = search needs
+
+-- src/glyph.rt:132:9
+add-result-2 : tie.Need-add-result-2
+add-result-2 c = search needs
+
+-- src/glyph.rt:125:1
+returns : tie.Need-returns
+returns c = (digit-low _ (c .if1 .taken), omega arith)
+
+-- src/glyph.rt:125:1
+returns-2 : tie.Need-returns-2
+returns-2 c = (digit-high _ (c .if1 .left), omega arith)
+
+pub digit-of-spec : {M : Type 1} → statement M
+digit-of-spec = tie.close (tie.spec add-result add-result-2 returns returns-2)

@@ -1,0 +1,132 @@
+-- Glyphs: lists of byte stores one after another, and glyphs of any height, line by line.
+use mathlib.Core.Path.{_≡_, refl, sym, ap, _∙_}
+use mathlib.Core.Bool.{Bool, true, false, _&&_, and-assoc}
+use mathlib.Core.List.{List, [], _∷_, _++_}
+use Prim.Native.Nat.{ℕ, zero, suc, _+_, _-_, _*_, _≤_, _<_}
+use native.Mathlib.Nat.{mul-suc}
+use native.Mathlib.Numerals.{add-one}
+use native.Mathlib.Omega.{arith}
+use borrow.Author.Tests.{lt-ltb, le-ltb, le-leb, lt-leb}
+use lib.Dec.{ltb, leb}
+use lib.ListN.{length, getD, set, take, drop, length-set}
+use lib.Seq.{getD-take, getD-drop, drop-cons}
+use Rattle.model.specs.Glyphs.{Store, flipped, value, paint, fontsFit, column, lines}
+use Rattle.laws.specs.Tests.{by-lt}
+
+-- ---- stores
+
+pub length-paint : (ws : List Store) (s : List ℕ) → length (paint ws s) ≡ length s
+unfolding paint
+length-paint [] s = refl
+length-paint (w ∷ ws) s = length-paint ws (set s (w .place) (value w)) ∙ length-set s (w .place) (value w)
+
+pub paint-append : (a b : List Store) (s : List ℕ) → paint (a ++ b) s ≡ paint b (paint a s)
+unfolding paint
+paint-append [] b s = refl
+paint-append (w ∷ a) b s = paint-append a b (set s (w .place) (value w))
+
+pub fits-append : (a b : List Store) → fontsFit (a ++ b) ≡ (fontsFit a && fontsFit b)
+unfolding fontsFit
+fits-append [] b = refl
+fits-append (w ∷ a) b =
+    ap (λ (t : Bool). ltb (w .index) (length (w .font)) && t) (fits-append a b)
+    ∙ sym (and-assoc (ltb (w .index) (length (w .font))) (fontsFit a) (fontsFit b))
+
+-- ---- places: a glyph whose last line lies on a screen of n bytes
+
+pub room-here : (st place i e n : ℕ) → i < e → place + st * (e - i) < n + st → place < n
+room-here st place i e n l h =
+    let q : e - i ≡ suc (e - (i + 1)) = omega arith in
+    omega (arith, mul-suc st (e - (i + 1)), ap (λ (k : ℕ). st * k) q)
+
+pub room-next : (st place i e n : ℕ) → i < e → place + st * (e - i) < n + st → (place + st) + st * (e - (i + 1)) < n + st
+room-next st place i e n l h =
+    let q : e - i ≡ suc (e - (i + 1)) = omega arith in
+    omega (arith, mul-suc st (e - (i + 1)), ap (λ (k : ℕ). st * k) q)
+
+-- ---- of one byte a line: bytes i up to e of a font
+
+module _ (st : ℕ) (font : List ℕ) (inverse : Bool) where
+  pub column-turn : (place i e : ℕ) (s : List ℕ) → i < e
+      → paint (column st font place i inverse (e - i)) s ≡ paint (column st font (place + st) (i + 1) inverse (e - (i + 1))) (set s place (flipped inverse (getD font i 0)))
+  unfolding column paint
+  column-turn place i e s l =
+      let q : e - i ≡ suc (e - (i + 1)) = omega arith in
+      ap (λ (h : ℕ). paint (column st font place i inverse h) s) q
+
+  pub column-end : (place i e : ℕ) (s : List ℕ) → e ≤ i → paint (column st font place i inverse (e - i)) s ≡ s
+  unfolding column paint
+  column-end place i e s l = let q : e - i ≡ 0 = omega arith in ap (λ (h : ℕ). paint (column st font place i inverse h) s) q
+
+  -- they lie in the font where the last one does
+  pub column-fits : (place i h : ℕ) → fontsFit (column st font place i inverse (suc h)) ≡ leb (i + suc h) (length font)
+  unfolding column fontsFit
+  column-fits place i zero =
+      by-lt i (length font) (λ l. rw (lt-ltb i (length font) l, le-leb (i + 1) (length font) (omega arith)))
+      (λ l. rw (le-ltb i (length font) l, lt-leb (i + 1) (length font) (omega arith)))
+  column-fits place i (suc h) =
+      let q : i + 1 + suc h ≡ i + suc (suc h) = omega arith in
+      by-lt i (length font)
+      (λ l. rw (lt-ltb i (length font) l) (column-fits (place + st) (i + 1) h ∙ ap (λ (k : ℕ). leb k (length font)) q))
+      (λ l. rw (le-ltb i (length font) l, lt-leb (i + suc (suc h)) (length font) (omega arith)))
+
+-- ---- of two bytes a line
+
+module _ (st : ℕ) (font : List ℕ) (il ir : Bool) where
+  pub lines-fits : (left right i h : ℕ) → fontsFit (lines st font left right i il ir (suc h)) ≡ leb (i + 2 * suc h) (length font)
+  unfolding lines fontsFit
+  lines-fits left right i zero =
+      by-lt (i + 1) (length font)
+      (λ l. rw (lt-ltb i (length font) (omega arith), lt-ltb (i + 1) (length font) l, le-leb (i + 2) (length font) (omega arith)))
+      (λ l. by-lt i (length font)
+      (λ m. rw (lt-ltb i (length font) m, le-ltb (i + 1) (length font) l, lt-leb (i + 2) (length font) (omega arith)))
+      (λ m. rw (le-ltb i (length font) m, lt-leb (i + 2) (length font) (omega arith))))
+  lines-fits left right i (suc h) =
+      let q : i + 2 + 2 * suc h ≡ i + 2 * suc (suc h) = omega arith in
+      by-lt (i + 1) (length font)
+      (λ l. rw (lt-ltb i (length font) (omega arith), lt-ltb (i + 1) (length font) l)
+      (lines-fits (left + st) (right + st) (i + 2) h ∙ ap (λ (k : ℕ). leb k (length font)) q))
+      (λ l. by-lt i (length font)
+      (λ m. rw (lt-ltb i (length font) m, le-ltb (i + 1) (length font) l, lt-leb (i + 2 * suc (suc h)) (length font) (omega arith)))
+      (λ m. rw (le-ltb i (length font) m, lt-leb (i + 2 * suc (suc h)) (length font) (omega arith))))
+
+-- a glyph by value: h lines of two bytes, from byte i of a part of a font on
+abbrev pub glyphLines : List ℕ → ℕ → ℕ → List (List ℕ)
+glyphLines part i zero = []
+glyphLines part i (suc h) = (getD part i 0 ∷ getD part (i + 1) 0 ∷ []) ∷ glyphLines part (i + 2) h
+
+-- painted line by line
+unfoldable pub paintLines : ℕ → ℕ → ℕ → Bool → Bool → List (List ℕ) → List ℕ → List ℕ
+paintLines st left right il ir [] s = s
+paintLines st left right il ir (x ∷ xs) s =
+    paintLines st (left + st) (right + st) il ir xs (set (set s left (flipped il (getD x 0 0))) right (flipped ir (getD x 1 0)))
+
+module _ (st : ℕ) (il ir : Bool) where
+  pub length-lines : (left right : ℕ) (g : List (List ℕ)) (s : List ℕ) → length (paintLines st left right il ir g s) ≡ length s
+  unfolding paintLines
+  length-lines left right [] s = refl
+  length-lines left right (x ∷ xs) s =
+      length-lines (left + st) (right + st) xs (set (set s left (flipped il (getD x 0 0))) right (flipped ir (getD x 1 0)))
+      ∙ length-set (set s left (flipped il (getD x 0 0))) right (flipped ir (getD x 1 0)) ∙ length-set s left (flipped il (getD x 0 0))
+
+  pub lines-turn : (left right i : ℕ) (g : List (List ℕ)) (s : List ℕ) → i < length g
+      → paintLines st left right il ir (drop i g) s
+      ≡ paintLines st (left + st) (right + st) il ir (drop (i + 1) g) (set (set s left (flipped il (getD (getD g i []) 0 0))) right (flipped ir (getD (getD g i []) 1 0)))
+  unfolding paintLines
+  lines-turn left right i g s l = ap (λ (x : List (List ℕ)). paintLines st left right il ir x s) (drop-cons g i [] l ∙ ap (λ (k : ℕ). getD g i [] ∷ drop k g) (sym (add-one i)))
+
+  -- a part of n bytes from a on, as a glyph by value, is painted as the font's own bytes are
+  pub part-lines : (font : List ℕ) (a n left right j h : ℕ) (s : List ℕ) → j + 2 * h ≤ n
+      → paintLines st left right il ir (glyphLines (take n (drop a font)) j h) s ≡ paint (lines st font left right (a + j) il ir h) s
+  unfolding paintLines lines paint
+  part-lines font a n left right j zero s l = refl
+  part-lines font a n left right j (suc h) s l =
+      let at : (k : ℕ) → k < n → getD (take n (drop a font)) k 0 ≡ getD font (a + k) 0 = λ k m. getD-take n (drop a font) k 0 m ∙ getD-drop a font k 0 in
+      let q : a + j + 1 ≡ a + (j + 1) = omega arith in
+      let u : a + (j + 2) ≡ a + j + 2 = omega arith in
+      let p = take n (drop a font) in
+      let t = set (set s left (flipped il (getD p j 0))) right (flipped ir (getD p (j + 1) 0)) in
+      part-lines font a n (left + st) (right + st) (j + 2) h t (omega arith)
+      ∙ ap (λ (k : ℕ). paint (lines st font (left + st) (right + st) k il ir h) t) u
+      ∙ (λ t. paint (lines st font (left + st) (right + st) (a + j + 2) il ir h)
+      (set (set s left (flipped il (at j (omega arith) t))) right (flipped ir ((at (j + 1) (omega arith) ∙ ap (λ (k : ℕ). getD font k 0) (sym q)) t))))
