@@ -113,6 +113,11 @@ impl Reference {
         *self.device = DefaultDevice::opened(graphics_base, text_base, version, keys);
     }
 
+    /// The reference's flush alone, to be measured: with the extra symbols that the last flush had.
+    pub fn flush_alone(&mut self) {
+        self.device.flush();
+    }
+
     fn flush(&mut self, fonts: &FontsLent) {
         let device = &mut *self.device;
         device.set_extra_symbols(fonts.extra_entries(), fonts.extra_font());

@@ -4,7 +4,7 @@
 
 mod plain;
 
-use calls::{Buffers, Call};
+use calls::{Buffers, Call, FontsLent};
 use driver::core_side::{self, Answering};
 use reference::Reference;
 use std::hint::black_box;
@@ -21,6 +21,9 @@ fn main() {
     let mut over = checked_entry(core);
     for measured in drawings() {
         over |= drawing(&measured, core);
+    }
+    for (name, text) in texts() {
+        over |= flush(name, &text, core);
     }
     if over {
         println!("over a limit");
@@ -58,8 +61,18 @@ fn drawing(measured: &Measured, core: Option<Answering>) -> bool {
     report(name, &mut by_reference, core, std::slice::from_ref(call), *limit)
 }
 
-/// One line of the table; the core's part is empty where it hasn't got the call. True where the
-/// limit is passed.
+/// A flush of a text of 100 cells, with the fonts whole and no extra list.
+fn flush(name: &str, text: &[u8], core: Option<Answering>) -> bool {
+    let call = Call::Flush { fonts: FontsLent::whole(vec![]) };
+    let mut buffers = opened();
+    buffers.memory[8192..][..text.len()].copy_from_slice(text);
+    let mut reference = Reference::default();
+    reference.load(&buffers.record, &buffers.memory);
+    reference.call(&call);
+    let mut by_reference = || reference.flush_alone();
+    report_on(name, &mut by_reference, core, std::slice::from_ref(&call), Some(1.3), buffers)
+}
+
 fn report(
     name: &str,
     rust: &mut dyn FnMut(),
@@ -67,7 +80,19 @@ fn report(
     calls: &[Call],
     limit: Option<f64>,
 ) -> bool {
-    let mut buffers = opened();
+    report_on(name, rust, core, calls, limit, opened())
+}
+
+/// One line of the table; the core's part is empty where it hasn't got the call. True where the
+/// limit is passed.
+fn report_on(
+    name: &str,
+    rust: &mut dyn FnMut(),
+    core: Option<Answering>,
+    calls: &[Call],
+    limit: Option<f64>,
+    mut buffers: Buffers,
+) -> bool {
     let core = core.filter(|_| core_side::has(calls[0].number()));
     let mut turn = calls.iter().cycle();
     let mut by_core = core.map(|core| {
@@ -147,4 +172,16 @@ fn drawings() -> Vec<Measured> {
     ];
     all.extend(free.map(|(name, call)| Measured { name: name.to_string(), call, limit: None }));
     all
+}
+
+fn texts() -> Vec<(&'static str, Vec<u8>)> {
+    let pairs = |lead: u8, trail: u8| (0..50).flat_map(|k| [lead + (k % 4), trail + k]).collect();
+    vec![
+        ("flush, blank", vec![0; 100]),
+        ("flush, one byte a cell", (0..100).map(|k| 32 + k % 90).collect()),
+        ("flush, GB", pairs(176, 161)),
+        ("flush, emoji", pairs(248, 161)),
+        ("flush, hexadecimal", pairs(129, 64)),
+        ("flush, pairs over the rows' ends", [vec![65], pairs(176, 161)].concat()[..100].to_vec()),
+    ]
 }

@@ -3,6 +3,7 @@
 pub mod bitmaps;
 pub mod dirty;
 pub mod ellipses;
+pub mod flushes;
 pub mod lines;
 pub mod open;
 pub mod points;

@@ -1,3 +1,7 @@
 pub mod Choosing
 pub mod Walking
 pub mod Painting
+pub mod Fitting
+pub mod Showing
+pub mod Texts
+pub mod Clearing

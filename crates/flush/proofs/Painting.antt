@@ -1,18 +1,16 @@
 -- Painting in code: a column of bytes, a glyph by value, the font part that holds it, a byte in hexadecimal.
-use mathlib.Core.Path.{_≡_, refl, sym, ap, _∙_}
+use mathlib.Core.Path.{_≡_, sym, ap, _∙_}
 use mathlib.Core.Bool.{Bool, true, false}
-use mathlib.Core.List.{List, [], _∷_, _++_}
-use Prim.Native.Nat.{ℕ, zero, suc, _+_, _-_, _*_, _/_, _%_, _≤_, _<_}
-use native.Mathlib.Numerals.{add-one}
+use mathlib.Core.List.{List, []}
+use Prim.Native.Nat.{ℕ, _+_, _-_, _*_, _/_, _%_, _≤_, _<_}
 use native.Mathlib.Omega.{arith}
 use borrow.Author.Tests.{lt-ltb, le-ltb}
-use lib.ListN.{length, getD, set, take, drop, length-take, length-drop, drop-of-length-le}
+use lib.ListN.{length, getD, set, take, drop, drop-of-length-le}
 use Rattle.model.specs.declared.Glyph.{Glyph}
 use Rattle.model.specs.declared.Glyph.the-variants.{Emoji, Gb, Extra, Hexadecimal}
 use Rattle.model.specs.Glyphs.{flipped, digit, paint, column, code}
-use Rattle.laws.specs.Tests.{by-lt}
-use Rattle.laws.specs.Glyphs.{paint-append, length-paint, column-turn, column-end, paintLines, lines-turn, length-lines}
-use Rattle.flush.specs.Page.{Room, partOf, PartFits, codeEnd}
+use Rattle.laws.specs.Glyphs.{paint-append, column-turn, column-end, paintLines, lines-turn}
+use Rattle.flush.specs.Page.{Room, partOf, PartFits}
 
 -- ---- flips and digits
 

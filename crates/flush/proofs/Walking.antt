@@ -1,8 +1,8 @@
 -- The walk in code: forms, and what a step keeps.
-use mathlib.Core.Path.{_≡_, refl, sym, ap, _∙_}
+use mathlib.Core.Path.{_≡_, refl, ap, _∙_}
 use mathlib.Core.Bool.{Bool, true, false}
 use mathlib.Core.List.{List, [], _∷_}
-use Prim.Native.Nat.{ℕ, zero, suc, _+_, _*_, _≤_, _<_}
+use Prim.Native.Nat.{ℕ, zero, suc, _+_, _≤_, _<_}
 use native.Mathlib.Nat.{mul-le-mul}
 use native.Mathlib.Omega.{arith}
 use borrow.Author.Tests.{eq-eqb, ne-eqb, lt-ltb, le-ltb}
@@ -10,8 +10,8 @@ use lib.ListN.{length, getD}
 use Rattle.model.specs.declared.Spot.{Spot}
 use Rattle.model.specs.declared.Form.{Form}
 use Rattle.model.specs.declared.Form.the-variants.{Blank, Single, Pair, Code}
-use Rattle.model.specs.Flush.{spot, isLast, formOf, taken, after}
-use Rattle.laws.specs.FlushWalk.{Within}
+use Rattle.model.specs.Flush.{spot, isLast, formOf, formAt, taken, after, next}
+use Rattle.laws.specs.FlushWalk.{Within, placesLeft, taken-most, within-next, left-after}
 
 pub past-end : (l : List ℕ) (i : ℕ) → length l ≤ i → 0 ≡ getD l i 0
 past-end [] i h = refl
@@ -67,3 +67,23 @@ after-row st k s l = rw (lt-ltb (s .column + k) st l)
 pub after-end : (st k : ℕ) (s : Spot) → st ≤ s .column + k → spot (s .cell + k) (s .row + 1) 0 ≡ after st s k
 unfolding after
 after-end st k s l = rw (le-ltb (s .column + k) st l)
+
+-- ---- a step of the walk
+
+pub within-start : (st n : ℕ) → 0 < st → Within st n (spot 0 0 0)
+within-start st n h = record { column = h; row = omega arith; ahead = omega arith }
+
+-- the spot after a form is the walk's next
+pub stepped : (st n : ℕ) (text : List ℕ) (s : Spot) {b k : ℕ} {m : Form} {t : Spot} → b ≡ getD text (s .cell) 0 → m ≡ formOf st n b s → k ≡ taken m → t ≡ after st s k
+    → t ≡ next st n text s
+stepped st n text s e f g h = h ∙ ap (after st s) (g ∙ ap taken (f ∙ ap (λ (x : ℕ). formOf st n x s) e))
+
+pub taken-small : (m : Form) {k : ℕ} → k ≡ taken m → k ≤ 2
+taken-small m e = omega (arith, e, taken-most m)
+
+module _ (st n : ℕ) (text : List ℕ) (s : Spot) {t : Spot} where
+  pub within-turn : Within st n s → s .row < n → t ≡ next st n text s → Within st n t
+  within-turn w l e = rw e (within-next st n text s w l)
+
+  pub left-turn : Within st n s → s .row < n → t ≡ next st n text s → placesLeft st n t < placesLeft st n s
+  left-turn w l e = rw e (left-after st n s (taken (formAt st n text s)) w l (taken-most (formAt st n text s) .0))

@@ -1,10 +1,13 @@
 -- What painting asks of the screen and of the fonts.
+use mathlib.Core.Bool.{Bool, true, false}
 use mathlib.Core.List.{List, []}
 use Prim.Native.Nat.{ℕ, _+_, _*_, _/_, _%_, _≤_, _<_, max}
 use lib.ListN.{length, take, drop}
 use Rattle.model.specs.declared.Glyph.{Glyph}
 use Rattle.model.specs.declared.Glyph.the-variants.{Emoji, Gb, Extra, Hexadecimal}
+use Rattle.model.specs.declared.Spot.{Spot}
 use Rattle.model.specs.Glyphs.{digit}
+use Rattle.model.specs.Flush.{topOf, rightOf}
 
 -- h lines down from a place lie on the screen
 pub record Room (st : ℕ) (screen : List ℕ) (place h : ℕ) : Type 0 where
@@ -29,3 +32,37 @@ PartFits emoji gb extra Hexadecimal = Unit {0}
 -- the end of the characters of a byte's two digits in the 8-line font
 abbrev pub codeEnd : ℕ → ℕ
 codeEnd b = max (8 * digit (b / 16)) (8 * digit (b % 16)) + 8
+
+-- a text of st columns and n rows
+pub record Text (st n : ℕ) : Type 0 where
+  pub wide : 0 < st
+  pub narrow : st ≤ 32
+  pub low : n ≤ 16
+
+-- a screen for it
+pub record Page (st n : ℕ) (screen : List ℕ) : Type 0 where
+  pub text : Text st n
+  pub small : length screen ≤ 65536
+  pub sized : 16 * (st * n) ≤ length screen
+
+-- a spot of a text on its screen
+pub record OnPage (st n : ℕ) (screen : List ℕ) (s : Spot) : Type 0 where
+  pub page : Page st n screen
+  pub row : s .row < n
+  pub column : s .column < st
+  pub cell : s .cell ≤ 560
+
+-- both halves of a pair lie on the screen, and so does the byte after its first column
+pub record PairRoom (st : ℕ) (screen : List ℕ) (s : Spot) : Type 0 where
+  pub row : s .row ≤ 16
+  pub column : s .column ≤ 32
+  pub cell : s .cell ≤ 560
+  pub left : Room st screen (topOf st (s .row) (s .column)) 16
+  pub right : Room st screen (rightOf st s) 16
+  pub beside : Room st screen (topOf st (s .row) (s .column) + 1) 16
+
+unfoldable pub isHexadecimal : Glyph → Bool
+isHexadecimal (Emoji i) = false
+isHexadecimal (Gb i) = false
+isHexadecimal (Extra i) = false
+isHexadecimal Hexadecimal = true

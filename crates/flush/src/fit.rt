@@ -1,1 +1,137 @@
-// later
+// The GLYPH test: every byte that a flush would paint is there. It changes nothing.
+use crate::codes::glyph_of;
+use crate::glyph::digit_of;
+use crate::walk::byte_at;
+use crate::walk::cells_of;
+use crate::walk::form_of;
+use crate::walk::spot_after;
+use crate::walk::start;
+use model::Form;
+use model::Glyph;
+ghost use mathlib.Core.Path.{_≡_};
+ghost use Prim.Native.Nat.{_*_, _+_, _≤_, _<_};
+ghost use lib.Dec.{leb};
+ghost use lib.ListN.{length};
+ghost use Rattle.model.specs.Glyphs.{fonts};
+ghost use Rattle.model.specs.Flush.{spot, walk};
+ghost use Rattle.flush.specs.Fits.{codeFits, glyphFits, formFits, walkFits};
+ghost use Rattle.flush.specs.Page.{Text};
+
+fn code_fits(ascii8: &[u8], b: u8) -> bool
+    ensures { λ r. ⌜ r ≡ codeFits (now (ascii8 .entry)) b ⌝ }
+{
+    let high = 8 * digit_of(b / 16) + 8;
+    let low = 8 * digit_of(b % 16) + 8;
+    (high <= ascii8.len()) & (low <= ascii8.len())
+}
+
+// The sixteen bytes of a code below 128.
+fn char_fits(ascii16: &[u8], b: u8) -> bool
+    ensures { λ r. ⌜ r ≡ leb (16 * b + 16) (length (now (ascii16 .entry))) ⌝ }
+{
+    16 * (b as usize) + 16 <= ascii16.len()
+}
+
+// Glyph `index` of thirty-two bytes lies in a font.
+fn index_fits(font: &[u8], index: usize) -> bool
+    ensures { λ r. ⌜ r ≡ leb (32 * index + 32) (length (now (font .entry))) ⌝ }
+{
+    index < font.len() / 32
+}
+
+// Thirty-two bytes from an offset on lie in a font.
+fn offset_fits(font: &[u8], at: usize) -> bool
+    ensures { λ r. ⌜ r ≡ leb (at + 32) (length (now (font .entry))) ⌝ }
+{
+    if at <= font.len() {
+        return 32 <= font.len() - at;
+    }
+    false
+}
+
+fn glyph_fits(
+    ascii8: &[u8],
+    ascii16: &[u8],
+    gb: &[u8],
+    emoji: &[u8],
+    list: &[u8],
+    extra: &[u8],
+    lead: u8,
+    trail: u8,
+    g: Glyph,
+) -> bool
+    ensures { λ r. ⌜ r ≡ glyphFits (fonts (now (ascii8 .entry)) (now (ascii16 .entry)) (now (gb .entry)) (now (emoji .entry)) (now (list .entry)) (now (extra .entry))) lead trail g ⌝ }
+{
+    match g {
+        Glyph::Emoji(index) => index_fits(emoji, index),
+        Glyph::Gb(index) => index_fits(gb, index),
+        Glyph::Extra(at) => offset_fits(extra, at),
+        Glyph::Hexadecimal => code_fits(ascii8, lead) & code_fits(ascii8, trail),
+    }
+}
+
+fn form_fits(
+    version: u8,
+    ascii8: &[u8],
+    ascii16: &[u8],
+    gb: &[u8],
+    emoji: &[u8],
+    list: &[u8],
+    extra: &[u8],
+    b: u8,
+    trail: u8,
+    f: Form,
+) -> bool
+    ensures { λ r. ⌜ r ≡ formFits version (fonts (now (ascii8 .entry)) (now (ascii16 .entry)) (now (gb .entry)) (now (emoji .entry)) (now (list .entry)) (now (extra .entry))) b trail f ⌝ }
+{
+    match f {
+        Form::Blank => true,
+        Form::Single => char_fits(ascii16, b),
+        Form::Pair => {
+            let g = glyph_of(version, list, b, trail);
+            glyph_fits(ascii8, ascii16, gb, emoji, list, extra, b, trail, g)
+        }
+        Form::Code => code_fits(ascii8, b),
+    }
+}
+
+pub fn text_fits(
+    columns: usize,
+    rows: usize,
+    text: &[u8],
+    version: u8,
+    ascii8: &[u8],
+    ascii16: &[u8],
+    gb: &[u8],
+    emoji: &[u8],
+    list: &[u8],
+    extra: &[u8],
+) -> bool
+    requires { ⌜ Text columns rows ⌝ }
+    ensures { λ r. ⌜ r ≡ walkFits (now (text .entry)) version (fonts (now (ascii8 .entry)) (now (ascii16 .entry)) (now (gb .entry)) (now (emoji .entry)) (now (list .entry)) (now (extra .entry))) (walk columns rows (now (text .entry)) (rows * columns) (spot 0 0 0)) ⌝ }
+{
+    let mut s = start();
+    while s.row < rows {
+        let cell = s.cell;
+        let b = byte_at(text, cell);
+        let trail = byte_at(text, cell + 1);
+        let f = form_of(columns, rows, b, s);
+        if form_fits(
+            version,
+            ascii8,
+            ascii16,
+            gb,
+            emoji,
+            list,
+            extra,
+            b,
+            trail,
+            f,
+        ) {
+            s = spot_after(columns, s, cells_of(f));
+        } else {
+            return false;
+        }
+    }
+    true
+}

@@ -2,5 +2,6 @@
 pub mod codes;
 pub mod fit;
 pub mod glyph;
+pub mod page;
 pub mod paint;
 pub mod walk;

@@ -13,11 +13,16 @@ pub const RIGHT: u16 = 160;
 pub const BOTTOM: u16 = 80;
 
 // The text cells.
+pub const TEXT_ROWS: usize = 5;
+
+pub const TEXT_COLUMNS: usize = 20;
+
+pub const TEXT_BYTES: usize = 100;
+
+// What a row and a column in the record stay below.
 pub const ROWS: u8 = 5;
 
 pub const COLUMNS: u8 = 20;
-
-pub const TEXT_BYTES: usize = 100;
 
 // The highest bases: each window ends before the last byte of memory.
 pub const LAST_GRAPHICS_BASE: u16 = 63935;

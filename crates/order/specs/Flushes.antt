@@ -8,7 +8,7 @@ use lib.ListN.{length}
 use Prim.Native.Nat.{ℕ}
 use Rattle.model.specs.Geometry.{Geometry, height, screenBytes}
 use Rattle.model.specs.Memory.{screenOf, withScreen}
-use Rattle.model.specs.Record.{State, WellFormed, decode, encode}
+use Rattle.model.specs.Record.{State, decode, encode}
 use Rattle.model.specs.Marks.{whole, marked}
 use Rattle.model.specs.Glyphs.{Fonts}
 use Rattle.model.specs.Flush.{flushStores, cleared, flushed}

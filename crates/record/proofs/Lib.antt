@@ -1,3 +1,4 @@
+pub mod Flags
 pub mod Bands
 pub mod Entering
 pub mod Updates

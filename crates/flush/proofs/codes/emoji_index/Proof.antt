@@ -2,24 +2,16 @@ use Rattle.laws.specs.Codes.{index-v1, index-v2}
 use borrow.Author.Needs.{needs}
 use Rattle.flush.proofs.codes.emoji_index.Statement.{statement}
 use Rattle.flush.proofs.codes.emoji_index.Tie as tie
-use Rattle.flush.proofs.codes.emoji_index.Reads as reads
-use Rattle.flush.proofs.codes.emoji_index.Lts as lts
-use Rattle.flush.proofs.codes.index_v1.Reads as index-v1-reads
-use Rattle.flush.proofs.codes.index_v2.Reads as index-v2-reads
 
--- src/codes.rt:80:9
 index-v1-requires : tie.Need-index-v1-requires
 index-v1-requires c κs = search needs
 
--- src/codes.rt:80:9
 returns : tie.Need-returns
 returns c = search index-v1
 
--- src/codes.rt:82:5
 index-v2-requires : tie.Need-index-v2-requires
 index-v2-requires c κs = search needs
 
--- src/codes.rt:76:1
 returns-2 : tie.Need-returns-2
 returns-2 c = search index-v2
 

@@ -2,32 +2,22 @@ use Rattle.flush.proofs.Choosing.{extra-at, extra-none}
 use borrow.Author.Needs.{needs}
 use Rattle.flush.proofs.codes.extra_glyph.Statement.{statement}
 use Rattle.flush.proofs.codes.extra_glyph.Tie as tie
-use Rattle.flush.proofs.codes.extra_glyph.Reads as reads
-use Rattle.flush.proofs.codes.extra_glyph.Lts as lts
-use Rattle.flush.proofs.codes.code_of.Reads as code-of-reads
-use Rattle.flush.proofs.codes.extra_offset.Reads as extra-offset-reads
 
--- src/codes.rt:157:36
 code-of-requires : tie.Need-code-of-requires
 code-of-requires c κs = search needs
 
--- src/codes.rt:157:9
 extra-offset-requires : tie.Need-extra-offset-requires
 extra-offset-requires c κs = search needs
 
--- src/codes.rt:159:19
 enum-known-found : tie.Need-enum-known-found
 enum-known-found c = search needs
 
--- src/codes.rt:160:27
 enum-told : tie.Need-enum-told
 enum-told c = search needs
 
--- src/codes.rt:154:1
 returns : tie.Need-returns
 returns c = search extra-at
 
--- src/codes.rt:154:1
 returns-2 : tie.Need-returns-2
 returns-2 c = search extra-none
 

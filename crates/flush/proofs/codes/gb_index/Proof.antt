@@ -1,19 +1,13 @@
 use Rattle.flush.proofs.Choosing.{gb-from, gb-here, gb-none}
 use Rattle.flush.proofs.codes.gb_index.Statement.{statement}
 use Rattle.flush.proofs.codes.gb_index.Tie as tie
-use Rattle.flush.proofs.codes.gb_index.Reads as reads
-use Rattle.flush.proofs.codes.gb_index.Lts as lts
-use Rattle.flush.proofs.codes.gb_place.Reads as gb-place-reads
 
--- src/codes.rt:104:9
 gb-place-requires : tie.Need-gb-place-requires
 gb-place-requires c κs = gb-from _ _ (c .if1 .taken)
 
--- src/codes.rt:104:9
 returns : tie.Need-returns
 returns c = gb-here _ _ (c .before .if1 .taken) (c .gb-place .ensures)
 
--- src/codes.rt:100:1
 returns-2 : tie.Need-returns-2
 returns-2 c = gb-none _ _ (c .if1 .left)
 

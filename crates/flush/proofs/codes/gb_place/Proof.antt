@@ -6,39 +6,28 @@ use native.Mathlib.Omega.{arith}
 use borrow.Author.Needs.{needs}
 use Rattle.flush.proofs.codes.gb_place.Statement.{statement}
 use Rattle.flush.proofs.codes.gb_place.Tie as tie
-use Rattle.flush.proofs.codes.gb_place.Reads as reads
-use Rattle.flush.proofs.codes.gb_place.Lts as lts
-use Rattle.flush.proofs.codes.gb_row.Reads as gb-row-reads
 
--- src/codes.rt:96:23
 sub-gb-row : tie.Need-sub-gb-row
 sub-gb-row c = search needs
 
--- src/codes.rt:96:22
 cast-gb-row : tie.Need-cast-gb-row
 cast-gb-row c = search needs
 
--- src/codes.rt:96:9
 gb-row-requires : tie.Need-gb-row-requires
 gb-row-requires c κs = search needs
 
--- src/codes.rt:97:15
 mul-t5 : tie.Need-mul-t5
 mul-t5 c = omega (arith, c .gb-row .ensures, gb-row-most (c .before .args .lead - 161))
 
--- src/codes.rt:97:27
 sub-t4 : tie.Need-sub-t4
 sub-t4 c = search needs
 
--- src/codes.rt:97:26
 cast-t6 : tie.Need-cast-t6
 cast-t6 c = search needs
 
--- src/codes.rt:97:15
 add-t7 : tie.Need-add-t7
 add-t7 c = omega (arith, c .gb-row .ensures, gb-row-most (c .before .args .lead - 161))
 
--- src/codes.rt:92:1
 returns : tie.Need-returns
 returns c = ap (λ (r : ℕ). At (94 * r + (c .before .args .trail - 161))) (c .gb-row .ensures)
 

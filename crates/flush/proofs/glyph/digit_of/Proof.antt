@@ -3,22 +3,16 @@ use Rattle.flush.proofs.Painting.{digit-low, digit-high}
 use borrow.Author.Needs.{needs}
 use Rattle.flush.proofs.glyph.digit_of.Statement.{statement}
 use Rattle.flush.proofs.glyph.digit_of.Tie as tie
-use Rattle.flush.proofs.glyph.digit_of.Reads as reads
-use Rattle.flush.proofs.glyph.digit_of.Lts as lts
 
--- src/glyph.rt:130:9
 add-result : tie.Need-add-result
 add-result c = search needs
 
--- src/glyph.rt:132:9
 add-result-2 : tie.Need-add-result-2
 add-result-2 c = search needs
 
--- src/glyph.rt:125:1
 returns : tie.Need-returns
 returns c = (digit-low _ (c .if1 .taken), omega arith)
 
--- src/glyph.rt:125:1
 returns-2 : tie.Need-returns-2
 returns-2 c = (digit-high _ (c .if1 .left), omega arith)
 

@@ -3,106 +3,79 @@ use Rattle.flush.proofs.Painting.{emoji-in, gb-in, extra-in, emoji-part
 use borrow.Author.Needs.{needs}
 use Rattle.flush.proofs.glyph.glyph_part.Statement.{statement}
 use Rattle.flush.proofs.glyph.glyph_part.Tie as tie
-use Rattle.flush.proofs.glyph.glyph_part.Reads as reads
-use Rattle.flush.proofs.glyph.glyph_part.Lts as lts
 
--- src/glyph.rt:47:22
 enum-known-g : tie.Need-enum-known-g
 enum-known-g c = search needs
 
--- src/glyph.rt:48:22
 mul-at : tie.Need-mul-at
 mul-at c = omega (arith, emoji-in _ _ _ _ (c .before .g .given .1) (c .before .before .before .pre))
 
--- src/glyph.rt:49:23
 add-end : tie.Need-add-end
 add-end c = omega (arith, emoji-in _ _ _ _ (c .before .g .given .1) (c .before .before .before .pre))
 
--- src/glyph.rt:50:13
 sub-result : tie.Need-sub-result
 sub-result c = search needs
 
--- src/glyph.rt:50:13
 part-result-start : tie.Need-part-result-start
 part-result-start c = search needs
 
--- src/glyph.rt:50:13
 part-result-end : tie.Need-part-result-end
 part-result-end c = emoji-in _ _ _ _ (c .before .g .given .1) (c .before .before .before .pre)
 
--- src/glyph.rt:52:19
 enum-known-g-2 : tie.Need-enum-known-g-2
 enum-known-g-2 c = search needs
 
--- src/glyph.rt:53:22
 mul-at-2 : tie.Need-mul-at-2
 mul-at-2 c = omega (arith, gb-in _ _ _ _ (c .before .g2 .given .1) (c .before .before .before .pre))
 
--- src/glyph.rt:54:23
 add-end-2 : tie.Need-add-end-2
 add-end-2 c = omega (arith, gb-in _ _ _ _ (c .before .g2 .given .1) (c .before .before .before .pre))
 
--- src/glyph.rt:55:13
 sub-result-2 : tie.Need-sub-result-2
 sub-result-2 c = search needs
 
--- src/glyph.rt:55:13
 part-result-start-2 : tie.Need-part-result-start-2
 part-result-start-2 c = search needs
 
--- src/glyph.rt:55:13
 part-result-end-2 : tie.Need-part-result-end-2
 part-result-end-2 c = gb-in _ _ _ _ (c .before .g2 .given .1) (c .before .before .before .pre)
 
--- src/glyph.rt:57:22
 enum-known-g-3 : tie.Need-enum-known-g-3
 enum-known-g-3 c = search needs
 
--- src/glyph.rt:58:23
 add-end-3 : tie.Need-add-end-3
 add-end-3 c = omega (arith, extra-in _ _ _ _ (c .before .g3 .given .1) (c .before .before .before .pre))
 
--- src/glyph.rt:59:13
 sub-result-3 : tie.Need-sub-result-3
 sub-result-3 c = search needs
 
--- src/glyph.rt:59:13
 part-result-start-3 : tie.Need-part-result-start-3
 part-result-start-3 c = search needs
 
--- src/glyph.rt:59:13
 part-result-end-3 : tie.Need-part-result-end-3
 part-result-end-3 c = extra-in _ _ _ _ (c .before .g3 .given .1) (c .before .before .before .pre)
 
--- src/glyph.rt:61:31
 enum-told : tie.Need-enum-told
 enum-told c = search needs
 
--- src/glyph.rt:61:31
 sub-result-4 : tie.Need-sub-result-4
 sub-result-4 c = search needs
 
--- src/glyph.rt:61:31
 part-result-start-4 : tie.Need-part-result-start-4
 part-result-start-4 c = search needs
 
--- src/glyph.rt:61:31
 part-result-end-4 : tie.Need-part-result-end-4
 part-result-end-4 c = search needs
 
--- src/glyph.rt:42:1
 returns : tie.Need-returns
 returns c = emoji-part _ _ _ _ (c .before .before .g .given .1)
 
--- src/glyph.rt:42:1
 returns-2 : tie.Need-returns-2
 returns-2 c = gb-part _ _ _ _ (c .before .before .g2 .given .1)
 
--- src/glyph.rt:42:1
 returns-3 : tie.Need-returns-3
 returns-3 c = extra-part _ _ _ _ (c .before .before .g3 .given .1)
 
--- src/glyph.rt:42:1
 returns-4 : tie.Need-returns-4
 returns-4 c = search no-part
 

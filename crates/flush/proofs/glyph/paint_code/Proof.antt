@@ -2,48 +2,34 @@ use Rattle.flush.proofs.Painting.{code-painted}
 use borrow.Author.Needs.{needs}
 use Rattle.flush.proofs.glyph.paint_code.Statement.{statement}
 use Rattle.flush.proofs.glyph.paint_code.Tie as tie
-use Rattle.flush.proofs.glyph.paint_code.Reads as reads
-use Rattle.flush.proofs.glyph.paint_code.Lts as lts
-use Rattle.flush.proofs.glyph.digit_of.Reads as digit-of-reads
-use Rattle.flush.proofs.glyph.paint_column.Reads as paint-column-reads
 
--- src/glyph.rt:142:20
 digit-of-requires : tie.Need-digit-of-requires
 digit-of-requires c κs = search needs
 
--- src/glyph.rt:142:16
 mul-high : tie.Need-mul-high
 mul-high c = search needs
 
--- src/glyph.rt:143:19
 digit-of-requires-2 : tie.Need-digit-of-requires-2
 digit-of-requires-2 c κs = search needs
 
--- src/glyph.rt:143:15
 mul-low : tie.Need-mul-low
 mul-low c = search needs
 
--- src/glyph.rt:144:5
 paint-column-requires : tie.Need-paint-column-requires
 paint-column-requires c κs = search needs
 
--- src/glyph.rt:145:40
 mul-paint-column : tie.Need-mul-paint-column
 mul-paint-column c = search needs
 
--- src/glyph.rt:145:34
 add-paint-column : tie.Need-add-paint-column
 add-paint-column c = search needs
 
--- src/glyph.rt:145:5
 paint-column-requires-2 : tie.Need-paint-column-requires-2
 paint-column-requires-2 c κs = search needs
 
--- src/glyph.rt:137:1
 same-length : tie.Need-same-length
 same-length c = search needs
 
--- src/glyph.rt:137:1
 returns : tie.Need-returns
 returns c = search code-painted
 

@@ -1,5 +1,5 @@
 -- What is left of the column, painted on the screen as it stands, gives what the whole gives.
-use mathlib.Core.Path.{_≡_, refl, _∙_}
+use mathlib.Core.Path.{_≡_, refl}
 use Prim.Native.Nat.{_+_, _-_, _*_, _≤_, _<_}
 use native.Mathlib.Omega.{arith}
 use lib.ListN.{length, length-set}
@@ -8,9 +8,6 @@ use Rattle.laws.specs.Glyphs.{room-here, room-next}
 use Rattle.flush.proofs.Painting.{column-start, column-again, column-done, room-start}
 use Rattle.flush.proofs.glyph.paint_column.Statement.{statement}
 use Rattle.flush.proofs.glyph.paint_column.Tie as tie
-use Rattle.flush.proofs.glyph.paint_column.Reads as reads
-use Rattle.flush.proofs.glyph.paint_column.Lts as lts
-use Rattle.flush.proofs.glyph.flip.Reads as flip-reads
 
 abbrev Inv-loop : tie.InvT-loop
 Inv-loop stride screen₀ top font from height inverse end place₀ i₀ screen place i = (i ≤ end) × (length screen ≡ length screen₀) × (place + stride * (end - i) < length screen₀ + stride) × (paint (column stride font place i inverse (end - i)) screen ≡ paint (column stride font top from inverse height) screen₀)
@@ -18,47 +15,36 @@ Inv-loop stride screen₀ top font from height inverse end place₀ i₀ screen 
 abbrev μ-loop : tie.MeasureT-loop
 μ-loop stride screen₀ top font from height inverse end place₀ i₀ screen place i = end - i
 
--- src/glyph.rt:31:15
 add-end : tie.Need-add-end Inv-loop μ-loop
 add-end c = omega arith
 
--- src/glyph.rt:34:5
 loop-holds : tie.Need-loop-holds Inv-loop μ-loop
 loop-holds c = let k = c .before .before in let a = k .args in (omega arith, refl, room-start (a .stride) (a .screen .now) (a .top) (a .from) (a .height) (k .pre .0), column-start (a .stride) (a .font .now) (a .inverse) (a .top) (a .from) (a .height) (a .screen .now))
 
--- src/glyph.rt:35:30
 shared-slice-read-flip : tie.Need-shared-slice-read-flip Inv-loop μ-loop
 shared-slice-read-flip c = omega arith
 
--- src/glyph.rt:35:25
 flip-requires : tie.Need-flip-requires Inv-loop μ-loop
 flip-requires c κs = tt
 
--- src/glyph.rt:35:9
 slice-write-screen : tie.Need-slice-write-screen Inv-loop μ-loop
 slice-write-screen c = let l = c .before .before .before .loop in omega (arith, room-here _ (l .place) (l .i) _ _ (omega arith) (l .inv .2))
 
--- src/glyph.rt:36:9
 add-place : tie.Need-add-place Inv-loop μ-loop
 add-place c = let k = c .before .before .before .before .before .before in let l = c .before .before .before .loop in omega (arith, room-here _ (l .place) (l .i) _ _ (omega arith) (l .inv .2), k .pre .0 .small, k .pre .0 .narrow)
 
--- src/glyph.rt:37:9
 add-i : tie.Need-add-i Inv-loop μ-loop
 add-i c = omega arith
 
--- src/glyph.rt:34:5
 loop-less : tie.Need-loop-less Inv-loop μ-loop
 loop-less c = omega arith
 
--- src/glyph.rt:34:5
 loop-again : tie.Need-loop-again Inv-loop μ-loop
 loop-again c = let a = c .before .before .before .before .before .before .args in let l = c .before .before .before .loop in (omega arith, simp length-set (omega arith), room-next _ (l .place) (l .i) _ _ (omega arith) (l .inv .2), column-again (a .stride) (a .font .now) (a .inverse) (l .place) (l .i) _ (l .screen) (omega arith) (c .flip .ensures) (l .inv .3))
 
--- src/glyph.rt:18:1
 same-length : tie.Need-same-length Inv-loop μ-loop
 same-length c = omega arith
 
--- src/glyph.rt:18:1
 returns : tie.Need-returns Inv-loop μ-loop
 returns c = let l = c .before .loop in let a = c .before .before .before .before .args in column-done (a .stride) (a .font .now) (a .inverse) (l .place) (l .i) _ (l .screen) (omega arith) (l .inv .3)
 

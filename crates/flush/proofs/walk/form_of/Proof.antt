@@ -2,27 +2,19 @@ use Rattle.flush.proofs.Walking.{form-blank, form-single, form-code, fo
 use borrow.Author.Needs.{needs}
 use Rattle.flush.proofs.walk.form_of.Statement.{statement}
 use Rattle.flush.proofs.walk.form_of.Tie as tie
-use Rattle.flush.proofs.walk.form_of.Reads as reads
-use Rattle.flush.proofs.walk.form_of.Lts as lts
-use Rattle.flush.proofs.walk.is_last.Reads as is-last-reads
 
--- src/walk.rt:38:9
 returns : tie.Need-returns
 returns c = search form-blank
 
--- src/walk.rt:41:9
 returns-2 : tie.Need-returns-2
 returns-2 c = search form-single
 
--- src/walk.rt:43:8
 is-last-requires : tie.Need-is-last-requires
 is-last-requires c κs = search needs
 
--- src/walk.rt:44:9
 returns-3 : tie.Need-returns-3
 returns-3 c = search form-code
 
--- src/walk.rt:33:1
 returns-4 : tie.Need-returns-4
 returns-4 c = search form-pair
 

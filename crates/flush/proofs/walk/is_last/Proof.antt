@@ -3,18 +3,13 @@ use Rattle.model.specs.Flush.{isLast}
 use borrow.Author.Needs.{needs}
 use Rattle.flush.proofs.walk.is_last.Statement.{statement}
 use Rattle.flush.proofs.walk.is_last.Tie as tie
-use Rattle.flush.proofs.walk.is_last.Reads as reads
-use Rattle.flush.proofs.walk.is_last.Lts as lts
 
--- src/walk.rt:30:6
 add-result : tie.Need-add-result
 add-result c = search needs
 
--- src/walk.rt:30:28
 add-result-2 : tie.Need-add-result-2
 add-result-2 c = search needs
 
--- src/walk.rt:26:1
 returns : tie.Need-returns
 unfolding isLast
 returns c = refl

@@ -2,30 +2,22 @@ use Rattle.flush.proofs.Walking.{after-row, after-end}
 use borrow.Author.Needs.{needs}
 use Rattle.flush.proofs.walk.spot_after.Statement.{statement}
 use Rattle.flush.proofs.walk.spot_after.Tie as tie
-use Rattle.flush.proofs.walk.spot_after.Reads as reads
-use Rattle.flush.proofs.walk.spot_after.Lts as lts
 
--- src/walk.rt:66:18
 add-column : tie.Need-add-column
 add-column c = search needs
 
--- src/walk.rt:69:19
 add-t6 : tie.Need-add-t6
 add-t6 c = search needs
 
--- src/walk.rt:68:9
 returns : tie.Need-returns
 returns c = search after-row
 
--- src/walk.rt:75:15
 add-t7 : tie.Need-add-t7
 add-t7 c = search needs
 
--- src/walk.rt:76:14
 add-t8 : tie.Need-add-t8
 add-t8 c = search needs
 
--- src/walk.rt:62:1
 returns-2 : tie.Need-returns-2
 returns-2 c = search after-end
 

@@ -1,0 +1,19 @@
+use Rattle.record.proofs.Flags.{flag-read, flag-past}
+use borrow.Author.Needs.{needs}
+use Rattle.record.proofs.inverse.is_inverse.Statement.{statement}
+use Rattle.record.proofs.inverse.is_inverse.Tie as tie
+
+-- src/inverse.rt:12:16
+shared-slice-read-result : tie.Need-shared-slice-read-result
+shared-slice-read-result c = search needs
+
+-- src/inverse.rt:12:9
+returns : tie.Need-returns
+returns c = flag-read (c .before .before .args .flags .now) (c .before .before .args .cell)
+
+-- src/inverse.rt:8:1
+returns-2 : tie.Need-returns-2
+returns-2 c = search flag-past
+
+pub is-inverse-spec : {M : Type 1} → statement M
+is-inverse-spec = tie.close (tie.spec shared-slice-read-result returns returns-2)
