@@ -13,6 +13,8 @@ pub mod Lines
 pub mod Boxes
 pub mod Ellipses
 pub mod Text
+pub mod Print
+pub mod Cursor
 pub mod Poke
 pub mod Sends
 pub mod Calls
