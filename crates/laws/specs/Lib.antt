@@ -14,6 +14,8 @@ pub mod Record
 pub mod States
 pub mod Loops
 pub mod Stores
+pub mod Flags
+pub mod Scrolls
 pub mod Keys
 pub mod Writes
 pub mod Points

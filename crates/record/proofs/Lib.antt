@@ -2,3 +2,5 @@ pub mod Bands
 pub mod Entering
 pub mod Updates
 pub mod Opening
+pub mod Scrolling
+pub mod Flagging
