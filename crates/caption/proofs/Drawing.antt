@@ -20,7 +20,7 @@ use Rattle.model.specs.Record.{decode, encode}
 use Rattle.model.specs.Refusals.{refusal}
 use Rattle.model.specs.Marks.{Drawing, Drawn, drawn, drawnOn, marked}
 use Rattle.model.specs.Points.{drawMode, point, checkPoint}
-use Rattle.model.specs.Calls.{Outcome, drawPoint, checkPixel, lent, answered, flag, refusals, refused, numbers, drawing, done, outcome}
+use Rattle.model.specs.Calls.{Outcome, drawPoint, checkPixel, lent, answered, flag, refusals, refused, numbers, drawingWith, drawing, done, outcome}
 use Rattle.laws.specs.Pixels.{length-draw}
 use Rattle.laws.specs.Parts.{part-window, part-back}
 use Rattle.record.specs.declared.entry.Entry.{Entry}
@@ -50,7 +50,7 @@ pub drew : (d : Drawing) (r m : List ℕ) (h : Head) (k : Marks) (s : List ℕ) 
     → drawn k s ≡ drawnOn 20 80 d (take (h .graphics + 1600 - h .graphics) (drop (h .graphics) m))
     → t ≡ encode (marked base (k .dirty) (k .owed) (decode base r))
     → lent t (putMid (h .graphics) (h .graphics + 1600 - h .graphics) m s) [] ≡ drawing base d (lent r m [])
-unfolding drawing drawn decode
+unfolding drawingWith drawn decode
 drew d r m h k s n l e f =
     let g = h .graphics in
     let p = take (g + 1600 - g) (drop g m) in

@@ -6,3 +6,4 @@ pub mod Shapes
 pub mod Rounds
 pub mod Poking
 pub mod Sending
+pub mod Clearing

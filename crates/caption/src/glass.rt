@@ -5,4 +5,7 @@ pub const HEIGHT: usize = 80;
 
 pub const SCREEN_BYTES: usize = 1600;
 
+// The text cells.
+pub const TEXT_BYTES: usize = 100;
+
 pub const MEMORY_BYTES: usize = 65536;
