@@ -7,3 +7,4 @@ pub mod Rounds
 pub mod Poking
 pub mod Sending
 pub mod Clearing
+pub mod Blinking

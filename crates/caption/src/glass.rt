@@ -5,7 +5,11 @@ pub const HEIGHT: usize = 80;
 
 pub const SCREEN_BYTES: usize = 1600;
 
+pub const GLYPH_HEIGHT: u8 = 16;
+
 // The text cells.
+pub const COLUMNS: usize = 20;
+
 pub const TEXT_BYTES: usize = 100;
 
 pub const MEMORY_BYTES: usize = 65536;

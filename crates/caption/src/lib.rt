@@ -1,6 +1,7 @@
 // The exported calls. Each tests what it is lent and told, in the order of its refusals, and then does its work or changes nothing.
 // A contract cites the call's `outcome` (crates/model/specs/Calls.antt) on every input; `[]` stands for what the call is not lent.
 pub mod clear;
+pub mod cursor;
 pub mod dirty;
 pub mod ellipses;
 pub mod glass;
