@@ -1,7 +1,6 @@
 -- Scrolling: the loop that moves bytes up, several scrolls at once, and flags.
 use mathlib.Core.Path.{_≡_, refl, sym, ap, _∙_}
-use mathlib.Core.Bool.{Bool, false}
-use mathlib.Core.List.{List, [], _∷_, _++_, append-nil, append-assoc, map}
+use mathlib.Core.List.{List, _++_, append-nil, append-assoc}
 use Prim.Native.Nat.{ℕ, zero, suc, _+_, _-_, _*_, _<_, _≤_, min}
 use native.Mathlib.Nat.{zero-mul, zero-add, suc-add, le-of-lt, mul-le-mul-right, le-mul-of-pos-right, mul-comm}
 use native.Mathlib.Omega.{arith}
