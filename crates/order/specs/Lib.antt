@@ -10,6 +10,8 @@ pub mod Opens
 pub mod Draws
 pub mod Pokes
 pub mod Heads
+pub mod Texts
+pub mod Cursors
 pub mod Sent
 pub mod EachCall
 pub mod Parts
