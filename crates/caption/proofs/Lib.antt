@@ -8,3 +8,4 @@ pub mod Poking
 pub mod Sending
 pub mod Clearing
 pub mod Blinking
+pub mod Printing

@@ -1,7 +1,7 @@
 -- The exported calls: for each its refusals in testing order, and what it answers and leaves. Every exported contract cites `outcome`.
 use mathlib.Core.Bool.{Bool, true, cond, _&&_}
 use mathlib.Core.List.{List, [], _∷_}
-use Prim.Native.Nat.{ℕ, zero, suc}
+use Prim.Native.Nat.{ℕ}
 use lib.Dec.{leb, ltb, eqb}
 use lib.IntN.{ℤ}
 use lib.ListN.{length}
@@ -12,7 +12,7 @@ use Rattle.model.specs.declared.Sent.{Sent}
 use Rattle.model.specs.Geometry.{Geometry, height, rows, columns, screenBytes, memoryBytes}
 use Rattle.model.specs.Rects.{Rect, none}
 use Rattle.model.specs.Memory.{zeros, screenOf, withScreen}
-use Rattle.model.specs.Record.{State, decode, encode, valid, windows, recordBytes, withHead, withPending}
+use Rattle.model.specs.Record.{decode, encode, valid, windows, recordBytes, withHead, withPending}
 use Rattle.model.specs.Refusals.{LENT, STATE, WINDOW, VALUE, RADIUS, ENDLESS, Test, test, refusal, ruled}
 use Rattle.model.specs.Marks.{Drawing, drawnOn, marked, withDirty}
 use Rattle.model.specs.Open.{clearMemory, openState, resetState}

@@ -12,7 +12,7 @@ use Rattle.model.specs.Rects.{Rect, In, linesOf}
 use Rattle.model.specs.Record.{Bytes, Words, decode}
 use Rattle.model.specs.Refusals.{refusal}
 use Rattle.model.specs.Marks.{Drawing, whole, owing, owes}
-use Rattle.model.specs.Open.{nothingPending, openPending}
+use Rattle.model.specs.Open.{openPending}
 use Rattle.model.specs.Points.{drawMode, point}
 use Rattle.model.specs.Lines.{line}
 use Rattle.model.specs.Boxes.{box}
@@ -21,7 +21,7 @@ use Rattle.model.specs.Print.{Page, newlineOn, isInverse, printOn, pageO
 use Rattle.model.specs.Cursor.{blinkDrawing}
 use Rattle.model.specs.Poke.{pokeMark}
 use Rattle.model.specs.Sends.{sendPending}
-use Rattle.model.specs.Calls.{Call, opening, reset, drawPoint, drawLine, drawBox, drawCircle, drawEllipse, checkPixel, print, newline, cls, writeByte, getRow, getColumn, setRow, setColumn, setScreenMode, setPrintMode, blinkCursor, clearCursor, takeDirtyArea, send, Lent, Outcome, filled, refusals, outcome}
+use Rattle.model.specs.Calls.{Call, opening, reset, drawPoint, drawLine, drawBox, drawCircle, drawEllipse, checkPixel, print, newline, cls, writeByte, getRow, getColumn, setRow, setColumn, setScreenMode, setPrintMode, blinkCursor, clearCursor, takeDirtyArea, send, Lent, filled, refusals, outcome}
 use lib.ListN.{length}
 
 -- ---- lists of calls

@@ -14,7 +14,7 @@ use Rattle.model.specs.Memory.{withWindow, zeros}
 use Rattle.model.specs.Record.{State, decode, encode, flagByte, withHead, withFlags, flagsAt}
 use Rattle.model.specs.Marks.{marked}
 use Rattle.model.specs.Open.{clearFlags}
-use Rattle.laws.specs.Record.{Passing, Small}
+use Rattle.laws.specs.Record.{Small}
 use Rattle.laws.specs.Flags.{flags-passing, flags-read, no-flags, length-no-flags}
 use Rattle.record.specs.Entry.{Known}
 use Rattle.record.proofs.Updates.{passing}

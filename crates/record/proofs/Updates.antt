@@ -8,7 +8,7 @@ use Rattle.model.specs.declared.Head.{Head}
 use Rattle.model.specs.declared.Pending.{Pending}
 use Rattle.model.specs.Geometry.{base}
 use Rattle.model.specs.Memory.{withWindow}
-use Rattle.model.specs.Record.{Bytes, headOf, pendingOf, decode, encode, withHead, withPending, bytesOfHead, bytesOfPending, pendingAt}
+use Rattle.model.specs.Record.{Bytes, pendingOf, decode, encode, withHead, withPending, bytesOfHead, bytesOfPending, pendingAt}
 use Rattle.model.specs.Marks.{updateDirty, joinOwed, owing, marked}
 use Rattle.laws.specs.Record.{Passing}
 use Rattle.laws.specs.Stores.{put-head, put-pending, put-both, pending-kept}

@@ -1,7 +1,7 @@
 use Rattle.caption.proofs.Heads.{row-stops, row-ends}
 use borrow.Author.Needs.{needs}
-use Rattle.caption.proofs.text.caption_get_row.Statement.{statement}
-use Rattle.caption.proofs.text.caption_get_row.Tie as tie
+use Rattle.caption.proofs.place.caption_get_row.Statement.{statement}
+use Rattle.caption.proofs.place.caption_get_row.Tie as tie
 
 enter-requires : tie.Need-enter-requires
 enter-requires c κs = search needs

@@ -1,6 +1,6 @@
 use Rattle.caption.proofs.Heads.{is-print-normal, is-print-mode}
-use Rattle.caption.proofs.text.print_mode.Statement.{statement}
-use Rattle.caption.proofs.text.print_mode.Tie as tie
+use Rattle.caption.proofs.place.print_mode.Statement.{statement}
+use Rattle.caption.proofs.place.print_mode.Tie as tie
 
 returns : tie.Need-returns
 returns c = search is-print-normal

@@ -1,7 +1,7 @@
 use Rattle.caption.proofs.Heads.{is-with-print}
 use borrow.Author.Needs.{needs}
-use Rattle.caption.proofs.text.with_print_mode.Statement.{statement}
-use Rattle.caption.proofs.text.with_print_mode.Tie as tie
+use Rattle.caption.proofs.place.with_print_mode.Statement.{statement}
+use Rattle.caption.proofs.place.with_print_mode.Tie as tie
 
 print-mode-requires : tie.Need-print-mode-requires
 print-mode-requires c κs = search needs

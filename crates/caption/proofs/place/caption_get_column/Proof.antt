@@ -1,7 +1,7 @@
 use Rattle.caption.proofs.Heads.{column-stops, column-ends}
 use borrow.Author.Needs.{needs}
-use Rattle.caption.proofs.text.caption_get_column.Statement.{statement}
-use Rattle.caption.proofs.text.caption_get_column.Tie as tie
+use Rattle.caption.proofs.place.caption_get_column.Statement.{statement}
+use Rattle.caption.proofs.place.caption_get_column.Tie as tie
 
 enter-requires : tie.Need-enter-requires
 enter-requires c κs = search needs

@@ -1,7 +1,7 @@
 use mathlib.Core.Path.{refl}
 use Rattle.model.specs.Text.{withColumn}
-use Rattle.caption.proofs.text.with_column.Statement.{statement}
-use Rattle.caption.proofs.text.with_column.Tie as tie
+use Rattle.caption.proofs.place.with_column.Statement.{statement}
+use Rattle.caption.proofs.place.with_column.Tie as tie
 
 returns : tie.Need-returns
 unfolding withColumn

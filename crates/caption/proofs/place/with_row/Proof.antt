@@ -1,7 +1,7 @@
 use mathlib.Core.Path.{refl}
 use Rattle.model.specs.Text.{withRow}
-use Rattle.caption.proofs.text.with_row.Statement.{statement}
-use Rattle.caption.proofs.text.with_row.Tie as tie
+use Rattle.caption.proofs.place.with_row.Statement.{statement}
+use Rattle.caption.proofs.place.with_row.Tie as tie
 
 returns : tie.Need-returns
 unfolding withRow
