@@ -8,3 +8,6 @@ pub mod Poking
 pub mod Sending
 pub mod Painting
 pub mod Flushing
+pub mod Clearing
+pub mod Blinking
+pub mod Printing

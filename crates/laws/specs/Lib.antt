@@ -14,6 +14,10 @@ pub mod Record
 pub mod States
 pub mod Loops
 pub mod Stores
+pub mod Flags
+pub mod Scrolls
+pub mod Pages
+pub mod Prints
 pub mod Keys
 pub mod Writes
 pub mod Points

@@ -14,6 +14,8 @@ pub mod Boxes
 pub mod Ellipses
 pub mod Bitmaps
 pub mod Text
+pub mod Print
+pub mod Cursor
 pub mod Poke
 pub mod Codes
 pub mod Glyphs

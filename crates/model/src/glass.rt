@@ -7,6 +7,11 @@ pub const HEIGHT: usize = 80;
 
 pub const SCREEN_BYTES: usize = 1600;
 
+// A glyph's lines, and the screen bytes of a text row.
+pub const GLYPH_HEIGHT: u8 = 16;
+
+pub const ROW_BYTES: usize = 320;
+
 // One past the last pixel, across and down.
 pub const RIGHT: u16 = 160;
 

@@ -61,7 +61,7 @@ pub record Promised (start : Lent) (items : List (Item base)) (l : Lent) : Type 
   pub level-row : let l′ = run base l (replicate (linesIn l) (here send tt)) in differing base (screenIn l′) (l′ .panel) ≡ 0
 
 glass : Glass base
-glass = record { small = record { wide = omega arith; high = omega arith }; stride = omega arith; row = omega arith; fits = omega arith }
+glass = record { small = record { wide = omega arith; high = omega arith }; stride = omega arith; columns = omega arith; cursor = omega arith; row = omega arith; fits = omega arith; text = omega arith }
 
 promised : (start : Lent) (items : List (Item base)) (l : Lent) → l ≡ run base start items → pendingIn l ≡ reckoned base (nothingPending base) start items
     → Standing base l → Promised start items l
