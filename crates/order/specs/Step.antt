@@ -5,7 +5,7 @@ use Prim.Native.Nat.{ℕ, _+_, _≤_, _<_}
 use native.Mathlib.Omega.{arith}
 use lib.ListN.{length}
 use Rattle.model.specs.declared.Rect.{Rect}
-use Rattle.model.specs.Geometry.{Geometry, width, height, screenBytes, rows, columns, cells, memoryBytes}
+use Rattle.model.specs.Geometry.{Geometry, base, width, height, screenBytes, rows, columns, cells, memoryBytes}
 use Rattle.model.specs.Memory.{screenOf}
 use Rattle.model.specs.Record.{State, WellFormed, decode, encode, windows, windowTests}
 use Rattle.model.specs.Calls.{Lent, lent}
@@ -31,6 +31,17 @@ pub record Glass (g : Geometry) : Type 0 where
   pub row : 0 < rows g
   pub fits : screenBytes g < memoryBytes
   pub text : cells g < memoryBytes
+
+pub base-glass : Glass base
+base-glass = record {
+  small = record { wide = omega arith; high = omega arith };
+  stride = omega arith;
+  columns = omega arith;
+  cursor = omega arith;
+  row = omega arith;
+  fits = omega arith;
+  text = omega arith;
+}
 
 -- lent bytes as an accepted call leaves them
 pub record Good (g : Geometry) (l : Lent) : Type 0 where

@@ -18,7 +18,7 @@ use Rattle.model.specs.Memory.{zeros, window}
 use Rattle.model.specs.Refusals.{LENT, STATE, VALUE, SOURCE, test, refusal, ruled}
 use Rattle.model.specs.Marks.{within, owes}
 use Rattle.model.specs.Bitmaps.{paintMode, paintOp, sourceFits, shown, shownRect, paintedLine, paintedLines, bitmap}
-use Rattle.model.specs.Calls.{paintBitmap, Lent, Outcome, answered, refusals, numbers, refused, drawing, done, outcome}
+use Rattle.model.specs.Calls.{paintBitmap, Lent, Outcome, answered, refusals, numbers, refused, drawingWith, drawing, done, outcome}
 use Rattle.pictures.specs.Picture.{rect, sets, clears, Unmarked, Drew}
 use Rattle.pictures.specs.Writes.{hits, made, same, alike, allOn, eachMade, names, othersKept, pictured}
 use Rattle.pictures.specs.Drawings.{lent-fits, accepted-on, outcome-done, drew}

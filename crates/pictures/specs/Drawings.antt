@@ -15,7 +15,7 @@ use Rattle.model.specs.Memory.{screenOf, withScreen}
 use Rattle.model.specs.Record.{State, WellFormed, decode, encode}
 use Rattle.model.specs.Refusals.{Test, refusal, ruled}
 use Rattle.model.specs.Marks.{Drawing, updateDirty, joinOwed, owing, owes, marked, drawnOn, withDirty}
-use Rattle.model.specs.Calls.{Call, Lent, answered, lentTest, stateTest, memoryFits, refusals, drawing, refused, done, outcome}
+use Rattle.model.specs.Calls.{Call, Lent, answered, lentTest, stateTest, memoryFits, refusals, drawingWith, drawing, refused, done, outcome}
 use Rattle.laws.specs.Rects.{Fits}
 use Rattle.laws.specs.Calls.{AllPass, pass-accepted}
 use Rattle.laws.specs.Memory.{window-same}
@@ -23,12 +23,9 @@ use Rattle.laws.specs.Pixels.{length-draw}
 use Rattle.laws.specs.Record.{Passing, decode-encode}
 use Rattle.laws.specs.States.{well-formed}
 use Rattle.order.specs.Formed.{marked-formed}
-use Rattle.order.specs.Step.{Glass, screen-in, screen-long}
+use Rattle.order.specs.Step.{base-glass, screen-in, screen-long}
 use Rattle.pictures.specs.Picture.{Unmarked, Drew, withMarks, graphicsIn, screenIn}
 use Rattle.pictures.specs.Writes.{pictured, changed}
-
-pub glass : Glass base
-glass = record { small = record { wide = omega arith; high = omega arith }; stride = omega arith; row = omega arith; fits = omega arith }
 
 -- what a drawing owes on the screen
 abbrev pub owedBy : Drawing → Rect
@@ -42,7 +39,7 @@ module _ (l : Lent) (u : Unmarked l) where
   formed = well-formed base (l .rec) passing
 
   pub screen-fits : graphicsIn l + 1600 ≤ length (l .memory)
-  screen-fits = rw (u .memory) (screen-in base glass (decode base (l .rec)) formed)
+  screen-fits = rw (u .memory) (screen-in base base-glass (decode base (l .rec)) formed)
 
   pub lent-fits : (eqb (length (l .rec)) 170 && memoryFits l) ≡ true
   lent-fits = λ i. eq-eqb (length (l .rec)) 170 (u .sized) i && eq-eqb (length (l .memory)) 65536 (u .memory) i
@@ -77,29 +74,29 @@ module _ (l : Lent) (u : Unmarked l) where
 
   module _ (d : Drawing) (dirty owed : Rect) (f : Fits 256 0 256 dirty) (e : d .dirty ≡ dirty) (o : cut 160 0 80 (owedBy d) ≡ owed) where
     left-rec : drawing base d l .rec ≡ encode (withMarks dirty owed (decode base (l .rec)))
-    unfolding drawing drawnOn
+    unfolding drawingWith drawnOn
     left-rec = ap encode (marks-only (d .dirty) (owedBy d) dirty owed e o)
 
     left-state : decode base (drawing base d l .rec) ≡ withMarks dirty owed (decode base (l .rec))
     left-state =
         let m = marks-only dirty (owedBy d) dirty owed refl o in
         let w : WellFormed base (withMarks dirty owed (decode base (l .rec))) = rw m at (marked-formed base dirty (owedBy d) (decode base (l .rec)) f formed) in
-        ap (decode base) left-rec ∙ decode-encode base (withMarks dirty owed (decode base (l .rec))) w (glass .small)
+        ap (decode base) left-rec ∙ decode-encode base (withMarks dirty owed (decode base (l .rec))) w (base-glass .small)
 
     -- the screen is what the writes leave
     left-screen : screenIn (drawing base d l) ≡ draw 20 (seen 20 80 (d .writes)) (screenIn l)
-    unfolding drawing drawnOn
+    unfolding drawingWith drawnOn
     left-screen =
         let s = decode base (l .rec) in
         let new = draw 20 (seen 20 80 (d .writes)) (screenIn l) in
-        let long : length new ≡ 1600 = length-draw 20 (seen 20 80 (d .writes)) (screenIn l) ∙ screen-long base glass s (l .memory) formed (u .memory) in
+        let long : length new ≡ 1600 = length-draw 20 (seen 20 80 (d .writes)) (screenIn l) ∙ screen-long base base-glass s (l .memory) formed (u .memory) in
         ap (λ (t : State). screenOf base (t .head .graphics) (withScreen (graphicsIn l) new (l .memory))) left-state
         ∙ window-same (graphicsIn l) 1600 new (l .memory) long screen-fits
 
   pub drew : (c : Call) (ts : List Test) (d : Drawing) (ps : List PixelWrite) (dirty owed : Rect)
       → refusals base c l ≡ lentTest base (l .rec) (memoryFits l) ∷ stateTest base (l .rec) ∷ ts → AllPass ts → done base c l ≡ answered 0 [] (drawing base d l)
       → Fits 256 0 256 dirty → d .dirty ≡ dirty → cut 160 0 80 (owedBy d) ≡ owed → pictured (seen 20 80 (d .writes)) ps ≡ true → Drew l ps dirty owed (outcome base c l)
-  unfolding answered drawing drawnOn
+  unfolding answered drawingWith drawnOn
   drew c ts d ps dirty owed t a k f e o p =
       let s = decode base (l .rec) in
       let q : outcome base c l ≡ answered 0 [] (drawing base d l) = outcome-done c (accepted-on c ts t a) ∙ k in
@@ -110,7 +107,7 @@ module _ (l : Lent) (u : Unmarked l) where
         numbers = refl;
         dirty = ap (λ (z : State). z .head .dirty) (left-state d dirty owed f e o);
         owed = ap (λ (z : State). z .pending .owed) (left-state d dirty owed f e o);
-        pixels = rw screen (changed (seen 20 80 (d .writes)) ps (screenIn l) (screen-long base glass s (l .memory) formed (u .memory)) p);
+        pixels = rw screen (changed (seen 20 80 (d .writes)) ps (screenIn l) (screen-long base base-glass s (l .memory) formed (u .memory)) p);
         rec = left-rec d dirty owed f e o;
         memory = ap (λ (z : List ℕ). withScreen (graphicsIn l) z (l .memory)) (sym screen);
         panel = refl;

@@ -19,7 +19,7 @@ use Rattle.model.specs.Marks.{updateDirty, joinOwed, owing, within, owes, marke
 use Rattle.model.specs.Open.{isKey, withKeys, clearMemory, nothingPending, openPending, openState}
 use Rattle.model.specs.Points.{pointOp, pointRect, point}
 use Rattle.model.specs.Sends.{firstOwed, restOwed, takeOwed, nextLine, lineSent, sendPending, lineNumbers, sendNumbers, copyLine, sendPanel}
-use Rattle.model.specs.Calls.{Call, drawPoint, send, Lent, lent, Outcome, answered, refusals, drawing, refused, done, outcome}
+use Rattle.model.specs.Calls.{Call, drawPoint, send, Lent, lent, Outcome, answered, refusals, drawingWith, drawing, refused, done, outcome}
 use Rattle.model.specs.Lists.{owedLines, linesLeft, differing}
 use Rattle.model.specs.Script.Read.{onFirst, lines, isDigit, goesOn, digits, atMost, number, word, orElse, mode, piece, isField, kept, andThen, matched, Line, call, choose, form, read}
 use Rattle.model.specs.Script.Run.{spelled, spaced, printed, endWord, said, answer, leaves, noKeys, opened, ending, runFrom, run, text}
@@ -88,7 +88,7 @@ dotted s = put 20 s 3 0 true
 module _ (s : State) (k : Encoded s) (m p : List ℕ) (hm : length m ≡ 65536) where
   point-done : outcome base (drawPoint 3 0 1) (lent (encode s) m p)
       ≡ answered 0 [] (lent (encode (pointed s)) (withScreen (s .head .graphics) (dotted (screenOf base (s .head .graphics) m)) m) p)
-  unfolding outcome ruled refusals done drawing drawnOn point pointRect pointOp onScreen seen draw writePixel owes within inside dotted pointed
+  unfolding outcome ruled refusals done drawingWith drawnOn point pointRect pointOp onScreen seen draw writePixel owes within inside dotted pointed
   point-done =
       let l = lent (encode s) m p in
       let c = drawPoint 3 0 1 in

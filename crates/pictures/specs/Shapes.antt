@@ -19,7 +19,7 @@ use Rattle.model.specs.Points.{drawMode, pointOp, pointRect, point}
 use Rattle.model.specs.Lines.{isUnknown, runOp, pixelRun, horizontal, horizontalLine, stepped, nextError, slope, sloped, slopedLine, line}
 use Rattle.model.specs.Boxes.{rows, filledBox, boxOf, box}
 use Rattle.model.specs.Ellipses.{start, moves, advanced, turns, turned, xStep, yStep, part, xParts, yParts, step, stepParts, ended, partsFrom, stepsFrom, parts, steps, corners, partWrites, partsWrites, wraps, ellipseMark, ellipseDrawn, isPoint, isNothing, ellipse, circle, radiiFit, stepsFit}
-use Rattle.model.specs.Calls.{drawPoint, drawLine, drawBox, drawCircle, Lent, lent, answered, refusals, drawing, done, outcome}
+use Rattle.model.specs.Calls.{drawPoint, drawLine, drawBox, drawCircle, Lent, lent, answered, refusals, drawingWith, drawing, done, outcome}
 use Rattle.laws.specs.Stores.{unmarked}
 use Rattle.pictures.specs.Picture.{rect, sets, inverts, Unmarked, Picture, screenIn, graphicsIn}
 use Rattle.pictures.specs.Writes.{hits, made, same, alike, allOn, eachMade, names, othersKept, pictured}
@@ -37,7 +37,7 @@ window-back b n m h =
     ∙ take-append-drop b m
 
 pub point-off : (mode : ℕ) → mode ≤ 3 → (l : Lent) → Unmarked l → outcome base (drawPoint 160 0 mode) l ≡ answered 0 [] l
-unfolding refusals done drawing drawnOn point pointRect onScreen seen draw owes within answered
+unfolding refusals done drawingWith drawnOn point pointRect onScreen seen draw owes within answered
 point-off mode h l u =
     outcome-done l u (drawPoint 160 0 mode) (accepted-on l u (drawPoint 160 0 mode) (test VALUE (leb mode 3) ∷ []) refl (le-leb mode 3 h, tt))
     ∙ (λ i. answered 0 [] (lent (unmarked base (l .rec) (passing l u) i) (window-back (graphicsIn l) 1600 (l .memory) (screen-fits l u) i) (l .panel)))

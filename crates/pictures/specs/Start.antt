@@ -12,7 +12,7 @@ use Rattle.model.specs.Script.Run.{noKeys}
 use Rattle.laws.specs.Loops.{length-zeros}
 use Rattle.laws.specs.States.{encode-passing}
 use Rattle.pictures.specs.Picture.{Unmarked}
-use Rattle.pictures.specs.Drawings.{glass}
+use Rattle.order.specs.Step.{base-glass}
 
 abbrev clearState : State
 clearState = record { head = clearHead 4096 8192 1; pending = nothingPending base; keys = noKeys; flags = clearFlags base }
@@ -27,5 +27,5 @@ formed = record { passes = refl; bands = refl; counted = omega arith; words = re
 pub clear-unmarked : Unmarked clearBytes
 unfolding clearBytes nothingPending encode decode
 clear-unmarked =
-    let p = encode-passing base (glass .small) clearState formed in
+    let p = encode-passing base (base-glass .small) clearState formed in
     record { sized = p .sized; bytes = p .bytes; passes = p .passes; memory = length-zeros 65536; dirty = refl; owed = refl }
