@@ -1,6 +1,5 @@
 // `caption_cls` and `caption_set_screen_mode`.
 use model::Head;
-use model::Marks;
 use model::glass::MEMORY_BYTES;
 use model::glass::SCREEN_BYTES;
 use model::glass::TEXT_BYTES;
@@ -28,15 +27,6 @@ fn first_place(h: Head, mode: u8) -> Head
     n
 }
 
-fn whole_marks() -> Marks
-    ensures { λ r. ⌜ (r .dirty ≡ whole 20 80) × (r .owed ≡ whole 20 80) ⌝ }
-{
-    Marks {
-        dirty: update::whole_screen(),
-        owed: update::whole_screen(),
-    }
-}
-
 // Text and screen.
 fn clear_windows(memory: &mut [u8], h: Head)
     requires { ⌜ (length (now memory) ≡ 65536) × (h .graphics ≤ 63935) × (h .text ≤ 65435) ⌝ }
@@ -56,7 +46,7 @@ fn clear_done(rec: &mut [u8], memory: &mut [u8], h: Head, mode: u8) -> u32
     ensures { λ r. ⌜ answered r [] (lent (now (rec .exit)) (now (memory .exit)) []) ≡ done base (setScreenMode mode) (lent (now (rec .entry)) (now (memory .entry)) []) ⌝ }
 {
     clear_windows(memory, h);
-    update::clear_record(rec, h, first_place(h, mode), whole_marks());
+    update::clear_record(rec, h, first_place(h, mode), update::whole_marks());
     0
 }
 

@@ -2,7 +2,6 @@
 use flush::fit;
 use flush::page;
 use model::Head;
-use model::Marks;
 use model::glass::MEMORY_BYTES;
 use model::glass::SCREEN_BYTES;
 use model::glass::STRIDE;
@@ -54,15 +53,6 @@ fn glyphs_fit(
     )
 }
 
-fn whole_marks() -> Marks
-    ensures { λ r. ⌜ (r .dirty ≡ whole 20 80) × (r .owed ≡ whole 20 80) ⌝ }
-{
-    Marks {
-        dirty: update::whole_screen(),
-        owed: update::whole_screen(),
-    }
-}
-
 fn flush_done<'a>(
     rec: &mut [u8],
     memory: &mut [u8],
@@ -81,7 +71,7 @@ fn flush_done<'a>(
 {
     let at = h.text as usize;
     let end = at + TEXT_BYTES;
-    let mut text = [0u8; 100];
+    let mut text = [0u8; TEXT_BYTES];
     page::copy_text(&memory[at..end], &mut text);
     let from = h.graphics as usize;
     let to = from + SCREEN_BYTES;
@@ -101,7 +91,7 @@ fn flush_done<'a>(
         list,
         extra,
     );
-    update::mark_record(rec, h, whole_marks());
+    update::mark_record(rec, h, update::whole_marks());
     0
 }
 

@@ -79,6 +79,15 @@ pub fn whole_screen() -> Rect
     }
 }
 
+pub fn whole_marks() -> Marks
+    ensures { λ r. ⌜ (r .dirty ≡ whole 20 80) × (r .owed ≡ whole 20 80) ⌝ }
+{
+    Marks {
+        dirty: whole_screen(),
+        owed: whole_screen(),
+    }
+}
+
 // Bases and version stay; row, column, modes, cursor and dirty are as at first.
 fn clear_head(h: Head) -> Head
     ensures { λ r. ⌜ r ≡ clearHead (h .graphics) (h .text) (h .version) ⌝ }
