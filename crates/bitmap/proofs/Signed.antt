@@ -1,4 +1,4 @@
--- A signed place on an axis, as `shown` tests and casts it. The machine reads the number back from its bits, which changes nothing, and `!z` of
+-- A signed place on an axis, as `visible` tests and casts it. The machine reads the number back from its bits, which changes nothing, and `!z` of
 -- a negative z is its distance from -1.
 use mathlib.Core.Path.{_≡_, refl, sym, ap, _∙_}
 use mathlib.Core.Bool.{true, false}
@@ -11,9 +11,9 @@ use mir.Syntax.{w32, w64}
 use mir.Val.{Fits, toZ, ofZ}
 use mir.Facts.{toZ-ofZ}
 use borrow.Author.Tests.{ltb-true, lt-ltb}
-use Rattle.model.specs.declared.Shown.{Shown}
-use Rattle.model.specs.Bitmaps.{shown}
-use Rattle.laws.specs.Bitmaps.{shown-before, shown-after}
+use Rattle.model.specs.declared.Visible.{Visible}
+use Rattle.model.specs.Bitmaps.{visible}
+use Rattle.laws.specs.Bitmaps.{visible-before, visible-after}
 
 -- the number as the machine reads it, and `!z`
 abbrev read : ℤ → ℤ
@@ -60,13 +60,13 @@ before-add z f h =
     let l : p .0 < 2 ^ 31 = rw (p .1) at f in
     rw (inverted-is z f (p .1)) (record { fits = omega arith })
 
-pub before-shown : (z : ℤ) (n size : ℕ) {a b : ℕ} → mag z < 2 ^ 31 → ltZ (read z) (pos 0) ≡ true → a ≡ n - (natAbs (inverted z) + 1) → b ≡ min a size
-    → _≡_ {A = Shown} (record { skip = natAbs (inverted z) + 1; from = 0; to = b }) (shown z n size)
-before-shown z n size {a} {b} f h p q =
+pub before-visible : (z : ℤ) (n size : ℕ) {a b : ℕ} → mag z < 2 ^ 31 → ltZ (read z) (pos 0) ≡ true → a ≡ n - (natAbs (inverted z) + 1) → b ≡ min a size
+    → _≡_ {A = Visible} (record { skip = natAbs (inverted z) + 1; from = 0; to = b }) (visible z n size)
+before-visible z n size {a} {b} f h p q =
     let k = negative z f h in
     let i : natAbs (inverted z) ≡ k .0 = ap natAbs (inverted-is z f (k .1)) in
     let r : b ≡ min (n - (k .0 + 1)) size = q ∙ ap (λ (x : ℕ). min x size) (p ∙ ap (λ (x : ℕ). n - (x + 1)) i) in
-    (λ j. record { skip = i j + 1; from = 0; to = r j }) ∙ sym (shown-before (k .0) n size) ∙ ap (λ (x : ℤ). shown x n size) (sym (k .1))
+    (λ j. record { skip = i j + 1; from = 0; to = r j }) ∙ sym (visible-before (k .0) n size) ∙ ap (λ (x : ℤ). visible x n size) (sym (k .1))
 
 pub after-add : (z : ℤ) (n : ℕ) → mag z < 2 ^ 31 → ltZ (read z) (pos 0) ≡ false → n < 256 → Fits w64 (natAbs (read z) + n)
 after-add z n f h s =
@@ -74,10 +74,10 @@ after-add z n f h s =
     let l : p .0 < 2 ^ 31 = rw (p .1) at f in
     rw (same z f, p .1) (record { fits = omega arith })
 
-pub after-shown : (z : ℤ) (n size : ℕ) {b : ℕ} → mag z < 2 ^ 31 → ltZ (read z) (pos 0) ≡ false → b ≡ min (natAbs (read z) + n) size
-    → _≡_ {A = Shown} (record { skip = 0; from = natAbs (read z); to = b }) (shown z n size)
-after-shown z n size {b} f h q =
+pub after-visible : (z : ℤ) (n size : ℕ) {b : ℕ} → mag z < 2 ^ 31 → ltZ (read z) (pos 0) ≡ false → b ≡ min (natAbs (read z) + n) size
+    → _≡_ {A = Visible} (record { skip = 0; from = natAbs (read z); to = b }) (visible z n size)
+after-visible z n size {b} f h q =
     let k = positive z f h in
     let i : natAbs (read z) ≡ k .0 = ap natAbs (same z f ∙ k .1) in
     let r : b ≡ min (k .0 + n) size = q ∙ ap (λ (x : ℕ). min (x + n) size) i in
-    (λ j. record { skip = 0; from = i j; to = r j }) ∙ sym (shown-after (k .0) n size) ∙ ap (λ (x : ℤ). shown x n size) (sym (k .1))
+    (λ j. record { skip = 0; from = i j; to = r j }) ∙ sym (visible-after (k .0) n size) ∙ ap (λ (x : ℤ). visible x n size) (sym (k .1))

@@ -6,13 +6,13 @@ ghost use Rattle.model.specs.Pixels.{Screen, writePixel, draw};
 ghost use Rattle.model.specs.Marks.{drawn, drawnOn};
 ghost use Rattle.model.specs.Bitmaps.{sourceBytes, paintedPixel, paintedLine, paintedLines, bitmap};
 ghost use Rattle.laws.specs.Points.{both};
-ghost use Rattle.laws.specs.Bitmaps.{paintAs, shownMark};
-use crate::axis::shown;
+ghost use Rattle.laws.specs.Bitmaps.{paintAs, visibleMark};
+use crate::axis::visible;
 use model::DrawMode;
 use model::Marks;
 use model::PaintMode;
 use model::Rect;
-use model::Shown;
+use model::Visible;
 use pixels::marks::no_marks;
 use pixels::point::pixel;
 use pixels::point::plot_mask;
@@ -71,7 +71,7 @@ fn paint_line(
     bytes: usize,
     lines: usize,
     source: &[u8],
-    across: Shown,
+    across: Visible,
     j: usize,
     y: usize,
     mode: PaintMode,
@@ -110,8 +110,8 @@ fn paint_lines(
     bytes: usize,
     lines: usize,
     source: &[u8],
-    across: Shown,
-    down: Shown,
+    across: Visible,
+    down: Visible,
     mode: PaintMode,
 )
     requires { ⌜ Screen stride height (now screen) ⌝ }
@@ -140,9 +140,9 @@ fn paint_lines(
     }
 }
 
-fn shown_marks(across: Shown, down: Shown) -> Marks
+fn visible_marks(across: Visible, down: Visible) -> Marks
     requires { ⌜ (across .from < across .to) × (across .to ≤ 256) × (down .from < down .to) × (down .to ≤ 256) ⌝ }
-    ensures { λ r. ⌜ r ≡ both (shownMark across down) ⌝ }
+    ensures { λ r. ⌜ r ≡ both (visibleMark across down) ⌝ }
 {
     let area = Rect {
         left: across.from as u16,
@@ -172,8 +172,8 @@ pub fn paint_bitmap(
     requires { ⌜ length (now source) ≡ sourceBytes width lines ⌝ }
     ensures { λ r. ⌜ drawn r (now (screen .exit)) ≡ drawnOn stride height (bitmap stride height (now (source .entry)) x y width lines mode) (now (screen .entry)) ⌝ }
 {
-    let across = shown(x, width as usize, 8 * stride);
-    let down = shown(y, lines as usize, height);
+    let across = visible(x, width as usize, 8 * stride);
+    let down = visible(y, lines as usize, height);
     if across.to <= across.from {
         return no_marks();
     }
@@ -192,5 +192,5 @@ pub fn paint_bitmap(
         down,
         mode,
     );
-    shown_marks(across, down)
+    visible_marks(across, down)
 }

@@ -10,7 +10,7 @@ use lib.IntN.{ℤ, pos, negsuc, subℕ}
 use borrow.Author.Tests.{lt-ltb, le-ltb}
 use Rattle.model.specs.declared.Rect.{Rect}
 use Rattle.model.specs.declared.Marks.{Marks}
-use Rattle.model.specs.declared.Shown.{Shown}
+use Rattle.model.specs.declared.Visible.{Visible}
 use Rattle.model.specs.declared.DrawMode.{DrawMode}
 use Rattle.model.specs.declared.DrawMode.the-variants as Draw
 use Rattle.model.specs.declared.PaintMode.{PaintMode}
@@ -19,7 +19,7 @@ use Rattle.model.specs.Pixels.{PixelWrite, bit, writePixel, draw, seen}
 use Rattle.model.specs.Rects.{none, fits}
 use Rattle.model.specs.Marks.{within, owes, drawn, drawnOn}
 use Rattle.model.specs.Points.{pointOp, pointWrite}
-use Rattle.model.specs.Bitmaps.{paintOp, sourceStride, maxZero, shown, shownRect, paintedPixel, paintedLine, paintedLines, bitmap}
+use Rattle.model.specs.Bitmaps.{paintOp, sourceStride, maxZero, visible, visibleRect, paintedPixel, paintedLine, paintedLines, bitmap}
 use Rattle.laws.specs.Tests.{tests, if-cases, by-lt}
 use Rattle.laws.specs.Rects.{fits-passes}
 use Rattle.laws.specs.Writes.{draw-append, seen-append, within-append, within-none, within-more, owes-mark, drawn-is}
@@ -64,25 +64,25 @@ painted-pixel st k source m i j x y s e p q w =
 max-sub : (n k : ℕ) → maxZero (subℕ n k) ≡ n - k
 max-sub n k = if-cases (λ (z : ℤ). maxZero z ≡ n - k) (ltb n k) (λ e. omega (arith, tests)) (λ e. refl)
 
-pub shown-before : (z n size : ℕ) → shown (negsuc z) n size ≡ record { skip = z + 1; from = 0; to = min (n - (z + 1)) size }
-unfolding shown
-shown-before z n size =
+pub visible-before : (z n size : ℕ) → visible (negsuc z) n size ≡ record { skip = z + 1; from = 0; to = min (n - (z + 1)) size }
+unfolding visible
+visible-before z n size =
     let a : suc z ≡ z + 1 = omega arith in
     let b : maxZero (subℕ n (suc z)) ≡ n - (z + 1) = max-sub n (suc z) ∙ ap (λ (k : ℕ). n - k) a in
     λ i. record { skip = a i; from = 0; to = min (b i) size }
 
-pub shown-after : (z n size : ℕ) → shown (pos z) n size ≡ record { skip = 0; from = z; to = min (z + n) size }
-unfolding shown
-shown-after zero n size = refl
-shown-after (suc z) n size = refl
+pub visible-after : (z n size : ℕ) → visible (pos z) n size ≡ record { skip = 0; from = z; to = min (z + n) size }
+unfolding visible
+visible-after zero n size = refl
+visible-after (suc z) n size = refl
 
--- what is shown lies on the axis and among the n places
-pub shown-in : (z : ℤ) (n size : ℕ) → shown z n size .from < shown z n size .to
-    → (shown z n size .skip + (shown z n size .to - shown z n size .from) ≤ n) × (shown z n size .to ≤ size)
-unfolding shown
-shown-in (pos zero) n size h = omega arith
-shown-in (pos (suc z)) n size h = omega arith
-shown-in (negsuc z) n size h = let e = max-sub n (suc z) in omega arith
+-- what is visible lies on the axis and among the n places
+pub visible-in : (z : ℤ) (n size : ℕ) → visible z n size .from < visible z n size .to
+    → (visible z n size .skip + (visible z n size .to - visible z n size .from) ≤ n) × (visible z n size .to ≤ size)
+unfolding visible
+visible-in (pos zero) n size h = omega arith
+visible-in (pos (suc z)) n size h = omega arith
+visible-in (negsuc z) n size h = let e = max-sub n (suc z) in omega arith
 
 -- ---- one line
 
@@ -116,7 +116,7 @@ module _ (k : ℕ) (source : List ℕ) (m : PaintMode) where
 
   -- ---- all lines
 
-  module _ (across : Shown) where
+  module _ (across : Visible) where
     lines-within : (r : Rect) (j y n : ℕ) → r .left ≤ across .from → across .from < across .to → across .to ≤ r .right → r .top ≤ y → y + n ≤ r .bottom
         → within r (paintedLines k source m across j y n) ≡ true
     unfolding paintedLines
@@ -158,67 +158,67 @@ module _ (k : ℕ) (source : List ℕ) (m : PaintMode) where
 
 -- ---- the whole bitmap, with its marks
 
-abbrev pub shownMark : Shown → Shown → Rect
-shownMark across down = record { left = across .from; top = down .from; right = across .to; bottom = down .to }
+abbrev pub visibleMark : Visible → Visible → Rect
+visibleMark across down = record { left = across .from; top = down .from; right = across .to; bottom = down .to }
 
-rect-shown : (across down : Shown) → across .from < across .to → down .from < down .to → shownRect across down ≡ shownMark across down
-unfolding shownRect
-rect-shown across down a b = rw (lt-ltb (across .from) (across .to) a, lt-ltb (down .from) (down .to) b)
+rect-visible : (across down : Visible) → across .from < across .to → down .from < down .to → visibleRect across down ≡ visibleMark across down
+unfolding visibleRect
+rect-visible across down a b = rw (lt-ltb (across .from) (across .to) a, lt-ltb (down .from) (down .to) b)
 
-rect-beside : (across down : Shown) → across .to ≤ across .from → shownRect across down ≡ none
-unfolding shownRect
+rect-beside : (across down : Visible) → across .to ≤ across .from → visibleRect across down ≡ none
+unfolding visibleRect
 rect-beside across down a = rw (le-ltb (across .from) (across .to) a)
 
-rect-below : (across down : Shown) → across .from < across .to → down .to ≤ down .from → shownRect across down ≡ none
-unfolding shownRect
+rect-below : (across down : Visible) → across .from < across .to → down .to ≤ down .from → visibleRect across down ≡ none
+unfolding visibleRect
 rect-below across down a b = rw (lt-ltb (across .from) (across .to) a, le-ltb (down .from) (down .to) b)
 
 module _ (st h : ℕ) (source : List ℕ) (x y : ℤ) (w n : ℕ) (m : PaintMode) where
-  abbrev writes-of : Shown → Shown → List PixelWrite
+  abbrev writes-of : Visible → Visible → List PixelWrite
   writes-of across down = paintedLines (sourceStride w) source m across (down .skip) (down .from) (down .to - down .from)
 
-  within-shown : (across down : Shown) → within (shownRect across down) (writes-of across down) ≡ true
+  within-visible : (across down : Visible) → within (visibleRect across down) (writes-of across down) ≡ true
   unfolding paintedLines
-  within-shown across down =
+  within-visible across down =
       by-lt (across .from) (across .to)
       (λ a. by-lt (down .from) (down .to)
-      (λ b. rw (rect-shown across down a b) (lines-within (sourceStride w) source m across (shownMark across down) (down .skip) (down .from) (down .to - down .from) (omega arith) a (omega arith) (omega arith) (omega arith)))
-      (λ b. let e : down .to - down .from ≡ zero = omega arith in rw e (within-none (shownRect across down))))
-      (λ a. rw (lines-none (sourceStride w) source m across (down .skip) (down .from) (down .to - down .from) a) (within-none (shownRect across down)))
+      (λ b. rw (rect-visible across down a b) (lines-within (sourceStride w) source m across (visibleMark across down) (down .skip) (down .from) (down .to - down .from) (omega arith) a (omega arith) (omega arith) (omega arith)))
+      (λ b. let e : down .to - down .from ≡ zero = omega arith in rw e (within-none (visibleRect across down))))
+      (λ a. rw (lines-none (sourceStride w) source m across (down .skip) (down .from) (down .to - down .from) a) (within-none (visibleRect across down)))
 
   -- no write lies outside what the bitmap owes
   pub bitmap-owes : owes st h (bitmap st h source x y w n m .owed) (seen st h (bitmap st h source x y w n m .writes)) ≡ bitmap st h source x y w n m .owed
   unfolding bitmap
-  bitmap-owes = owes-mark st h _ _ (within-shown (shown x w (8 * st)) (shown y n h))
+  bitmap-owes = owes-mark st h _ _ (within-visible (visible x w (8 * st)) (visible y n h))
 
   -- and STATE lets its mark pass
   pub bitmap-fits : 8 * st ≤ 256 → h ≤ 256 → fits 256 0 256 (bitmap st h source x y w n m .dirty) ≡ true
   unfolding bitmap
   bitmap-fits a b =
-      let across = shown x w (8 * st) in
-      let down = shown y n h in
-      fits-passes 256 0 256 (shownRect across down)
+      let across = visible x w (8 * st) in
+      let down = visible y n h in
+      fits-passes 256 0 256 (visibleRect across down)
       (by-lt (across .from) (across .to)
       (λ o. by-lt (down .from) (down .to)
-      (λ u. rw (rect-shown across down o u) (inr (omega (arith, shown-in x w (8 * st) o, shown-in y n h u))))
+      (λ u. rw (rect-visible across down o u) (inr (omega (arith, visible-in x w (8 * st) o, visible-in y n h u))))
       (λ u. inl (rect-below across down o u)))
       (λ o. inl (rect-beside across down o)))
 
-  module _ (s : List ℕ) {across down : Shown} (p : across ≡ shown x w (8 * st)) (q : down ≡ shown y n h) where
-    same-bitmap : (e : List ℕ) (k : Marks) → k ≡ both (shownRect across down) → e ≡ draw st (seen st h (writes-of across down)) s
+  module _ (s : List ℕ) {across down : Visible} (p : across ≡ visible x w (8 * st)) (q : down ≡ visible y n h) where
+    same-bitmap : (e : List ℕ) (k : Marks) → k ≡ both (visibleRect across down) → e ≡ draw st (seen st h (writes-of across down)) s
         → drawn k e ≡ drawnOn st h (bitmap st h source x y w n m) s
     unfolding bitmap
     same-bitmap e k f g =
-        drawn-is st h (record { writes = writes-of across down; dirty = shownRect across down; owed = shownRect across down }) s e k
-        (within-shown across down) (λ i. f i .dirty) (λ i. f i .owed) g
-        ∙ (λ i. drawnOn st h (record { writes = writes-of (p i) (q i); dirty = shownRect (p i) (q i); owed = shownRect (p i) (q i) }) s)
+        drawn-is st h (record { writes = writes-of across down; dirty = visibleRect across down; owed = visibleRect across down }) s e k
+        (within-visible across down) (λ i. f i .dirty) (λ i. f i .owed) g
+        ∙ (λ i. drawnOn st h (record { writes = writes-of (p i) (q i); dirty = visibleRect (p i) (q i); owed = visibleRect (p i) (q i) }) s)
 
-    pub bitmap-painted : (e : List ℕ) {k : Marks} → across .from < across .to → down .from < down .to → k ≡ both (shownMark across down)
+    pub bitmap-painted : (e : List ℕ) {k : Marks} → across .from < across .to → down .from < down .to → k ≡ both (visibleMark across down)
         → e ≡ draw st (writes-of across down) s → drawn k e ≡ drawnOn st h (bitmap st h source x y w n m) s
     bitmap-painted e {k} a b f g =
-        let i : across .to ≤ 8 * st = rw p (shown-in x w (8 * st) (rw p at a) .1) in
-        let j : down .to ≤ h = rw q (shown-in y n h (rw q at b) .1) in
-        same-bitmap e k (f ∙ ap both (sym (rect-shown across down a b)))
+        let i : across .to ≤ 8 * st = rw p (visible-in x w (8 * st) (rw p at a) .1) in
+        let j : down .to ≤ h = rw q (visible-in y n h (rw q at b) .1) in
+        same-bitmap e k (f ∙ ap both (sym (rect-visible across down a b)))
         (g ∙ ap (λ (l : List PixelWrite). draw st l s) (sym (lines-seen (sourceStride w) source m across st h (down .skip) (down .from) (down .to - down .from) a i (omega arith))))
 
     pub bitmap-beside : {k : Marks} → across .to ≤ across .from → k ≡ both none → drawn k s ≡ drawnOn st h (bitmap st h source x y w n m) s

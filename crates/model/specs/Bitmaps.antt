@@ -6,7 +6,7 @@ use lib.Dec.{ltb, leb, eqb}
 use lib.IntN.{ℤ, pos, negsuc, negℤ, _+ℤ_}
 use Rattle.model.specs.declared.PaintMode.{PaintMode}
 use Rattle.model.specs.declared.PaintMode.the-variants.{Copy, Or, Not, And, Xor}
-use Rattle.model.specs.declared.Shown.{Shown}
+use Rattle.model.specs.declared.Visible.{Visible}
 use Rattle.model.specs.Geometry.{memoryBytes}
 use Rattle.model.specs.Pixels.{PixelWrite, bit}
 use Rattle.model.specs.Rects.{Rect, none}
@@ -48,11 +48,11 @@ maxZero (pos z) = z
 maxZero (negsuc z) = 0
 
 -- what an axis of `size` places shows of n places from z on
-unfoldable pub shown : ℤ → ℕ → ℕ → Shown
-shown z n size = record { skip = maxZero (negℤ z); from = maxZero z; to = min (maxZero (z +ℤ pos n)) size }
+unfoldable pub visible : ℤ → ℕ → ℕ → Visible
+visible z n size = record { skip = maxZero (negℤ z); from = maxZero z; to = min (maxZero (z +ℤ pos n)) size }
 
-unfoldable pub shownRect : Shown → Shown → Rect
-shownRect across down =
+unfoldable pub visibleRect : Visible → Visible → Rect
+visibleRect across down =
     cond (ltb (across .from) (across .to) && ltb (down .from) (down .to))
     (record { left = across .from; top = down .from; right = across .to; bottom = down .to })
     none
@@ -69,7 +69,7 @@ paintedLine k source m i j x y zero = []
 paintedLine k source m i j x y (suc n) = paintedPixel k source m i j x y ∷ paintedLine k source m (suc i) j (suc x) y n
 
 -- n lines from y on, by source lines from j on
-unfoldable pub paintedLines : ℕ → List ℕ → PaintMode → Shown → ℕ → ℕ → ℕ → List PixelWrite
+unfoldable pub paintedLines : ℕ → List ℕ → PaintMode → Visible → ℕ → ℕ → ℕ → List PixelWrite
 paintedLines k source m across j y zero = []
 paintedLines k source m across j y (suc n) =
     paintedLine k source m (across .skip) j (across .from) y (across .to - across .from) ++ paintedLines k source m across (suc j) (suc y) n
@@ -77,10 +77,10 @@ paintedLines k source m across j y (suc n) =
 -- a bitmap of w by n pixels at (x, y); its source bytes are those of before the call
 unfoldable pub bitmap : ℕ → ℕ → List ℕ → ℤ → ℤ → ℕ → ℕ → PaintMode → Drawing
 bitmap st h source x y w n m =
-    let across = shown x w (8 * st) in
-    let down = shown y n h in
+    let across = visible x w (8 * st) in
+    let down = visible y n h in
     record {
       writes = paintedLines (sourceStride w) source m across (down .skip) (down .from) (down .to - down .from);
-      dirty = shownRect across down;
-      owed = shownRect across down;
+      dirty = visibleRect across down;
+      owed = visibleRect across down;
     }

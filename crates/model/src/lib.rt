@@ -52,7 +52,7 @@ pub enum PaintMode {
 }
 
 // The places of an axis that show a run of places which may start before it: from `from` up to `to`, `to` not included. `skip` of the run lie before the axis.
-pub struct Shown {
+pub struct Visible {
     pub skip: usize,
     pub from: usize,
     pub to: usize,
@@ -72,14 +72,14 @@ pub enum Glyph {
     Hexadecimal,
 }
 
-// Where a flush stands: the cell that is read, and the row and column where it is shown.
+// Where a flush stands: the cell that is read, and the row and column where it is visible.
 pub struct Spot {
     pub cell: usize,
     pub row: usize,
     pub column: usize,
 }
 
-// What is shown of a cell: nothing, one byte, a pair with the cell after it, or one byte in hexadecimal.
+// What is visible of a cell: nothing, one byte, a pair with the cell after it, or one byte in hexadecimal.
 pub enum Form {
     Blank,
     Single,

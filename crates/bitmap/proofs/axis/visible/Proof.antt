@@ -1,8 +1,8 @@
 use Rattle.pixels.proofs.Axis.{axis-cast}
-use Rattle.bitmap.proofs.Signed.{before-cast, before-add, before-shown, after-add, after-shown}
+use Rattle.bitmap.proofs.Signed.{before-cast, before-add, before-visible, after-add, after-visible}
 use borrow.Author.Needs.{needs}
-use Rattle.bitmap.proofs.axis.shown.Statement.{statement}
-use Rattle.bitmap.proofs.axis.shown.Tie as tie
+use Rattle.bitmap.proofs.axis.visible.Statement.{statement}
+use Rattle.bitmap.proofs.axis.visible.Tie as tie
 
 cast-before : tie.Need-cast-before
 cast-before c = before-cast (c .before .args .z) (c .before .good .0) (c .if1 .taken)
@@ -19,7 +19,7 @@ least-requires c κs = search needs
 returns : tie.Need-returns
 returns c =
     let a = c .before .before .before in
-    before-shown (a .args .z) (a .args .n) _ (a .good .0) (c .before .before .if1 .taken) (c .before .beyond .ensures) (c .least .ensures)
+    before-visible (a .args .z) (a .args .n) _ (a .good .0) (c .before .before .if1 .taken) (c .before .beyond .ensures) (c .least .ensures)
 
 cast-first : tie.Need-cast-first
 cast-first c = axis-cast (c .before .args .z) (c .before .good .0) (c .if1 .left)
@@ -33,10 +33,10 @@ least-requires-2 c κs = search needs
 returns-2 : tie.Need-returns-2
 returns-2 c =
     let a = c .before .before in
-    after-shown (a .args .z) (a .args .n) _ (a .good .0) (c .before .if1 .left) (c .least2 .ensures)
+    after-visible (a .args .z) (a .args .n) _ (a .good .0) (c .before .if1 .left) (c .least2 .ensures)
 
-pub shown-spec : {M : Type 1} → statement M
-shown-spec =
+pub visible-spec : {M : Type 1} → statement M
+visible-spec =
     tie.close
     (tie.spec
     cast-before
