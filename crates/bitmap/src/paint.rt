@@ -13,10 +13,10 @@ use model::Marks;
 use model::PaintMode;
 use model::Rect;
 use model::Visible;
-use pixels::marks::no_marks;
 use pixels::point::pixel;
 use pixels::point::plot_mask;
 use pixels::point::point_mask;
+use pixels::span::no_marks;
 
 // The draw mode that does what the paint mode does with a source bit.
 fn paint_as(mode: PaintMode, bit: bool) -> DrawMode

@@ -11,14 +11,14 @@ use crate::line::draw_ver_line;
 use crate::line::is_unknown;
 use model::DrawMode;
 use model::Marks;
-use pixels::marks::clamp;
-use pixels::marks::greatest;
-use pixels::marks::least;
-use pixels::marks::lowered_marks;
 use pixels::raster::RasterOp;
 use pixels::raster::raster_op;
 use pixels::run::draw_bytes;
 use pixels::run::draw_run;
+use pixels::span::clamp;
+use pixels::span::greatest;
+use pixels::span::least;
+use pixels::span::lowered_marks;
 
 // Row by row; those beyond the last line land on it again.
 fn fill_rows(

@@ -8,17 +8,17 @@ ghost use Rattle.pixels.specs.Raster.{modeOf, IsOp};
 use crate::slope::draw_slope;
 use model::DrawMode;
 use model::Marks;
-use pixels::marks::clamp;
-use pixels::marks::greatest;
-use pixels::marks::least;
-use pixels::marks::lowered_marks;
-use pixels::marks::no_marks;
-use pixels::marks::span_marks;
 use pixels::point::plot_mask;
 use pixels::point::point_mask;
 use pixels::raster::RasterOp;
 use pixels::raster::raster_op;
 use pixels::run::draw_run;
+use pixels::span::clamp;
+use pixels::span::greatest;
+use pixels::span::least;
+use pixels::span::lowered_marks;
+use pixels::span::no_marks;
+use pixels::span::span_marks;
 
 pub fn is_unknown(mode: DrawMode) -> bool
     ensures { λ r. ⌜ r ≡ isUnknown mode ⌝ }

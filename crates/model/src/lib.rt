@@ -72,14 +72,14 @@ pub enum Glyph {
     Hexadecimal,
 }
 
-// Where a flush stands: the cell that is read, and the row and column where it is visible.
+// Where a flush stands: the cell that is read, and the row and column where it is shown.
 pub struct Spot {
     pub cell: usize,
     pub row: usize,
     pub column: usize,
 }
 
-// What is visible of a cell: nothing, one byte, a pair with the cell after it, or one byte in hexadecimal.
+// What is shown of a cell: nothing, one byte, a pair with the cell after it, or one byte in hexadecimal.
 pub enum Form {
     Blank,
     Single,

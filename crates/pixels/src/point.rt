@@ -7,10 +7,10 @@ ghost use Rattle.model.specs.Marks.{drawn, drawnOn};
 ghost use Rattle.model.specs.Points.{pointWrite, point, checkPoint};
 ghost use Rattle.laws.specs.Points.{maskOf, pointByte, axisOf};
 ghost use Rattle.pixels.specs.Raster.{modeOf, IsOp};
-use crate::marks::no_marks;
-use crate::marks::span_marks;
 use crate::raster::RasterOp;
 use crate::raster::draw_mask;
+use crate::span::no_marks;
+use crate::span::span_marks;
 use model::DrawMode;
 use model::Marks;
 

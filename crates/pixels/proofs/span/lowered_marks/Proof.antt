@@ -1,7 +1,7 @@
 use Rattle.laws.specs.Points.{lowered-both}
 use borrow.Author.Needs.{needs}
-use Rattle.pixels.proofs.marks.lowered_marks.Statement.{statement}
-use Rattle.pixels.proofs.marks.lowered_marks.Tie as tie
+use Rattle.pixels.proofs.span.lowered_marks.Statement.{statement}
+use Rattle.pixels.proofs.span.lowered_marks.Tie as tie
 
 span-requires : tie.Need-span-requires
 span-requires c κs = search needs

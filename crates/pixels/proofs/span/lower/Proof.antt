@@ -2,8 +2,8 @@ use mathlib.Core.Path.{refl}
 use Rattle.laws.specs.Rects.{rect-equal}
 use Rattle.model.specs.Rects.{lowered}
 use borrow.Author.Needs.{needs}
-use Rattle.pixels.proofs.marks.lower.Statement.{statement}
-use Rattle.pixels.proofs.marks.lower.Tie as tie
+use Rattle.pixels.proofs.span.lower.Statement.{statement}
+use Rattle.pixels.proofs.span.lower.Tie as tie
 
 mul-clamp-mark : tie.Need-mul-clamp-mark
 mul-clamp-mark c = search needs
