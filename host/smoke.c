@@ -57,6 +57,10 @@ static void refusals(void) {
     refused("ellipse 4", caption_draw_ellipse(R, M, 0, 0, 200, 1, 0, 4), 4);
     refused("ellipse 6", caption_draw_ellipse(R, M, 0, 0, 1, 128, 1, 3), 6);
     refused("check 1", caption_check_point(R, LESS_MEMORY, 0, 0).code, 1);
+    refused("bitmap 1", caption_paint_bitmap(R, LESS_MEMORY, 65535, 0, 0, 9, 1, 9), 1);
+    refused("bitmap 4", caption_paint_bitmap(R, M, 65535, 0, 0, 9, 1, 5), 4);
+    refused("bitmap 4", caption_paint_bitmap(R, M, 65535, 0, 0, 0, 0, 5), 4);
+    refused("bitmap 5", caption_paint_bitmap(R, M, 65535, 0, 0, 9, 1, 4), 5);
     refused("poke 1", caption_write_byte(LESS_RECORD, M, 4096, 1), 1);
     refused("get row 1", caption_get_row(LESS_RECORD).code, 1);
     refused("get column 1", caption_get_column(LESS_RECORD).code, 1);
@@ -80,6 +84,7 @@ static void broken_record(void) {
     refused("circle 2", caption_draw_circle(R, M, 0, 0, 200, 9, 9), 2);
     refused("ellipse 2", caption_draw_ellipse(R, M, 0, 0, 200, 1, 9, 9), 2);
     refused("check 2", caption_check_point(R, M, 0, 0).code, 2);
+    refused("bitmap 2", caption_paint_bitmap(R, M, 65535, 0, 0, 9, 1, 9), 2);
     refused("poke 2", caption_write_byte(R, M, 4096, 1), 2);
     refused("get row 2", caption_get_row(R).code, 2);
     refused("get column 2", caption_get_column(R).code, 2);
@@ -89,6 +94,20 @@ static void broken_record(void) {
     refused("dirty 2", caption_take_dirty_area(R).code, 2);
     refused("send 2", caption_send(R, M, P).code, 2);
     rec[4] = 0;
+}
+
+/* byte 0x81 copied at (-1, 0) over a whole byte: pixel 6 set, 0-5 cleared, 7 as it was */
+static void bitmap(void) {
+    memory[9000] = 0x81;
+    expect("poke", caption_write_byte(R, M, 4096, 0xff) == 0);
+    caption_take_dirty_area(R);
+    expect("bitmap", caption_paint_bitmap(R, M, 9000, -1, 0, 8, 1, 0) == 0 && memory[4096] == 3);
+    caption_area dirty = caption_take_dirty_area(R);
+    expect("its dirty", dirty.left == 0 && dirty.top == 0 && dirty.right == 7 && dirty.bottom == 1);
+    keep();
+    refused("nothing painted", caption_paint_bitmap(R, M, 9000, INT32_MAX, 0, 8, 1, 0), 0);
+    refused("zero size", caption_paint_bitmap(R, M, 65535, 0, 0, 0, 9, 4), 0);
+    expect("source at the end", caption_paint_bitmap(R, M, 65534, 300, 0, 9, 1, 0) == 0);
 }
 
 int main(void) {
@@ -104,11 +123,12 @@ int main(void) {
     expect("first line", s.sent == 1 && s.line == 0 && s.left == 0 && s.right == 160 && panel[0] == 0x10);
     refusals();
     broken_record();
+    bitmap();
     int more = 0;
     while ((s = caption_send(R, M, P)).sent)
         more++;
     printf("%d more lines, then idle\n", more);
-    expect("79 more", more == 79 && s.code == 0);
+    expect("79 more, and the painted line", more == 80 && s.code == 0);
     expect("level", !memcmp(panel, memory + 4096, sizeof panel));
     printf(failures ? "%d failures\n" : "ok\n", failures);
     return failures != 0;

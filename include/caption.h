@@ -1,7 +1,7 @@
 /* The 160 by 80 caption screen: the exported calls of libcaption.a (rt staticlib caption).
 
    Every call tests what it is lent and told. It answers 0 where it is done, or the number of a refusal, and then no lent byte has changed and all other
-   numbers of the result are 0: 1 LENT, 2 STATE, 3 WINDOW, 4 VALUE, 6 RADIUS (docs/CALLS.md says which call gives which, in testing order).
+   numbers of the result are 0: 1 LENT, 2 STATE, 3 WINDOW, 4 VALUE, 5 SOURCE, 6 RADIUS (docs/CALLS.md says which call gives which, in testing order).
 
    Trusted of the caller, and checked by no call: each pointer is not null, also at length 0, and valid for its length; a buffer that is lent without
    `const` overlaps no other buffer of the same call. */
@@ -50,6 +50,11 @@ uint32_t caption_draw_circle(uint8_t *record, size_t record_len, uint8_t *memory
 uint32_t caption_draw_ellipse(uint8_t *record, size_t record_len, uint8_t *memory, size_t memory_len, uint8_t x, uint8_t y, uint8_t rx,
                               uint8_t ry, uint8_t fill, uint8_t mode);
 caption_value caption_check_point(const uint8_t *record, size_t record_len, const uint8_t *memory, size_t memory_len, int32_t x, int32_t y);
+
+/* A bitmap of width by height pixels at (x, y), clipped to the screen. Its source starts at the address: lines of (width + 7) / 8 bytes, the leftmost pixel
+   the highest bit; it may share bytes with the screen, and counts as it was before the call. modes: 0 Copy, 1 Or, 2 Not, 3 And, 4 Xor */
+uint32_t caption_paint_bitmap(uint8_t *record, size_t record_len, uint8_t *memory, size_t memory_len, uint16_t address, int32_t x, int32_t y,
+                              uint8_t width, uint8_t height, uint8_t mode);
 
 caption_value caption_get_row(const uint8_t *record, size_t record_len);
 caption_value caption_get_column(const uint8_t *record, size_t record_len);

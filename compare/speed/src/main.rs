@@ -17,19 +17,30 @@ const ROUND_NANOSECONDS: u64 = 20_000_000;
 
 fn main() {
     let core = core_side::linked();
-    println!("{:<34}{:>12}{:>12}{:>8}", "call", "Rust ns", "core ns", "ratio");
-    checked_entry(core);
-    for (name, call) in drawings() {
-        drawing(name, &call, core);
+    println!("{:<34}{:>12}{:>12}{:>8}{:>8}", "call", "Rust ns", "core ns", "ratio", "limit");
+    let mut over = checked_entry(core);
+    for measured in drawings() {
+        over |= drawing(&measured, core);
     }
     for (name, text) in texts() {
-        flush(name, &text, core);
+        over |= flush(name, &text, core);
     }
+    if over {
+        println!("over a limit");
+        std::process::exit(1);
+    }
+}
+
+/// A call, and how much of the reference's time it may take, where a limit was set.
+struct Measured {
+    name: String,
+    call: Call,
+    limit: Option<f64>,
 }
 
 /// What the tests of a 170-byte record cost: `set_row`, in plain Rust with the same tests and
 /// stores, and by the core.
-fn checked_entry(core: Option<Answering>) {
+fn checked_entry(core: Option<Answering>) -> bool {
     let mut rust = opened();
     let mut rows = (0..5).cycle();
     let mut by_rust = || {
@@ -37,20 +48,21 @@ fn checked_entry(core: Option<Answering>) {
         black_box(plain::set_row(black_box(&mut rust.record), black_box(row)));
     };
     let calls: Vec<Call> = (0..5).map(|row| Call::SetRow { row }).collect();
-    report("set_row, plain Rust", &mut by_rust, core, &calls);
+    report("set_row, plain Rust", &mut by_rust, core, &calls, Some(1.3))
 }
 
-fn drawing(name: &str, call: &Call, core: Option<Answering>) {
+fn drawing(measured: &Measured, core: Option<Answering>) -> bool {
+    let Measured { name, call, limit } = measured;
     let mut reference = Reference::default();
     reference.call(&open());
     let mut by_reference = || {
         black_box(reference.call_uncaught(black_box(call)));
     };
-    report(name, &mut by_reference, core, std::slice::from_ref(call));
+    report(name, &mut by_reference, core, std::slice::from_ref(call), *limit)
 }
 
 /// A flush of a text of 100 cells, with the fonts whole and no extra list.
-fn flush(name: &str, text: &[u8], core: Option<Answering>) {
+fn flush(name: &str, text: &[u8], core: Option<Answering>) -> bool {
     let call = Call::Flush { fonts: FontsLent::whole(vec![]) };
     let mut buffers = opened();
     buffers.memory[8192..][..text.len()].copy_from_slice(text);
@@ -58,15 +70,29 @@ fn flush(name: &str, text: &[u8], core: Option<Answering>) {
     reference.load(&buffers.record, &buffers.memory);
     reference.call(&call);
     let mut by_reference = || reference.flush_alone();
-    report_on(name, &mut by_reference, core, std::slice::from_ref(&call), buffers);
+    report_on(name, &mut by_reference, core, std::slice::from_ref(&call), Some(1.3), buffers)
 }
 
-/// One line of the table; the core's part is empty where it hasn't got the call.
-fn report(name: &str, rust: &mut dyn FnMut(), core: Option<Answering>, calls: &[Call]) {
-    report_on(name, rust, core, calls, opened());
+fn report(
+    name: &str,
+    rust: &mut dyn FnMut(),
+    core: Option<Answering>,
+    calls: &[Call],
+    limit: Option<f64>,
+) -> bool {
+    report_on(name, rust, core, calls, limit, opened())
 }
 
-fn report_on(name: &str, rust: &mut dyn FnMut(), core: Option<Answering>, calls: &[Call], mut buffers: Buffers) {
+/// One line of the table; the core's part is empty where it hasn't got the call. True where the
+/// limit is passed.
+fn report_on(
+    name: &str,
+    rust: &mut dyn FnMut(),
+    core: Option<Answering>,
+    calls: &[Call],
+    limit: Option<f64>,
+    mut buffers: Buffers,
+) -> bool {
     let core = core.filter(|_| core_side::has(calls[0].number()));
     let mut turn = calls.iter().cycle();
     let mut by_core = core.map(|core| {
@@ -85,10 +111,14 @@ fn report_on(name: &str, rust: &mut dyn FnMut(), core: Option<Answering>, calls:
             core_best = core_best.min(nanoseconds(by_core, times));
         }
     }
-    match by_core {
-        Some(_) => println!("{name:<34}{rust_best:>12.1}{core_best:>12.1}{:>8.2}", core_best / rust_best),
-        None => println!("{name:<34}{rust_best:>12.1}{:>12}{:>8}", "-", "-"),
+    if by_core.is_none() {
+        println!("{name:<34}{rust_best:>12.1}{:>12}{:>8}{:>8}", "-", "-", "-");
+        return false;
     }
+    let ratio = core_best / rust_best;
+    let bound = limit.map_or("-".to_string(), |limit| format!("{limit:.1}"));
+    println!("{name:<34}{rust_best:>12.1}{core_best:>12.1}{ratio:>8.2}{bound:>8}");
+    limit.is_some_and(|limit| ratio > limit)
 }
 
 fn repetitions(work: &mut dyn FnMut()) -> u64 {
@@ -115,20 +145,33 @@ fn opened() -> Buffers {
     buffers
 }
 
-fn drawings() -> Vec<(&'static str, Call)> {
-    vec![
+/// The drawings that have limits in each mode, then others.
+fn drawings() -> Vec<Measured> {
+    let mut all = Vec::new();
+    for (mode, mode_name) in [(0, "clear"), (1, "or"), (2, "xor")] {
+        let limited = [
+            ("box, whole screen", Call::DrawBox { x1: 0, y1: 0, x2: 159, y2: 79, fill: 1, mode }, 1.1),
+            ("line, long diagonal", Call::DrawLine { x1: 0, y1: 0, x2: 159, y2: 79, mode }, 1.3),
+            ("circle, radius 40", Call::DrawCircle { x: 80, y: 40, r: 40, fill: 0, mode }, 1.3),
+            ("disc, radius 40", Call::DrawCircle { x: 80, y: 40, r: 40, fill: 1, mode }, 1.3),
+        ];
+        for (name, call, limit) in limited {
+            all.push(Measured { name: format!("{name}, {mode_name}"), call, limit: Some(limit) });
+        }
+    }
+    let free = [
         ("point", Call::DrawPoint { x: 77, y: 33, mode: 2 }),
-        ("line, sloping", Call::DrawLine { x1: 0, y1: 0, x2: 159, y2: 79, mode: 2 }),
         ("line, horizontal", Call::DrawLine { x1: 3, y1: 40, x2: 156, y2: 40, mode: 2 }),
         ("line, vertical", Call::DrawLine { x1: 80, y1: 0, x2: 80, y2: 79, mode: 2 }),
-        ("box", Call::DrawBox { x1: 3, y1: 3, x2: 156, y2: 76, fill: 0, mode: 2 }),
-        ("box, filled", Call::DrawBox { x1: 3, y1: 3, x2: 156, y2: 76, fill: 1, mode: 2 }),
-        ("circle", Call::DrawCircle { x: 80, y: 40, r: 35, fill: 0, mode: 2 }),
-        ("disc", Call::DrawCircle { x: 80, y: 40, r: 35, fill: 1, mode: 2 }),
-        ("ellipse", Call::DrawEllipse { x: 80, y: 40, rx: 70, ry: 30, fill: 0, mode: 2 }),
-        ("bitmap", Call::PaintBitmap { address: 9000, x: 5, y: 5, width: 64, height: 64, mode: 0 }),
+        ("box, outline", Call::DrawBox { x1: 3, y1: 3, x2: 156, y2: 76, fill: 0, mode: 2 }),
+        ("box, 154 by 74", Call::DrawBox { x1: 3, y1: 3, x2: 156, y2: 76, fill: 1, mode: 2 }),
+        ("ellipse, 70 by 30", Call::DrawEllipse { x: 80, y: 40, rx: 70, ry: 30, fill: 0, mode: 2 }),
+        ("ellipse, 70 by 30, filled", Call::DrawEllipse { x: 80, y: 40, rx: 70, ry: 30, fill: 1, mode: 2 }),
+        ("bitmap, 64 by 64", Call::PaintBitmap { address: 9000, x: 5, y: 5, width: 64, height: 64, mode: 0 }),
         ("poke", Call::WriteByte { address: 4500, byte: 0x5a }),
-    ]
+    ];
+    all.extend(free.map(|(name, call)| Measured { name: name.to_string(), call, limit: None }));
+    all
 }
 
 fn texts() -> Vec<(&'static str, Vec<u8>)> {

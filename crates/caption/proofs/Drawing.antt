@@ -1,5 +1,5 @@
 -- Drawings over the screen part of memory, lent and come back; points and checks.
-use mathlib.Core.Path.{_≡_, refl, ap, _∙_}
+use mathlib.Core.Path.{_≡_, refl, sym, ap, _∙_}
 use mathlib.Core.List.{List, [], _∷_}
 use mathlib.Core.Bool.{Bool, true, false}
 use Prim.Native.Nat.{ℕ, zero, suc, _+_, _-_, _<_, _≤_}
@@ -16,11 +16,11 @@ use Rattle.model.specs.declared.Marks.{Marks}
 use Rattle.model.specs.Geometry.{base}
 use Rattle.model.specs.Pixels.{Screen, seen}
 use Rattle.model.specs.Memory.{zeros, window, withWindow, screenOf}
-use Rattle.model.specs.Record.{decode, encode}
+use Rattle.model.specs.Record.{decode, encode, withHead}
 use Rattle.model.specs.Refusals.{refusal}
 use Rattle.model.specs.Marks.{Drawing, Drawn, drawn, drawnOn, marked}
 use Rattle.model.specs.Points.{drawMode, point, checkPoint}
-use Rattle.model.specs.Calls.{Outcome, drawPoint, checkPixel, lent, answered, flag, refusals, refused, numbers, drawing, done, outcome}
+use Rattle.model.specs.Calls.{Outcome, drawPoint, checkPixel, lent, answered, flag, refusals, refused, numbers, drawingWith, drawing, done, outcome}
 use Rattle.laws.specs.Pixels.{length-draw}
 use Rattle.laws.specs.Parts.{part-window, part-back}
 use Rattle.record.specs.declared.entry.Entry.{Entry}
@@ -45,23 +45,32 @@ drawn-length : (d : Drawing) (s : List ℕ) → length (drawnOn 20 80 d s .scree
 unfolding drawnOn
 drawn-length d s = length-draw 20 (seen 20 80 (d .writes)) s
 
--- what a drawing on the lent part leaves of record and memory
-pub drew : (d : Drawing) (r m : List ℕ) (h : Head) (k : Marks) (s : List ℕ) {t : List ℕ} → Known r h → length m ≡ 65536
+-- what a drawing on the lent part leaves of record and memory, with the head that f makes
+pub drew-with : (f : Head → Head) (d : Drawing) (r m : List ℕ) (h : Head) (k : Marks) (s : List ℕ) {n : Head} {t : List ℕ} → Known r h → length m ≡ 65536
     → drawn k s ≡ drawnOn 20 80 d (take (h .graphics + 1600 - h .graphics) (drop (h .graphics) m))
-    → t ≡ encode (marked base (k .dirty) (k .owed) (decode base r))
-    → lent t (putMid (h .graphics) (h .graphics + 1600 - h .graphics) m s) [] ≡ drawing base d (lent r m [])
-unfolding drawing drawn decode
-drew d r m h k s n l e f =
+    → n ≡ f h → t ≡ encode (marked base (k .dirty) (k .owed) (withHead n (decode base r)))
+    → lent t (putMid (h .graphics) (h .graphics + 1600 - h .graphics) m s) [] ≡ drawingWith base f d (lent r m [])
+unfolding drawingWith drawn decode
+drew-with f d r m h k s w l e c q =
     let g = h .graphics in
     let p = take (g + 1600 - g) (drop g m) in
     let o : drawn k s ≡ drawnOn 20 80 d (window g 1600 m) = e ∙ ap (drawnOn 20 80 d) (part-window g 1600 m) in
     let long : length s ≡ g + 1600 - g =
-    ap (λ (x : Drawn). length (x .screen)) e ∙ drawn-length d p ∙ part-length g m l (n .graphics) ∙ omega arith in
+    ap (λ (x : Drawn). length (x .screen)) e ∙ drawn-length d p ∙ part-length g m l (w .graphics) ∙ omega arith in
     let back = part-back g (g + 1600) m s (omega arith) long ∙ ap (λ (x : Drawn). withWindow g (x .screen) m) o in
-    let rec = f ∙ ap (λ (x : Drawn). encode (marked base (x .dirty) (x .owed) (decode base r))) o in
+    let rec = q ∙ (λ i. encode (marked base (o i .dirty) (o i .owed) (withHead (c i) (decode base r)))) in
     (λ i. lent (rec i) (back i) [])
-    ∙ ap (λ (x : Head). lent (encode (marked base (drawnOn 20 80 d (window (x .graphics) 1600 m) .dirty) (drawnOn 20 80 d (window (x .graphics) 1600 m) .owed) (decode base r)))
-    (withWindow (x .graphics) (drawnOn 20 80 d (window (x .graphics) 1600 m) .screen) m) []) (n .head)
+    ∙ ap (λ (x : Head). lent (encode (marked base (drawnOn 20 80 d (window (x .graphics) 1600 m) .dirty) (drawnOn 20 80 d (window (x .graphics) 1600 m) .owed) (withHead (f x) (decode base r))))
+    (withWindow (x .graphics) (drawnOn 20 80 d (window (x .graphics) 1600 m) .screen) m) []) (w .head)
+
+-- with the head that stands there
+pub drew : (d : Drawing) (r m : List ℕ) (h : Head) (k : Marks) (s : List ℕ) {t : List ℕ} → Known r h → length m ≡ 65536
+    → drawn k s ≡ drawnOn 20 80 d (take (h .graphics + 1600 - h .graphics) (drop (h .graphics) m))
+    → t ≡ encode (marked base (k .dirty) (k .owed) (decode base r))
+    → lent t (putMid (h .graphics) (h .graphics + 1600 - h .graphics) m s) [] ≡ drawing base d (lent r m [])
+unfolding decode
+drew d r m h k s w l e q =
+    drew-with (λ x. x) d r m h k s w l e refl (q ∙ ap (λ (x : Head). encode (marked base (k .dirty) (k .owed) (withHead x (decode base r)))) (sym (w .head)))
 
 -- ---- draw_point
 

@@ -85,11 +85,11 @@ pub set-row-stops : (r : List ℕ) (v : ℕ) {e : Entry} → Entered true r e �
 unfolding refusals refused numbers zeros
 set-row-stops r v n h = stops (setRow v) (lent r [] []) true _ refl n h
 
-pub set-row-value : (r : List ℕ) (v : ℕ) {e : Entry} → Entered true r e → e .code ≡ 0 → 4 < v → answered 4 [] (lent r [] []) ≡ outcome base (setRow v) (lent r [] [])
+pub set-row-value : (r : List ℕ) (v : ℕ) {e : Entry} → Entered true r e → e .code ≡ 0 → 5 ≤ v → answered 4 [] (lent r [] []) ≡ outcome base (setRow v) (lent r [] [])
 unfolding refusals refusal refused numbers zeros
 set-row-value r v n z h = stops-later (setRow v) (lent r [] []) true _ refl 4 n z (rw (le-ltb v 5 (omega arith))) (λ k. omega arith)
 
-pub set-row-ends : (r : List ℕ) (v : ℕ) {s : List ℕ} {n : Head} {e : Entry} → Entered true r e → e .code ≡ 0 → v ≤ 4 → n ≡ withRow v (e .head)
+pub set-row-ends : (r : List ℕ) (v : ℕ) {s : List ℕ} {n : Head} {e : Entry} → Entered true r e → e .code ≡ 0 → v < 5 → n ≡ withRow v (e .head)
     → s ≡ encode (withHead n (decode base r)) → answered 0 [] (lent s [] []) ≡ outcome base (setRow v) (lent r [] [])
 unfolding refusals refusal done
 set-row-ends r v k z h p q = ends (setRow v) (lent r [] []) true _ refl k z (rw (lt-ltb v 5 (omega arith))) (ap (answered 0 []) (stored (withRow v) r k z p q))
@@ -98,11 +98,11 @@ pub set-column-stops : (r : List ℕ) (v : ℕ) {e : Entry} → Entered true r e
 unfolding refusals refused numbers zeros
 set-column-stops r v n h = stops (setColumn v) (lent r [] []) true _ refl n h
 
-pub set-column-value : (r : List ℕ) (v : ℕ) {e : Entry} → Entered true r e → e .code ≡ 0 → 19 < v → answered 4 [] (lent r [] []) ≡ outcome base (setColumn v) (lent r [] [])
+pub set-column-value : (r : List ℕ) (v : ℕ) {e : Entry} → Entered true r e → e .code ≡ 0 → 20 ≤ v → answered 4 [] (lent r [] []) ≡ outcome base (setColumn v) (lent r [] [])
 unfolding refusals refusal refused numbers zeros
 set-column-value r v n z h = stops-later (setColumn v) (lent r [] []) true _ refl 4 n z (rw (le-ltb v 20 (omega arith))) (λ k. omega arith)
 
-pub set-column-ends : (r : List ℕ) (v : ℕ) {s : List ℕ} {n : Head} {e : Entry} → Entered true r e → e .code ≡ 0 → v ≤ 19 → n ≡ withColumn v (e .head)
+pub set-column-ends : (r : List ℕ) (v : ℕ) {s : List ℕ} {n : Head} {e : Entry} → Entered true r e → e .code ≡ 0 → v < 20 → n ≡ withColumn v (e .head)
     → s ≡ encode (withHead n (decode base r)) → answered 0 [] (lent s [] []) ≡ outcome base (setColumn v) (lent r [] [])
 unfolding refusals refusal done
 set-column-ends r v k z h p q = ends (setColumn v) (lent r [] []) true _ refl k z (rw (lt-ltb v 20 (omega arith))) (ap (answered 0 []) (stored (withColumn v) r k z p q))

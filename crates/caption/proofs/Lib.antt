@@ -6,4 +6,8 @@ pub mod Shapes
 pub mod Rounds
 pub mod Poking
 pub mod Sending
+pub mod Painting
 pub mod Flushing
+pub mod Clearing
+pub mod Blinking
+pub mod Printing

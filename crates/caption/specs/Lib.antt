@@ -1,3 +1,4 @@
 pub mod Opened
 pub mod Ready
 pub mod Glyphs
+pub mod Placed

@@ -1,10 +1,10 @@
 // `caption_draw_circle` and `caption_draw_ellipse`.
-use crate::glass::HEIGHT;
-use crate::glass::MEMORY_BYTES;
-use crate::glass::SCREEN_BYTES;
-use crate::glass::STRIDE;
 use crate::points::draw_mode;
 use model::Head;
+use model::glass::HEIGHT;
+use model::glass::MEMORY_BYTES;
+use model::glass::SCREEN_BYTES;
+use model::glass::STRIDE;
 use record::entry;
 use record::update;
 ghost use mathlib.Core.Bool.{true};

@@ -1,13 +1,12 @@
 // `caption_flush`.
-use crate::glass::CELLS;
-use crate::glass::MEMORY_BYTES;
-use crate::glass::ROWS;
-use crate::glass::SCREEN_BYTES;
-use crate::glass::STRIDE;
 use flush::fit;
 use flush::page;
 use model::Head;
-use model::Marks;
+use model::glass::MEMORY_BYTES;
+use model::glass::SCREEN_BYTES;
+use model::glass::STRIDE;
+use model::glass::TEXT_BYTES;
+use model::glass::TEXT_ROWS;
 use record::entry;
 use record::layout;
 use record::update;
@@ -17,7 +16,6 @@ ghost use mathlib.Core.List.{[]};
 ghost use Prim.Native.Nat.{_≤_};
 ghost use lib.ListN.{length};
 ghost use Rattle.model.specs.Geometry.{base};
-ghost use Rattle.model.specs.Marks.{whole};
 ghost use Rattle.model.specs.Glyphs.{fonts};
 ghost use Rattle.model.specs.Calls.{flush, lent, answered, done, outcome};
 ghost use Rattle.record.specs.Entry.{Known};
@@ -38,11 +36,11 @@ fn glyphs_fit(
     ensures { λ r. ⌜ r ≡ glyphsFit (now (memory .entry)) h (fonts (now (ascii8 .entry)) (now (ascii16 .entry)) (now (gb .entry)) (now (emoji .entry)) (now (list .entry)) (now (extra .entry))) ⌝ }
 {
     let from = h.text as usize;
-    let to = from + CELLS;
+    let to = from + TEXT_BYTES;
     let version = h.version;
     fit::text_fits(
         STRIDE,
-        ROWS,
+        TEXT_ROWS,
         &memory[from..to],
         version,
         ascii8,
@@ -52,15 +50,6 @@ fn glyphs_fit(
         list,
         extra,
     )
-}
-
-fn whole_marks() -> Marks
-    ensures { λ r. ⌜ (r .dirty ≡ whole 20 80) × (r .owed ≡ whole 20 80) ⌝ }
-{
-    Marks {
-        dirty: update::whole_screen(),
-        owed: update::whole_screen(),
-    }
 }
 
 fn flush_done<'a>(
@@ -80,15 +69,15 @@ fn flush_done<'a>(
     ensures { λ r. ⌜ answered r [] (lent (now (rec .exit)) (now (memory .exit)) []) ≡ done base (flush (fonts (now (ascii8 .entry)) (now (ascii16 .entry)) (now (gb .entry)) (now (emoji .entry)) (now (list .entry)) (now (extra .entry)))) (lent (now (rec .entry)) (now (memory .entry)) []) ⌝ }
 {
     let at = h.text as usize;
-    let end = at + CELLS;
-    let mut text = [0u8; 100];
+    let end = at + TEXT_BYTES;
+    let mut text = [0u8; TEXT_BYTES];
     page::copy_text(&memory[at..end], &mut text);
     let from = h.graphics as usize;
     let to = from + SCREEN_BYTES;
     let flags = &rec[layout::FLAGS..layout::RECORD_BYTES];
     page::flush_screen(
         STRIDE,
-        ROWS,
+        TEXT_ROWS,
         &mut memory[from..to],
         &text,
         flags,
@@ -101,7 +90,7 @@ fn flush_done<'a>(
         list,
         extra,
     );
-    update::mark_record(rec, h, whole_marks());
+    update::mark_record(rec, h, update::whole_marks());
     0
 }
 

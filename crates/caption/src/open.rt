@@ -1,6 +1,6 @@
 // `caption_open` and `caption_reset`.
-use crate::glass::MEMORY_BYTES;
 use model::Head;
+use model::glass::MEMORY_BYTES;
 use record::entry;
 use record::keys;
 use record::layout;

@@ -1,11 +1,11 @@
 // `caption_draw_point` and `caption_check_point`.
-use crate::glass::HEIGHT;
-use crate::glass::MEMORY_BYTES;
-use crate::glass::SCREEN_BYTES;
-use crate::glass::STRIDE;
 use model::DrawMode;
 use model::Head;
 use model::Value;
+use model::glass::HEIGHT;
+use model::glass::MEMORY_BYTES;
+use model::glass::SCREEN_BYTES;
+use model::glass::STRIDE;
 use record::entry;
 use record::update;
 ghost use mathlib.Core.Path.{_≡_};

@@ -1,10 +1,10 @@
 // `caption_write_byte`.
-use crate::glass::MEMORY_BYTES;
-use crate::glass::SCREEN_BYTES;
-use crate::glass::STRIDE;
 use model::Head;
 use model::Marks;
 use model::Rect;
+use model::glass::MEMORY_BYTES;
+use model::glass::SCREEN_BYTES;
+use model::glass::STRIDE;
 use record::entry;
 use record::keys;
 use record::update;

@@ -1,12 +1,12 @@
 // `caption_send`.
-use crate::glass::HEIGHT;
-use crate::glass::MEMORY_BYTES;
-use crate::glass::SCREEN_BYTES;
-use crate::glass::STRIDE;
 use marks::rect;
 use model::Head;
 use model::Rect;
 use model::Sent;
+use model::glass::HEIGHT;
+use model::glass::MEMORY_BYTES;
+use model::glass::SCREEN_BYTES;
+use model::glass::STRIDE;
 use record::entry;
 use record::layout;
 use record::update;

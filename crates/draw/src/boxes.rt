@@ -5,17 +5,20 @@ ghost use Rattle.model.specs.Pixels.{Screen, draw, seen};
 ghost use Rattle.model.specs.Marks.{drawn, drawnOn};
 ghost use Rattle.model.specs.Boxes.{filledBox, outline, box};
 ghost use Rattle.laws.specs.Boxes.{wholeLines};
+ghost use Rattle.pixels.specs.Raster.{modeOf, IsOp};
 use crate::line::draw_hor_line;
 use crate::line::draw_ver_line;
 use crate::line::is_unknown;
 use model::DrawMode;
 use model::Marks;
-use pixels::marks::clamp;
-use pixels::marks::greatest;
-use pixels::marks::least;
-use pixels::marks::lowered_marks;
+use pixels::raster::RasterOp;
+use pixels::raster::raster_op;
 use pixels::run::draw_bytes;
 use pixels::run::draw_run;
+use pixels::span::clamp;
+use pixels::span::greatest;
+use pixels::span::least;
+use pixels::span::lowered_marks;
 
 // Row by row; those beyond the last line land on it again.
 fn fill_rows(
@@ -26,11 +29,12 @@ fn fill_rows(
     top: u8,
     right: u8,
     bottom: u8,
-    mode: DrawMode,
+    op: RasterOp,
 )
     requires { ⌜ Screen stride height (now screen) ⌝ }
     requires { ⌜ (left ≤ right) × (top ≤ bottom) ⌝ }
-    ensures { λ _. ⌜ now (screen .exit) ≡ draw stride (seen stride height (filledBox stride height left top right bottom mode)) (now (screen .entry)) ⌝ }
+    requires { ⌜ IsOp op ⌝ }
+    ensures { λ _. ⌜ now (screen .exit) ≡ draw stride (seen stride height (filledBox stride height left top right bottom (modeOf op))) (now (screen .entry)) ⌝ }
 {
     let first = clamp(left as usize, 8 * stride);
     let last = clamp(right as usize, 8 * stride);
@@ -38,7 +42,7 @@ fn fill_rows(
     let mut count = ((bottom - top) as usize) + 1;
     while 0 < count {
         let line = clamp(y, height);
-        draw_run(stride, height, screen, first, last, line, mode);
+        draw_run(stride, height, screen, first, last, line, op);
         y += 1;
         count -= 1;
     }
@@ -61,11 +65,12 @@ fn fill_box(
     top: u8,
     right: u8,
     bottom: u8,
-    mode: DrawMode,
+    op: RasterOp,
 )
     requires { ⌜ Screen stride height (now screen) ⌝ }
     requires { ⌜ (left ≤ right) × (top ≤ bottom) ⌝ }
-    ensures { λ _. ⌜ now (screen .exit) ≡ draw stride (seen stride height (filledBox stride height left top right bottom mode)) (now (screen .entry)) ⌝ }
+    requires { ⌜ IsOp op ⌝ }
+    ensures { λ _. ⌜ now (screen .exit) ≡ draw stride (seen stride height (filledBox stride height left top right bottom (modeOf op))) (now (screen .entry)) ⌝ }
 {
     let first = clamp(left as usize, 8 * stride);
     let last = clamp(right as usize, 8 * stride);
@@ -74,11 +79,11 @@ fn fill_box(
             screen,
             stride * (top as usize),
             stride * ((bottom as usize) + 1),
-            mode,
+            op,
         );
         return;
     }
-    fill_rows(stride, height, screen, left, top, right, bottom, mode);
+    fill_rows(stride, height, screen, left, top, right, bottom, op);
 }
 
 // Two horizontals, then two verticals unless Unknown.
@@ -96,8 +101,9 @@ fn draw_outline(
     requires { ⌜ (left ≤ right) × (top ≤ bottom) ⌝ }
     ensures { λ _. ⌜ now (screen .exit) ≡ draw stride (seen stride height (outline stride height left top right bottom mode)) (now (screen .entry)) ⌝ }
 {
-    draw_hor_line(stride, height, screen, left, right, top, mode);
-    draw_hor_line(stride, height, screen, left, right, bottom, mode);
+    let op = raster_op(mode);
+    draw_hor_line(stride, height, screen, left, right, top, op);
+    draw_hor_line(stride, height, screen, left, right, bottom, op);
     if is_unknown(mode) {
         return;
     }
@@ -124,7 +130,8 @@ pub fn draw_box(
     let right = greatest(x1, x2);
     let bottom = greatest(y1, y2);
     if fill {
-        fill_box(stride, height, screen, left, top, right, bottom, mode);
+        let op = raster_op(mode);
+        fill_box(stride, height, screen, left, top, right, bottom, op);
         return lowered_marks(stride, height, left, top, right, bottom);
     }
     draw_outline(stride, height, screen, left, top, right, bottom, mode);

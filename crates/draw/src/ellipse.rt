@@ -8,17 +8,21 @@ ghost use Rattle.model.specs.Marks.{drawn, drawnOn};
 ghost use Rattle.model.specs.Ellipses.{part, parts, up, down, corners, chord, chords, partWrites, wraps, ellipseMark, isPoint, isNothing, ellipse, radiiFit};
 ghost use Rattle.laws.specs.EllipseSteps.{Round};
 ghost use Rattle.laws.specs.EllipseWalks.{painted};
+ghost use Rattle.pixels.specs.Raster.{modeOf, IsOp};
 ghost use Rattle.walk.specs.Walk.{partsOf};
 use crate::line::draw_hor_line;
 use crate::line::is_unknown;
 use model::DrawMode;
 use model::Marks;
 use model::Rect;
-use pixels::marks::greatest;
-use pixels::marks::lower;
-use pixels::marks::no_marks;
 use pixels::point::draw_point;
-use pixels::point::plot_seen;
+use pixels::point::plot_pair;
+use pixels::point::point_mask;
+use pixels::raster::RasterOp;
+use pixels::raster::raster_op;
+use pixels::span::greatest;
+use pixels::span::lower;
+use pixels::span::no_marks;
 use std::num::wrapping_add_u8;
 use std::num::wrapping_sub_u8;
 use walk::Part;
@@ -47,19 +51,30 @@ fn draw_corners(
     y: u8,
     a: u8,
     b: u8,
-    mode: DrawMode,
+    op: RasterOp,
 )
     requires { ⌜ Screen stride height (now screen) ⌝ }
-    ensures { λ _. ⌜ now (screen .exit) ≡ draw stride (seen stride height (corners x y mode (part a b))) (now (screen .entry)) ⌝ }
+    requires { ⌜ IsOp op ⌝ }
+    ensures { λ _. ⌜ now (screen .exit) ≡ draw stride (seen stride height (corners x y (modeOf op) (part a b))) (now (screen .entry)) ⌝ }
 {
     let left = down(x, a) as usize;
     let right = up(x, a) as usize;
     let top = down(y, b) as usize;
     let bottom = up(y, b) as usize;
-    plot_seen(stride, height, screen, left, top, mode);
-    plot_seen(stride, height, screen, right, top, mode);
-    plot_seen(stride, height, screen, left, bottom, mode);
-    plot_seen(stride, height, screen, right, bottom, mode);
+    let mask1 = point_mask(left);
+    let mask2 = point_mask(right);
+    plot_pair(stride, height, screen, left, right, top, mask1, mask2, op);
+    plot_pair(
+        stride,
+        height,
+        screen,
+        left,
+        right,
+        bottom,
+        mask1,
+        mask2,
+        op,
+    );
 }
 
 fn chord_left(left: u8, right: u8) -> u8
@@ -69,13 +84,14 @@ fn chord_left(left: u8, right: u8) -> u8
 }
 
 // From corner to corner of line y; where the left one wrapped, from 0.
-fn draw_chord(stride: usize, height: usize, screen: &mut [u8], x: u8, a: u8, y: u8, mode: DrawMode)
+fn draw_chord(stride: usize, height: usize, screen: &mut [u8], x: u8, a: u8, y: u8, op: RasterOp)
     requires { ⌜ Screen stride height (now screen) ⌝ }
-    ensures { λ _. ⌜ now (screen .exit) ≡ draw stride (seen stride height (chord stride height x a y mode)) (now (screen .entry)) ⌝ }
+    requires { ⌜ IsOp op ⌝ }
+    ensures { λ _. ⌜ now (screen .exit) ≡ draw stride (seen stride height (chord stride height x a y (modeOf op))) (now (screen .entry)) ⌝ }
 {
     let right = up(x, a);
     let left = chord_left(down(x, a), right);
-    draw_hor_line(stride, height, screen, left, right, y, mode);
+    draw_hor_line(stride, height, screen, left, right, y, op);
 }
 
 fn draw_chords(
@@ -86,13 +102,14 @@ fn draw_chords(
     y: u8,
     a: u8,
     b: u8,
-    mode: DrawMode,
+    op: RasterOp,
 )
     requires { ⌜ Screen stride height (now screen) ⌝ }
-    ensures { λ _. ⌜ now (screen .exit) ≡ draw stride (seen stride height (chords stride height x y mode (part a b))) (now (screen .entry)) ⌝ }
+    requires { ⌜ IsOp op ⌝ }
+    ensures { λ _. ⌜ now (screen .exit) ≡ draw stride (seen stride height (chords stride height x y (modeOf op) (part a b))) (now (screen .entry)) ⌝ }
 {
-    draw_chord(stride, height, screen, x, a, down(y, b), mode);
-    draw_chord(stride, height, screen, x, a, up(y, b), mode);
+    draw_chord(stride, height, screen, x, a, down(y, b), op);
+    draw_chord(stride, height, screen, x, a, up(y, b), op);
 }
 
 fn draw_part(
@@ -104,16 +121,17 @@ fn draw_part(
     a: u8,
     b: u8,
     fill: bool,
-    mode: DrawMode,
+    op: RasterOp,
 )
     requires { ⌜ Screen stride height (now screen) ⌝ }
-    ensures { λ _. ⌜ now (screen .exit) ≡ draw stride (seen stride height (partWrites stride height x y fill mode (part a b))) (now (screen .entry)) ⌝ }
+    requires { ⌜ IsOp op ⌝ }
+    ensures { λ _. ⌜ now (screen .exit) ≡ draw stride (seen stride height (partWrites stride height x y fill (modeOf op) (part a b))) (now (screen .entry)) ⌝ }
 {
     if fill {
-        draw_chords(stride, height, screen, x, y, a, b, mode);
+        draw_chords(stride, height, screen, x, y, a, b, op);
         return;
     }
-    draw_corners(stride, height, screen, x, y, a, b, mode);
+    draw_corners(stride, height, screen, x, y, a, b, op);
 }
 
 // The part of a step, if it draws one.
@@ -125,13 +143,14 @@ fn draw_step(
     y: u8,
     part: Part,
     fill: bool,
-    mode: DrawMode,
+    op: RasterOp,
 )
     requires { ⌜ Screen stride height (now screen) ⌝ }
-    ensures { λ _. ⌜ now (screen .exit) ≡ painted stride height x y fill mode (partsOf part) (now (screen .entry)) ⌝ }
+    requires { ⌜ IsOp op ⌝ }
+    ensures { λ _. ⌜ now (screen .exit) ≡ painted stride height x y fill (modeOf op) (partsOf part) (now (screen .entry)) ⌝ }
 {
     match part {
-        Part::At(a, b) => draw_part(stride, height, screen, x, y, a, b, fill, mode),
+        Part::At(a, b) => draw_part(stride, height, screen, x, y, a, b, fill, op),
         Part::Nothing => {}
     }
 }
@@ -145,19 +164,20 @@ fn draw_walk(
     rx: u8,
     ry: u8,
     fill: bool,
-    mode: DrawMode,
+    op: RasterOp,
 )
     requires { ⌜ Screen stride height (now screen) ⌝ }
     requires { ⌜ Round rx ry ⌝ }
-    ensures { λ _. ⌜ now (screen .exit) ≡ painted stride height x y fill mode (parts rx ry) (now (screen .entry)) ⌝ }
+    requires { ⌜ IsOp op ⌝ }
+    ensures { λ _. ⌜ now (screen .exit) ≡ painted stride height x y fill (modeOf op) (parts rx ry) (now (screen .entry)) ⌝ }
 {
     let r = greatest(rx, ry);
-    draw_part(stride, height, screen, x, y, rx, 0, fill, mode);
+    draw_part(stride, height, screen, x, y, rx, 0, fill, op);
     let mut w = start(r, rx);
     loop {
         let s = next_step(w, r, rx, ry);
         let part = s.part;
-        draw_step(stride, height, screen, x, y, part, fill, mode);
+        draw_step(stride, height, screen, x, y, part, fill, op);
         w = s.walk;
         if ended(w) {
             break;
@@ -247,7 +267,8 @@ pub fn draw_ellipse(
     if is_nothing(fill, mode) {
         return no_marks();
     }
-    draw_walk(stride, height, screen, x, y, rx, ry, fill, mode);
+    let op = raster_op(mode);
+    draw_walk(stride, height, screen, x, y, rx, ry, fill, op);
     let dirty = ellipse_mark(stride, height, x, y, rx, ry);
     if fill {
         return Marks {

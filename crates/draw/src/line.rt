@@ -4,18 +4,21 @@ ghost use Prim.Native.Nat.{_+_, _*_, _≤_, _<_};
 ghost use Rattle.model.specs.Pixels.{Screen, draw, seen};
 ghost use Rattle.model.specs.Marks.{drawn, drawnOn};
 ghost use Rattle.model.specs.Lines.{isUnknown, horizontal, horizontalLine, pixelColumn, vertical, verticalLine, slopedLine, line};
+ghost use Rattle.pixels.specs.Raster.{modeOf, IsOp};
 use crate::slope::draw_slope;
 use model::DrawMode;
 use model::Marks;
-use pixels::marks::clamp;
-use pixels::marks::greatest;
-use pixels::marks::least;
-use pixels::marks::lowered_marks;
-use pixels::marks::no_marks;
-use pixels::marks::span_marks;
 use pixels::point::plot_mask;
 use pixels::point::point_mask;
+use pixels::raster::RasterOp;
+use pixels::raster::raster_op;
 use pixels::run::draw_run;
+use pixels::span::clamp;
+use pixels::span::greatest;
+use pixels::span::least;
+use pixels::span::lowered_marks;
+use pixels::span::no_marks;
+use pixels::span::span_marks;
 
 pub fn is_unknown(mode: DrawMode) -> bool
     ensures { λ r. ⌜ r ≡ isUnknown mode ⌝ }
@@ -36,16 +39,17 @@ pub fn draw_hor_line(
     left: u8,
     right: u8,
     y: u8,
-    mode: DrawMode,
+    op: RasterOp,
 )
     requires { ⌜ Screen stride height (now screen) ⌝ }
     requires { ⌜ left ≤ right ⌝ }
-    ensures { λ _. ⌜ now (screen .exit) ≡ draw stride (seen stride height (horizontal stride height left right y mode)) (now (screen .entry)) ⌝ }
+    requires { ⌜ IsOp op ⌝ }
+    ensures { λ _. ⌜ now (screen .exit) ≡ draw stride (seen stride height (horizontal stride height left right y (modeOf op))) (now (screen .entry)) ⌝ }
 {
     let first = clamp(left as usize, 8 * stride);
     let last = clamp(right as usize, 8 * stride);
     let line = clamp(y as usize, height);
-    draw_run(stride, height, screen, first, last, line, mode);
+    draw_run(stride, height, screen, first, last, line, op);
 }
 
 fn draw_column(
@@ -118,7 +122,8 @@ fn draw_horizontal(
     requires { ⌜ left ≤ right ⌝ }
     ensures { λ r. ⌜ drawn r (now (screen .exit)) ≡ drawnOn stride height (horizontalLine stride height left right y mode) (now (screen .entry)) ⌝ }
 {
-    draw_hor_line(stride, height, screen, left, right, y, mode);
+    let op = raster_op(mode);
+    draw_hor_line(stride, height, screen, left, right, y, op);
     lowered_marks(stride, height, left, y, right, y)
 }
 

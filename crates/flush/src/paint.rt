@@ -13,7 +13,7 @@ use crate::walk::start;
 use model::Form;
 use model::Glyph;
 use model::Spot;
-use record::inverse::is_inverse;
+use record::flags::is_inverse;
 ghost use mathlib.Core.Bool.{true};
 ghost use mathlib.Core.List.{map};
 ghost use mathlib.Core.Path.{_≡_};

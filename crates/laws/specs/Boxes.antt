@@ -18,6 +18,7 @@ use Rattle.model.specs.Lines.{isUnknown, spanRect, pixelRun, clamp, horizontal,
 use Rattle.model.specs.Boxes.{rows, filledBox, outline, boxOf, box}
 use Rattle.laws.specs.Tests.{tests, by-test, all-true}
 use Rattle.laws.specs.Writes.{drawn-append, within-none, within-append, owes-mark, drawn-is, screen-draw}
+use Rattle.laws.specs.Solid.{solid, horizontal-in, filled-in}
 use Rattle.laws.specs.Points.{bothLowered}
 use Rattle.laws.specs.Runs.{maskedBytes, bytes-append, bytes-run, bytes-kept}
 use Rattle.laws.specs.Lines.{span-fits, horizontal-within, horizontal-drawn, vertical-within}
@@ -133,27 +134,27 @@ box-whole st h left top right bottom d s e {a} {b} r hs o p q u v w =
 
 -- ---- an outline, part after part
 
-module _ (st h left top right bottom : ℕ) (d : DrawMode) (s s₁ s₂ : List ℕ)
-    (first : s₁ ≡ draw st (seen st h (horizontal st h left right top d)) s)
-    (second : s₂ ≡ draw st (seen st h (horizontal st h left right bottom d)) s₁) where
+module _ (st h left top right bottom : ℕ) (d : DrawMode) {k : DrawMode} (s s₁ s₂ : List ℕ) (same : k ≡ solid d)
+    (first : s₁ ≡ draw st (seen st h (horizontal st h left right top k)) s)
+    (second : s₂ ≡ draw st (seen st h (horizontal st h left right bottom k)) s₁) where
   sides : (ws : List PixelWrite) (e : List ℕ) → e ≡ draw st (seen st h ws) s₂
       → e ≡ draw st (seen st h (horizontal st h left right top d ++ (horizontal st h left right bottom d ++ ws))) s
   sides ws e w =
-      w ∙ ap (draw st (seen st h ws)) second ∙ sym (drawn-append st h (horizontal st h left right bottom d) ws s₁)
-      ∙ ap (draw st (seen st h (horizontal st h left right bottom d ++ ws))) first
+      w ∙ ap (draw st (seen st h ws)) (horizontal-in st h d s₁ s₂ same left right bottom second) ∙ sym (drawn-append st h (horizontal st h left right bottom d) ws s₁)
+      ∙ ap (draw st (seen st h (horizontal st h left right bottom d ++ ws))) (horizontal-in st h d s s₁ same left right top first)
       ∙ sym (drawn-append st h (horizontal st h left right top d) (horizontal st h left right bottom d ++ ws) s)
 
   pub outline-unknown : {t : Bool} → t ≡ isUnknown d → t ≡ true → s₂ ≡ draw st (seen st h (outline st h left top right bottom d)) s
   unfolding outline seen draw
-  outline-unknown p q = let k : isUnknown d ≡ true = sym p ∙ q in rw k (sides [] s₂ refl)
+  outline-unknown p q = let u : isUnknown d ≡ true = sym p ∙ q in rw u (sides [] s₂ refl)
 
   pub outline-drawn : (s₃ e : List ℕ) {t : Bool} → t ≡ isUnknown d → t ≡ false
       → s₃ ≡ draw st (seen st h (vertical left top bottom d)) s₂ → e ≡ draw st (seen st h (vertical right top bottom d)) s₃
       → e ≡ draw st (seen st h (outline st h left top right bottom d)) s
   unfolding outline
   outline-drawn s₃ e p q w v =
-      let k : isUnknown d ≡ false = sym p ∙ q in
-      rw k (sides (vertical left top bottom d ++ vertical right top bottom d) e
+      let u : isUnknown d ≡ false = sym p ∙ q in
+      rw u (sides (vertical left top bottom d ++ vertical right top bottom d) e
       (v ∙ ap (draw st (seen st h (vertical right top bottom d))) w ∙ sym (drawn-append st h (vertical left top bottom d) (vertical right top bottom d) s₂)))
 
 -- ---- with its marks
@@ -172,9 +173,10 @@ module _ (st h x1 y1 x2 y2 : ℕ) (d : DrawMode) (s e : List ℕ) {l t r b : ℕ
   unfolding box
   same-box fill = λ i. drawnOn st h (boxOf st h (pl i) (pt i) (pr i) (pb i) fill d) s
 
-  pub box-filled : {fill : Bool} → fill ≡ true → e ≡ draw st (seen st h (filledBox st h l t r b d)) s → drawn m e ≡ drawnOn st h (box st h x1 y1 x2 y2 fill d) s
+  pub box-filled : {fill : Bool} {k : DrawMode} → fill ≡ true → k ≡ solid d → e ≡ draw st (seen st h (filledBox st h l t r b k)) s → drawn m e ≡ drawnOn st h (box st h x1 y1 x2 y2 fill d) s
   unfolding boxOf
-  box-filled {fill} f w = rw f (box-marked st h l t r b true d s e m (omega arith) (omega arith) marks w ∙ same-box true)
+  box-filled {fill} f k w =
+      rw f (box-marked st h l t r b true d s e m (omega arith) (omega arith) marks (filled-in st h d s e k l t r b w) ∙ same-box true)
 
   pub box-outlined : {fill : Bool} → fill ≡ false → e ≡ draw st (seen st h (outline st h l t r b d)) s → drawn m e ≡ drawnOn st h (box st h x1 y1 x2 y2 fill d) s
   unfolding boxOf

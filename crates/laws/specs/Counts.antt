@@ -14,12 +14,12 @@ use Rattle.laws.specs.Tests.{either, same-or-not}
 
 -- ---- no pixel differs
 
-sum-zero : (n : ℕ) (f : ℕ → ℕ) → ((i : ℕ) → i < n → f i ≡ 0) → sum n f ≡ 0
+pub sum-zero : (n : ℕ) (f : ℕ → ℕ) → ((i : ℕ) → i < n → f i ≡ 0) → sum n f ≡ 0
 unfolding sum
 sum-zero zero f h = refl
 sum-zero (suc n) f h = omega (arith, sum-zero n f (λ i l. h i (omega arith)), h n (omega arith))
 
-differs-same : (a b : Bool) → a ≡ b → differs a b ≡ 0
+pub differs-same : (a b : Bool) → a ≡ b → differs a b ≡ 0
 unfolding differs
 differs-same true true e = refl
 differs-same true false e = cc

@@ -1,5 +1,5 @@
 -- Ellipses as the code draws and marks them: each law's premises are what the functions below ensure and what the branches say.
-use mathlib.Core.Path.{_≡_, sym, ap, _∙_}
+use mathlib.Core.Path.{_≡_, refl, sym, ap, ap₂, _∙_}
 use mathlib.Core.Bool.{Bool, true, false, cond}
 use mathlib.Core.List.{List, [], _∷_, _++_}
 use Prim.Native.Nat.{ℕ, _+_, _-_, _*_, _≤_, max}
@@ -8,14 +8,15 @@ use lib.Dec.{ltb}
 use Rattle.model.specs.declared.Rect.{Rect}
 use Rattle.model.specs.declared.Marks.{Marks}
 use Rattle.model.specs.declared.DrawMode.{DrawMode}
-use Rattle.model.specs.Pixels.{draw, seen}
+use Rattle.model.specs.Pixels.{PixelWrite, draw, seen}
 use Rattle.model.specs.Rects.{none, lowered}
 use Rattle.model.specs.Marks.{Drawing, whole, within, owes, drawn, drawnOn}
 use Rattle.model.specs.Points.{pointWrite, point}
 use Rattle.model.specs.Lines.{horizontal}
-use Rattle.model.specs.Ellipses.{Part, part, parts, up, down, corners, chord, chords, partWrites, wraps, ellipseMark, isPoint, isNothing, ellipseDrawn, ellipse, radiiFit}
+use Rattle.model.specs.Ellipses.{Part, part, parts, up, down, corners, chord, chords, partWrites, partsWrites, wraps, ellipseMark, isPoint, isNothing, ellipseDrawn, ellipse, radiiFit}
 use Rattle.laws.specs.Tests.{tests, if-cases, clash}
 use Rattle.laws.specs.Writes.{drawn-append}
+use Rattle.laws.specs.Solid.{solid, horizontal-solid, solid-known}
 use Rattle.laws.specs.Points.{both}
 use Rattle.laws.specs.EllipseSteps.{Round}
 use Rattle.laws.specs.EllipseMarks.{Inside, unwrapped, Shape, isDot, isVoid, isRound, shape, ellipse-owes}
@@ -23,18 +24,13 @@ use Rattle.laws.specs.EllipseWalks.{painted}
 
 -- ---- a part
 
-pub corners-drawn : (st h x y a b : ℕ) (d : DrawMode) (s s₁ s₂ s₃ e : List ℕ) {l r t m : ℕ} → l ≡ down x a → r ≡ up x a → t ≡ down y b → m ≡ up y b
-    → s₁ ≡ draw st (seen st h (pointWrite l t d ∷ [])) s → s₂ ≡ draw st (seen st h (pointWrite r t d ∷ [])) s₁
-    → s₃ ≡ draw st (seen st h (pointWrite l m d ∷ [])) s₂ → e ≡ draw st (seen st h (pointWrite r m d ∷ [])) s₃
+pub corners-drawn : (st h x y a b : ℕ) (d : DrawMode) (s s₁ e : List ℕ) {l r t m : ℕ} → l ≡ down x a → r ≡ up x a → t ≡ down y b → m ≡ up y b
+    → s₁ ≡ draw st (seen st h (pointWrite l t d ∷ pointWrite r t d ∷ [])) s → e ≡ draw st (seen st h (pointWrite l m d ∷ pointWrite r m d ∷ [])) s₁
     → e ≡ draw st (seen st h (corners x y d (part a b))) s
 unfolding corners
-corners-drawn st h x y a b d s s₁ s₂ s₃ e {l} {r} {t} {m} pl pr pt pm k₁ k₂ k₃ k =
-    k ∙ ap (draw st (seen st h (pointWrite r m d ∷ []))) k₃
-    ∙ sym (drawn-append st h (pointWrite l m d ∷ []) (pointWrite r m d ∷ []) s₂)
-    ∙ ap (draw st (seen st h (pointWrite l m d ∷ pointWrite r m d ∷ []))) k₂
-    ∙ sym (drawn-append st h (pointWrite r t d ∷ []) (pointWrite l m d ∷ pointWrite r m d ∷ []) s₁)
-    ∙ ap (draw st (seen st h (pointWrite r t d ∷ pointWrite l m d ∷ pointWrite r m d ∷ []))) k₁
-    ∙ sym (drawn-append st h (pointWrite l t d ∷ []) (pointWrite r t d ∷ pointWrite l m d ∷ pointWrite r m d ∷ []) s)
+corners-drawn st h x y a b d s s₁ e {l} {r} {t} {m} pl pr pt pm k₁ k =
+    k ∙ ap (draw st (seen st h (pointWrite l m d ∷ pointWrite r m d ∷ []))) k₁
+    ∙ sym (drawn-append st h (pointWrite l t d ∷ pointWrite r t d ∷ []) (pointWrite l m d ∷ pointWrite r m d ∷ []) s)
     ∙ (λ i. draw st (seen st h (pointWrite (pl i) (pt i) d ∷ pointWrite (pr i) (pt i) d ∷ pointWrite (pl i) (pm i) d ∷ pointWrite (pr i) (pm i) d ∷ [])) s)
 
 pub chord-order : (left right : ℕ) {l : ℕ} → l ≡ cond (ltb right left) 0 left → l ≤ right
@@ -64,6 +60,24 @@ pub part-outlined : (st h x y : ℕ) (d : DrawMode) (q : Part) (s e : List ℕ) 
     → e ≡ draw st (seen st h (corners x y d q)) s → e ≡ draw st (seen st h (partWrites st h x y fill d q)) s
 unfolding partWrites
 part-outlined st h x y d q s e f k = rw f k
+
+-- ---- a filled one is the same in Unknown and in Xor
+
+part-solid : (st h x y : ℕ) (d : DrawMode) (q : Part) → partWrites st h x y true (solid d) q ≡ partWrites st h x y true d q
+unfolding partWrites chords chord
+part-solid st h x y d q = ap₂ _++_ (horizontal-solid st h _ _ _ d) (horizontal-solid st h _ _ _ d)
+
+parts-solid : (st h x y : ℕ) (d : DrawMode) (qs : List Part) → partsWrites st h x y true (solid d) qs ≡ partsWrites st h x y true d qs
+unfolding partsWrites
+parts-solid st h x y d [] = refl
+parts-solid st h x y d (q ∷ qs) = ap₂ _++_ (part-solid st h x y d q) (parts-solid st h x y d qs)
+
+-- an ellipse that is drawn: filled, or in a known mode
+pub painted-solid : (st h x y : ℕ) (fill : Bool) (d : DrawMode) (qs : List Part) (s : List ℕ) → isNothing fill d ≡ false
+    → painted st h x y fill (solid d) qs s ≡ painted st h x y fill d qs s
+unfolding isNothing
+painted-solid st h x y true d qs s k = ap (λ (l : List PixelWrite). draw st (seen st h l) s) (parts-solid st h x y d qs)
+painted-solid st h x y false d qs s k = ap (λ (m : DrawMode). painted st h x y false m qs s) (solid-known d k)
 
 -- ---- marks
 
@@ -111,21 +125,22 @@ module _ (st h x y rx ry : ℕ) (fill : Bool) (d : DrawMode) (s e : List ℕ) (m
 
   pub ellipse-marked : {t u : Bool} → radiiFit rx ry fill d ≡ true → t ≡ isPoint rx ry → t ≡ false → u ≡ isNothing fill d → u ≡ false
       → m .dirty ≡ ellipseMark st h x y rx ry → m .owed ≡ cond fill (lowered (8 * st) h (ellipseMark st h x y rx ry)) (ellipseMark st h x y rx ry)
-      → e ≡ painted st h x y fill d (parts rx ry) s → drawn m e ≡ drawnOn st h (ellipse st h x y rx ry fill d) s
+      → (k : DrawMode) → k ≡ solid d → e ≡ painted st h x y fill k (parts rx ry) s → drawn m e ≡ drawnOn st h (ellipse st h x y rx ry fill d) s
   unfolding drawn drawnOn ellipseDrawn
-  ellipse-marked f p q n o a b k =
+  ellipse-marked f p q n o a b k same w =
       let r = is-drawn p q n o in
       let a′ = a ∙ sym (ap (λ (g : Drawing). g .dirty) r) in
       let b′ = b ∙ sym (ap (λ (g : Drawing). g .owed) r) ∙ sym (ellipse-owes st h x y rx ry fill d f) in
-      let k′ = k ∙ sym (ap (λ (g : Drawing). draw st (seen st h (g .writes)) s) r) in
+      let v = ap (λ (k : DrawMode). painted st h x y fill k (parts rx ry) s) same ∙ painted-solid st h x y fill d (parts rx ry) s (sym n ∙ o) in
+      let k′ = w ∙ v ∙ sym (ap (λ (g : Drawing). draw st (seen st h (g .writes)) s) r) in
       λ i. record { dirty = a′ i; owed = b′ i; screen = k′ i }
 
-  pub ellipse-filled : {t u : Bool} → radiiFit rx ry fill d ≡ true → t ≡ isPoint rx ry → t ≡ false → u ≡ isNothing fill d → u ≡ false → fill ≡ true
+  pub ellipse-filled : {t u : Bool} {k : DrawMode} → radiiFit rx ry fill d ≡ true → t ≡ isPoint rx ry → t ≡ false → u ≡ isNothing fill d → u ≡ false → fill ≡ true
       → m .dirty ≡ ellipseMark st h x y rx ry → m .owed ≡ lowered (8 * st) h (m .dirty)
-      → e ≡ painted st h x y fill d (parts rx ry) s → drawn m e ≡ drawnOn st h (ellipse st h x y rx ry fill d) s
-  ellipse-filled f p q n o g a b k = ellipse-marked f p q n o a (rw g (b ∙ ap (lowered (8 * st) h) a)) k
+      → k ≡ solid d → e ≡ painted st h x y fill k (parts rx ry) s → drawn m e ≡ drawnOn st h (ellipse st h x y rx ry fill d) s
+  ellipse-filled f p q n o g a b same w = ellipse-marked f p q n o a (rw g (b ∙ ap (lowered (8 * st) h) a)) _ same w
 
-  pub ellipse-outlined : {t u : Bool} → radiiFit rx ry fill d ≡ true → t ≡ isPoint rx ry → t ≡ false → u ≡ isNothing fill d → u ≡ false → fill ≡ false
+  pub ellipse-outlined : {t u : Bool} {k : DrawMode} → radiiFit rx ry fill d ≡ true → t ≡ isPoint rx ry → t ≡ false → u ≡ isNothing fill d → u ≡ false → fill ≡ false
       → m .dirty ≡ ellipseMark st h x y rx ry → m .owed ≡ m .dirty
-      → e ≡ painted st h x y fill d (parts rx ry) s → drawn m e ≡ drawnOn st h (ellipse st h x y rx ry fill d) s
-  ellipse-outlined f p q n o g a b k = ellipse-marked f p q n o a (rw g (b ∙ a)) k
+      → k ≡ solid d → e ≡ painted st h x y fill k (parts rx ry) s → drawn m e ≡ drawnOn st h (ellipse st h x y rx ry fill d) s
+  ellipse-outlined f p q n o g a b same w = ellipse-marked f p q n o a (rw g (b ∙ a)) _ same w

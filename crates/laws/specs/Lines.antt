@@ -14,6 +14,7 @@ use Rattle.model.specs.Rects.{lowered, fits}
 use Rattle.model.specs.Marks.{within, drawn, drawnOn}
 use Rattle.model.specs.Points.{pointWrite}
 use Rattle.model.specs.Lines.{spanRect, runOp, pixelRun, clamp, horizontal, horizontalLine, pixelColumn, vertical, verticalLine}
+use Rattle.laws.specs.Solid.{solid, horizontal-in}
 use Rattle.laws.specs.Rects.{fits-passes}
 use Rattle.laws.specs.Masks.{rowWrites}
 use Rattle.laws.specs.Writes.{within-none, within-more, drawn-is}
@@ -153,14 +154,14 @@ column-end st x y (suc n) d s t h q = absurd (omega arith)
 
 -- ---- with their marks
 
-pub horizontal-marked : (st h left right y : ℕ) (d : DrawMode) (s e : List ℕ) {m : Marks} → left ≤ right
-    → m ≡ bothLowered st h (spanRect left y right y) → e ≡ draw st (seen st h (horizontal st h left right y d)) s
+pub horizontal-marked : (st h left right y : ℕ) (d : DrawMode) (s e : List ℕ) {m : Marks} {k : DrawMode} → left ≤ right → k ≡ solid d
+    → m ≡ bothLowered st h (spanRect left y right y) → e ≡ draw st (seen st h (horizontal st h left right y k)) s
     → drawn m e ≡ drawnOn st h (horizontalLine st h left right y d) s
 unfolding horizontalLine
-horizontal-marked st h left right y d s e l p w =
+horizontal-marked st h left right y d s e l same p w =
     drawn-is st h (horizontalLine st h left right y d) s e _
     (horizontal-within st h (spanRect left y right y) left right y d l (omega arith) (omega arith) (omega arith) (omega arith))
-    (λ i. p i .dirty) (λ i. p i .owed) w
+    (λ i. p i .dirty) (λ i. p i .owed) (horizontal-in st h d s e same left right y w)
 
 pub vertical-marked : (st h x top bottom : ℕ) (d : DrawMode) (s e : List ℕ) {m : Marks} → top ≤ bottom
     → m ≡ both (spanRect x top x bottom) → e ≡ draw st (seen st h (vertical x top bottom d)) s

@@ -51,6 +51,13 @@ end-all : every 8 (λ i. every 8 (end-rule i)) ≡ true
 unfolding bitAt
 end-all = refl
 
+abbrev point-rule : ℕ → ℕ → Bool
+point-rule i j = Bool·beq (bitAt (128 / 2 ^ i) (7 - j)) (leb i j && leb j i)
+
+point-all : every 8 (λ i. every 8 (point-rule i)) ≡ true
+unfolding bitAt
+point-all = refl
+
 whole-all : every 8 (bitAt 255) ≡ true
 unfolding bitAt
 whole-all = refl
@@ -100,6 +107,17 @@ both-masks a b h = record {
   small = and-lt 8 (startMask a) (endMask b) (start-small a) (end-small b);
   has = λ x e.
       bitAt-and (startMask a) (endMask b) (7 - x % 8) ∙ ap₂ _&&_ (start-bit a x e) (end-bit b x (e ∙ h) ∙ leb-suc x b);
+}
+
+-- one pixel alone
+pub point-mask : (x : ℕ) → Mask (x / 8) x (x + 1) (128 / 2 ^ (x % 8))
+point-mask x = record {
+  from = omega arith;
+  upto = omega arith;
+  small = omega (arith, div-le-self 128 (2 ^ (x % 8)));
+  has = λ z e.
+      same-bool _ _ (every₂-at 8 8 point-rule point-all (x % 8) (z % 8) (omega arith) (omega arith))
+      ∙ ap₂ _&&_ (same-byte x z e) (same-byte z x (sym e) ∙ leb-suc z x);
 }
 
 pub whole-mask : (k : ℕ) → Mask k (8 * k) (8 * (k + 1)) 255

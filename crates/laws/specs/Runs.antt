@@ -1,7 +1,7 @@
 -- A run of a line drawn by bytes with masks is the run drawn pixel by pixel.
 use mathlib.Core.Path.{_≡_, refl, sym, ap, ap₂, subst⁻¹, _∙_}
 use mathlib.Core.Bool.{Bool, true, false, not, xor, cond, _&&_, Bool·beq}
-use mathlib.Core.List.{List, _∷_, _++_}
+use mathlib.Core.List.{List, [], _∷_, _++_}
 use Prim.Native.Nat.{ℕ, zero, suc, _+_, _-_, _*_, _/_, _≤_, _<_}
 use native.Mathlib.Nat.{mul-le-mul-left}
 use native.Mathlib.Omega.{arith}
@@ -10,14 +10,17 @@ use lib.ListN.{length, getD, set, length-set}
 use Rattle.model.specs.Bits.{bitAt}
 use Rattle.model.specs.declared.DrawMode.{DrawMode}
 use Rattle.model.specs.declared.DrawMode.the-variants.{Clear, Or, Xor, Unknown}
-use Rattle.model.specs.Pixels.{Screen, PixelWrite, draw}
+use Rattle.model.specs.Pixels.{Screen, PixelWrite, writePixel, draw, seen}
 use Rattle.model.specs.Record.{Bytes}
-use Rattle.model.specs.Lines.{runOp, pixelRun}
+use Rattle.model.specs.Points.{pointOp, pointWrite}
+use Rattle.model.specs.Lines.{isUnknown, runOp, pixelRun}
+use Rattle.laws.specs.Tests.{clash, by-lt}
 use Rattle.laws.specs.Tables.{every, every-at}
 use Rattle.laws.specs.Bytes.{Masked, same-bool, bitAt-and, bitAt-xor, bitAt-not, bytes-set}
-use Rattle.laws.specs.Masks.{Mask, startMask, endMask, start-mask, end-mask, both-masks, whole-mask, run-equal, run-masked, run-draw}
-use Rattle.laws.specs.Writes.{draw-append, screen-draw}
-use Rattle.laws.specs.Lines.{run-row}
+use Rattle.laws.specs.Masks.{Mask, startMask, endMask, start-mask, end-mask, both-masks, whole-mask, point-mask, run-equal, run-masked, run-draw}
+use Rattle.laws.specs.Writes.{draw-append, drawn-append, screen-draw}
+use Rattle.laws.specs.Points.{maskOf, seen-one, seen-none}
+use Rattle.laws.specs.Lines.{on-is, off-beside, off-below, run-row}
 
 -- ---- a byte with the pixels of a mask drawn, without a branch
 
@@ -91,6 +94,14 @@ masked-by d b m hb hm = record {
 unfoldable pub masked : List ℕ → ℕ → ℕ → DrawMode → List ℕ
 masked s i m d = set s i (maskByte d (getD s i 0) m)
 
+-- a run of one pixel
+run-point : (st x y : ℕ) (d : DrawMode) (s : List ℕ) → isUnknown d ≡ false → draw st (pixelRun x y 1 d) s ≡ writePixel st s (pointWrite x y d)
+unfolding pixelRun draw isUnknown runOp pointOp
+run-point st x y Clear s k = refl
+run-point st x y Or s k = refl
+run-point st x y Xor s k = refl
+run-point st x y Unknown s k = absurd (clash true refl k)
+
 pub line-in : (st h y : ℕ) {s : List ℕ} → Screen st h s → y < h → st * y + st ≤ length s
 line-in st h y r hy = omega (arith, r .sized, mul-le-mul-left {m = suc y} {n = h} st hy)
 
@@ -105,6 +116,34 @@ mask-run st h y k a b m n d s r hs hy hk hm e =
     (run-equal st y a b (λ x v. runOp d v) s _ _ (r .wide)
     (run-masked st y k a b m (λ j v. runOp d v) (λ x v. runOp d v) s _ hm hk (omega arith) hs (masked-by d _ m (hs (st * y + k)) (hm .small)) (λ x t q. refl))
     (run-draw st y a b n (runOp d) s e l i hs))
+
+-- one pixel by its mask: a point, where the mode is known
+pub mask-point : (st h x y : ℕ) (d : DrawMode) (s : List ℕ) → Screen st h s → Bytes s → x < 8 * st → y < h → isUnknown d ≡ false
+    → masked s (st * y + x / 8) (maskOf x) d ≡ writePixel st s (pointWrite x y d)
+mask-point st h x y d s r hs hx hy k =
+    mask-run st h y (x / 8) x (x + 1) (maskOf x) 1 d s r hs hy (omega arith) (point-mask x) refl ∙ run-point st x y d s k
+
+-- a point of a line of the screen, drawn so where it is not beside it
+pub beside-drawn : (st h x y : ℕ) (d : DrawMode) (s e : List ℕ) {m : ℕ} → Screen st h s → Bytes s → x < 8 * st → y < h → isUnknown d ≡ false → m ≡ maskOf x
+    → e ≡ masked s (st * y + x / 8) m d → e ≡ draw st (seen st h (pointWrite x y d ∷ [])) s
+beside-drawn st h x y d s e r hs hx hy k p w =
+    seen-one st h x y d s e (sym (on-is st h x y hx hy)) refl
+    (w ∙ ap (λ (m : ℕ). masked s (st * y + x / 8) m d) p ∙ mask-point st h x y d s r hs hx hy k)
+
+pub beside-none : (st h x y : ℕ) (d : DrawMode) (s : List ℕ) → 8 * st ≤ x → s ≡ draw st (seen st h (pointWrite x y d ∷ [])) s
+beside-none st h x y d s o = seen-none st h x y d s (sym (off-beside st h x y o)) refl
+
+-- two points of one line
+pub pair-drawn : (st h x₁ x₂ y : ℕ) (d : DrawMode) (s s₁ e : List ℕ) → s₁ ≡ draw st (seen st h (pointWrite x₁ y d ∷ [])) s
+    → e ≡ draw st (seen st h (pointWrite x₂ y d ∷ [])) s₁ → e ≡ draw st (seen st h (pointWrite x₁ y d ∷ pointWrite x₂ y d ∷ [])) s
+pair-drawn st h x₁ x₂ y d s s₁ e k₁ k =
+    k ∙ ap (draw st (seen st h (pointWrite x₂ y d ∷ []))) k₁ ∙ sym (drawn-append st h (pointWrite x₁ y d ∷ []) (pointWrite x₂ y d ∷ []) s)
+
+pub pair-below : (st h x₁ x₂ y : ℕ) (d : DrawMode) (s : List ℕ) → h ≤ y → s ≡ draw st (seen st h (pointWrite x₁ y d ∷ pointWrite x₂ y d ∷ [])) s
+pair-below st h x₁ x₂ y d s o = pair-drawn st h x₁ x₂ y d s s s (below x₁) (below x₂)
+  where
+    below : (x : ℕ) → s ≡ draw st (seen st h (pointWrite x y d ∷ [])) s
+    below x = by-lt x (8 * st) (λ l. seen-none st h x y d s (sym (off-below st h x y l o)) refl) (λ l. beside-none st h x y d s l)
 
 -- two runs that meet are one
 pub run-append : (x y n m : ℕ) (d : DrawMode) → pixelRun x y (n + m) d ≡ pixelRun x y n d ++ pixelRun (x + n) y m d

@@ -1,10 +1,10 @@
 -- What the stores into a lent record leave: the bytes of the state with that part changed.
 use mathlib.Core.Path.{_≡_, refl, sym, ap, _∙_}
 use mathlib.Core.List.{List, [], _∷_, _++_, append-assoc, append-nil, map}
-use mathlib.Core.Bool.{false}
+use mathlib.Core.Bool.{Bool, false}
 use Prim.Native.Nat.{ℕ, zero, suc, _+_, _*_}
 use native.Mathlib.Omega.{arith}
-use lib.ListN.{length, drop, replicate, length-append, drop-of-length-le}
+use lib.ListN.{length, drop, replicate, length-append, length-replicate, length-map, drop-of-length-le}
 use lib.Seq.{drop-drop}
 use Rattle.model.specs.declared.Head.{Head}
 use Rattle.model.specs.declared.Pending.{Pending}
@@ -17,7 +17,6 @@ use Rattle.laws.specs.Layout.{rects-at, rect-from, four-from, length-rec
 use Rattle.laws.specs.Memory.{append-window}
 use Rattle.laws.specs.Rects.{join-none}
 use Rattle.laws.specs.Bands.{joinOwed-none}
-use Rattle.laws.specs.Loops.{length-zeros}
 use Rattle.laws.specs.Record.{Passing, encode-decode, encode-parts, head-stored, pending-again}
 
 pub length-pending : (g : Geometry) (p : Pending) → length (p .owed) ≡ g .bands → length (bytesOfPending p) ≡ pendingBytes g
@@ -64,29 +63,38 @@ put-pending g p r k e = ap (withWindow pendingAt (bytesOfPending p)) (sym (head-
 
 -- ---- a record written whole
 
-flags-zero : (n : ℕ) → map flagByte (replicate n false) ≡ zeros n
+pub flags-zero : (n : ℕ) → map flagByte (replicate n false) ≡ zeros n
 unfolding zeros
 flags-zero zero = refl
 flags-zero (suc n) = ap (λ (l : List ℕ). 0 ∷ l) (flags-zero n)
+
+-- flags over any bytes, after the other parts
+pub put-flags : (g : Geometry) (h : Head) (p : Pending) (ks : List ℕ) (fs : List Bool) (l : List ℕ) → length (p .owed) ≡ g .bands → length ks ≡ 8
+    → length fs ≡ cells g → length l ≡ cells g
+    → withWindow (flagsAt g) (map flagByte fs) (bytesOfHead h ++ (bytesOfPending p ++ (wordsBytes ks ++ l)))
+    ≡ encode (record { head = h; pending = p; keys = ks; flags = fs })
+unfolding encode
+put-flags g h p ks fs l e f m n =
+    let a = bytesOfHead h in
+    let b = bytesOfPending p in
+    let c = wordsBytes ks in
+    let z = map flagByte fs in
+    let long : length ((a ++ b) ++ c) ≡ flagsAt g = omega (arith, length-append (a ++ b) c, length-append a b, length-pending g p e, length-words ks, ap (λ (k : ℕ). 4 * k) f) in
+    let none : drop (length z) l ≡ [] = drop-of-length-le l {i = length z} (rw (length-map fs flagByte) (omega arith)) in
+    ap (withWindow (flagsAt g) z) (sym (append-assoc a b (c ++ l)) ∙ sym (append-assoc (a ++ b) c l))
+    ∙ append-window ((a ++ b) ++ c) z l (flagsAt g) long
+    ∙ ap (λ (x : List ℕ). ((a ++ b) ++ c) ++ (z ++ x)) none
+    ∙ ap (λ (x : List ℕ). ((a ++ b) ++ c) ++ x) (append-nil z)
+    ∙ append-assoc (a ++ b) c z
+    ∙ append-assoc a b (c ++ z)
 
 -- head, pending part, keys and no flags, one after another over any bytes
 pub put-all : (g : Geometry) (h : Head) (p : Pending) (ks : List ℕ) (l : List ℕ) → length (p .owed) ≡ g .bands → length ks ≡ 8 → length l ≡ cells g
     → withWindow (flagsAt g) (zeros (cells g)) (bytesOfHead h ++ (bytesOfPending p ++ (wordsBytes ks ++ l)))
     ≡ encode (record { head = h; pending = p; keys = ks; flags = replicate (cells g) false })
-unfolding encode
 put-all g h p ks l e f n =
-    let a = bytesOfHead h in
-    let b = bytesOfPending p in
-    let c = wordsBytes ks in
-    let z = zeros (cells g) in
-    let long : length ((a ++ b) ++ c) ≡ flagsAt g = omega (arith, length-append (a ++ b) c, length-append a b, length-pending g p e, length-words ks, ap (λ (k : ℕ). 4 * k) f) in
-    let none : drop (length z) l ≡ [] = drop-of-length-le l {i = length z} (rw (length-zeros (cells g)) (omega arith)) in
-    ap (withWindow (flagsAt g) z) (sym (append-assoc a b (c ++ l)) ∙ sym (append-assoc (a ++ b) c l))
-    ∙ append-window ((a ++ b) ++ c) z l (flagsAt g) long
-    ∙ ap (λ (x : List ℕ). ((a ++ b) ++ c) ++ (z ++ x)) none
-    ∙ ap (λ (x : List ℕ). ((a ++ b) ++ c) ++ x) (append-nil z ∙ sym (flags-zero (cells g)))
-    ∙ append-assoc (a ++ b) c (map flagByte (replicate (cells g) false))
-    ∙ append-assoc a b (c ++ map flagByte (replicate (cells g) false))
+    ap (λ (z : List ℕ). withWindow (flagsAt g) z (bytesOfHead h ++ (bytesOfPending p ++ (wordsBytes ks ++ l)))) (sym (flags-zero (cells g)))
+    ∙ put-flags g h p ks (replicate (cells g) false) l e f (length-replicate (cells g) false) n
 
 -- ---- an empty mark leaves a record as it was
 

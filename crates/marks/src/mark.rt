@@ -3,6 +3,8 @@ use crate::rect;
 use model::Head;
 use model::Pending;
 use model::Rect;
+use model::glass::BOTTOM;
+use model::glass::RIGHT;
 ghost use mathlib.Core.Path.{_≡_};
 ghost use lib.ListN.{length};
 ghost use Rattle.model.specs.Geometry.{base};
@@ -26,7 +28,7 @@ pub fn join_owed(p: Pending, m: Rect) -> Pending
     let owed = bands[0];
     let hand = p.hand;
     Pending {
-        owed: [rect::join_rects(owed, rect::cut_rect(160, 0, 80, m))],
+        owed: [rect::join_rects(owed, rect::cut_rect(RIGHT, 0, BOTTOM, m))],
         hand: hand,
         sent: p.sent,
     }

@@ -11,16 +11,19 @@ use Rattle.model.specs.declared.Area.{Area}
 use Rattle.model.specs.declared.Sent.{Sent}
 use Rattle.model.specs.Geometry.{Geometry, height, rows, columns, screenBytes, memoryBytes}
 use Rattle.model.specs.Rects.{Rect, none}
-use Rattle.model.specs.Memory.{zeros, screenOf, withScreen}
+use Rattle.model.specs.Memory.{zeros, window, screenOf, withScreen}
 use Rattle.model.specs.Record.{State, decode, encode, valid, windows, recordBytes, withHead, withPending}
-use Rattle.model.specs.Refusals.{LENT, STATE, WINDOW, VALUE, RADIUS, GLYPH, ENDLESS, Test, test, refusal, ruled}
+use Rattle.model.specs.Refusals.{LENT, STATE, WINDOW, VALUE, SOURCE, RADIUS, GLYPH, ENDLESS, Test, test, refusal, ruled}
 use Rattle.model.specs.Marks.{Drawing, whole, drawnOn, marked, withDirty}
 use Rattle.model.specs.Open.{clearMemory, openState, resetState}
 use Rattle.model.specs.Points.{drawMode, point, checkPoint}
 use Rattle.model.specs.Lines.{line}
 use Rattle.model.specs.Boxes.{box}
 use Rattle.model.specs.Ellipses.{ellipse, circle, radiiFit, stepsFit}
-use Rattle.model.specs.Text.{withRow, withColumn, withPrintMode}
+use Rattle.model.specs.Bitmaps.{paintMode, sourceBytes, sourceFits, bitmap}
+use Rattle.model.specs.Text.{withRow, withColumn, withPrintMode, withCursor, clearedState, clearedMemory}
+use Rattle.model.specs.Print.{Page, newlineOn, isInverse, printOn, pageOf, turnedState, turnedMemory}
+use Rattle.model.specs.Cursor.{blinkHead, blinkDrawing}
 use Rattle.model.specs.Poke.{poked, pokeMark}
 use Rattle.model.specs.Glyphs.{Fonts, fontsFit}
 use Rattle.model.specs.Flush.{flushStores, flushed}
@@ -42,6 +45,12 @@ pub data Call : Type 0 where
   -- x, y, the two radii, fill, mode
   drawEllipse : ℕ → ℕ → ℕ → ℕ → ℕ → ℕ → Call
   checkPixel : ℤ → ℤ → Call
+  -- address, x, y, width, height, mode
+  paintBitmap : ℕ → ℤ → ℤ → ℕ → ℕ → ℕ → Call
+  -- the text's bytes
+  print : List ℕ → Call
+  newline : Call
+  cls : Call
   -- address, byte
   writeByte : ℕ → ℕ → Call
   flush : Fonts → Call
@@ -49,7 +58,10 @@ pub data Call : Type 0 where
   getColumn : Call
   setRow : ℕ → Call
   setColumn : ℕ → Call
+  setScreenMode : ℕ → Call
   setPrintMode : ℕ → Call
+  blinkCursor : Call
+  clearCursor : Call
   takeDirtyArea : Call
   send : Call
 
@@ -125,6 +137,11 @@ refusals g (drawBox x1 y1 x2 y2 fill mode) l =
 refusals g (drawCircle x y r fill mode) l = ellipseTests g r r fill mode l
 refusals g (drawEllipse x y rx ry fill mode) l = ellipseTests g rx ry fill mode l
 refusals g (checkPixel x y) l = lentTest g (l .rec) (memoryFits l) ∷ stateTest g (l .rec) ∷ []
+refusals g (paintBitmap a x y w n mode) l =
+    lentTest g (l .rec) (memoryFits l) ∷ stateTest g (l .rec) ∷ test VALUE (leb mode 4) ∷ test SOURCE (sourceFits a w n) ∷ []
+refusals g (print bs) l = lentTest g (l .rec) (memoryFits l) ∷ stateTest g (l .rec) ∷ []
+refusals g newline l = lentTest g (l .rec) (memoryFits l) ∷ stateTest g (l .rec) ∷ []
+refusals g cls l = lentTest g (l .rec) (memoryFits l) ∷ stateTest g (l .rec) ∷ []
 refusals g (writeByte a v) l = lentTest g (l .rec) (memoryFits l) ∷ stateTest g (l .rec) ∷ []
 refusals g (flush f) l =
     lentTest g (l .rec) (memoryFits l && listFits f) ∷ stateTest g (l .rec) ∷
@@ -133,7 +150,10 @@ refusals g getRow l = lentTest g (l .rec) true ∷ stateTest g (l .rec) ∷ []
 refusals g getColumn l = lentTest g (l .rec) true ∷ stateTest g (l .rec) ∷ []
 refusals g (setRow n) l = lentTest g (l .rec) true ∷ stateTest g (l .rec) ∷ test VALUE (ltb n (rows g)) ∷ []
 refusals g (setColumn n) l = lentTest g (l .rec) true ∷ stateTest g (l .rec) ∷ test VALUE (ltb n (columns g)) ∷ []
+refusals g (setScreenMode n) l = lentTest g (l .rec) (memoryFits l) ∷ stateTest g (l .rec) ∷ test VALUE (leb n 1) ∷ []
 refusals g (setPrintMode n) l = lentTest g (l .rec) true ∷ stateTest g (l .rec) ∷ test VALUE (leb n 2) ∷ []
+refusals g blinkCursor l = lentTest g (l .rec) (memoryFits l) ∷ stateTest g (l .rec) ∷ []
+refusals g clearCursor l = lentTest g (l .rec) (memoryFits l) ∷ stateTest g (l .rec) ∷ []
 refusals g takeDirtyArea l = lentTest g (l .rec) true ∷ stateTest g (l .rec) ∷ []
 refusals g send l = lentTest g (l .rec) (memoryFits l && panelFits g l) ∷ stateTest g (l .rec) ∷ []
 
@@ -147,28 +167,58 @@ numbers (drawBox x1 y1 x2 y2 fill mode) = 0
 numbers (drawCircle x y r fill mode) = 0
 numbers (drawEllipse x y rx ry fill mode) = 0
 numbers (checkPixel x y) = 1
+numbers (paintBitmap a x y w n mode) = 0
+numbers (print bs) = 0
+numbers newline = 0
+numbers cls = 0
 numbers (writeByte a v) = 0
 numbers (flush f) = 0
 numbers getRow = 1
 numbers getColumn = 1
 numbers (setRow n) = 0
 numbers (setColumn n) = 0
+numbers (setScreenMode n) = 0
 numbers (setPrintMode n) = 0
+numbers blinkCursor = 0
+numbers clearCursor = 0
 numbers takeDirtyArea = 4
 numbers send = 4
 
 -- ---- what an accepted call does
 
--- a drawing over the screen in memory
-unfoldable pub drawing : Geometry → Drawing → Lent → Lent
-drawing g d l =
+-- a drawing over the screen in memory, and the head that f makes
+unfoldable pub drawingWith : Geometry → (Head → Head) → Drawing → Lent → Lent
+drawingWith g f d l =
     let s = decode g (l .rec) in
     let o = drawnOn (g .stride) (height g) d (screenOf g (s .head .graphics) (l .memory)) in
-    lent (encode (marked g (o .dirty) (o .owed) s)) (withScreen (s .head .graphics) (o .screen) (l .memory)) (l .panel)
+    lent (encode (marked g (o .dirty) (o .owed) (withHead (f (s .head)) s))) (withScreen (s .head .graphics) (o .screen) (l .memory)) (l .panel)
+
+abbrev pub drawing : Geometry → Drawing → Lent → Lent
+drawing g d l = drawingWith g (λ h. h) d l
 
 -- the head alone changes
 unfoldable pub changed : Geometry → (Head → Head) → Lent → Lent
 changed g f l = let s = decode g (l .rec) in lent (encode (withHead (f (s .head)) s)) (l .memory) (l .panel)
+
+-- `cls`, with the screen mode n
+unfoldable pub cleared : Geometry → ℕ → Lent → Lent
+cleared g n l = let s = decode g (l .rec) in lent (encode (clearedState g n s)) (clearedMemory g (s .head) (l .memory)) (l .panel)
+
+-- the page p takes the place of the old one
+unfoldable pub turned : Geometry → Page → Lent → Lent
+turned g p l = let s = decode g (l .rec) in lent (encode (turnedState g p s)) (turnedMemory g p (s .head) (l .memory)) (l .panel)
+
+-- in Graph a blink does nothing
+unfoldable pub blinked : Geometry → Lent → Lent
+blinked g l =
+    let h = decode g (l .rec) .head in
+    cond (eqb (h .screen) 0) (drawingWith g (blinkHead g (l .memory)) (blinkDrawing g h (l .memory)) l) l
+
+-- without a cursor nothing; else a blink, and none is shown
+unfoldable pub uncursored : Geometry → Lent → Lent
+uncursored g l =
+    let h = decode g (l .rec) .head in
+    cond (eqb (h .cursor) 0) l (cond (eqb (h .screen) 0) (blinked g l) (changed g (withCursor 0) l))
 
 abbrev pub flag : Bool → ℕ
 flag b = cond b 1 0
@@ -189,6 +239,13 @@ done g (drawCircle x y r fill mode) l = answered 0 [] (drawing g (circle (g .str
 done g (drawEllipse x y rx ry fill mode) l = answered 0 [] (drawing g (ellipse (g .stride) (height g) x y rx ry (filled fill) (drawMode mode)) l)
 done g (checkPixel x y) l =
     answered 0 (flag (checkPoint (g .stride) (height g) (screenOf g (decode g (l .rec) .head .graphics) (l .memory)) x y) ∷ []) l
+done g (paintBitmap a x y w n mode) l =
+    answered 0 [] (drawing g (bitmap (g .stride) (height g) (window a (sourceBytes w n) (l .memory)) x y w n (paintMode mode)) l)
+done g (print bs) l =
+    let s = decode g (l .rec) in
+    answered 0 [] (turned g (printOn (rows g) (columns g) (isInverse (s .head .print)) bs (pageOf g s (l .memory))) l)
+done g newline l = answered 0 [] (turned g (newlineOn (rows g) (columns g) (pageOf g (decode g (l .rec)) (l .memory))) l)
+done g cls l = answered 0 [] (cleared g (decode g (l .rec) .head .screen) l)
 done g (writeByte a v) l =
     let s = decode g (l .rec) in
     let m = pokeMark g (s .keys) (s .head .graphics) a in
@@ -201,7 +258,10 @@ done g getRow l = answered 0 (decode g (l .rec) .head .row ∷ []) l
 done g getColumn l = answered 0 (decode g (l .rec) .head .column ∷ []) l
 done g (setRow n) l = answered 0 [] (changed g (withRow n) l)
 done g (setColumn n) l = answered 0 [] (changed g (withColumn n) l)
+done g (setScreenMode n) l = answered 0 [] (cleared g n l)
 done g (setPrintMode n) l = answered 0 [] (changed g (withPrintMode n) l)
+done g blinkCursor l = answered 0 [] (blinked g l)
+done g clearCursor l = answered 0 [] (uncursored g l)
 done g takeDirtyArea l = answered 0 (rectNumbers (decode g (l .rec) .head .dirty)) (changed g (withDirty none) l)
 done g send l =
     let s = decode g (l .rec) in

@@ -21,15 +21,23 @@ height g = g .bands * g .band
 abbrev pub screenBytes : Geometry → ℕ
 screenBytes g = g .stride * height g
 
--- the text cells: one byte wide, sixteen lines high
+-- the lines of a text cell's glyph
+abbrev pub glyphHeight : ℕ
+glyphHeight = 16
+
+-- the text cells: one byte wide, a glyph high
 abbrev pub columns : Geometry → ℕ
 columns g = g .stride
 
 abbrev pub rows : Geometry → ℕ
-rows g = height g / 16
+rows g = height g / glyphHeight
 
 abbrev pub cells : Geometry → ℕ
 cells g = rows g * columns g
+
+-- the screen bytes of a text row
+abbrev pub rowBytes : Geometry → ℕ
+rowBytes g = glyphHeight * g .stride
 
 abbrev pub memoryBytes : ℕ
 memoryBytes = 65536

@@ -12,7 +12,10 @@ pub mod Points
 pub mod Lines
 pub mod Boxes
 pub mod Ellipses
+pub mod Bitmaps
 pub mod Text
+pub mod Print
+pub mod Cursor
 pub mod Poke
 pub mod Codes
 pub mod Glyphs

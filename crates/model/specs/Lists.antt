@@ -1,24 +1,29 @@
 -- Calls in any order: what a list of calls leaves, and what is said of it.
-use mathlib.Core.Bool.{Bool, true, false}
+use mathlib.Core.Bool.{Bool, true, false, cond}
 use mathlib.Core.List.{List, [], _∷_}
 use mathlib.Core.Logic.{_≢_, _⊎_}
 use mathlib.Core.Path.{_≡_}
 use Prim.Native.Nat.{ℕ, zero, suc, _+_, _<_}
 use Rattle.model.specs.declared.Pending.{Pending}
-use Rattle.model.specs.Geometry.{Geometry, width, height}
+use lib.Dec.{eqb}
+use Rattle.model.specs.Geometry.{Geometry, width, height, rows, columns}
 use Rattle.model.specs.Pixels.{bit, seen}
 use Rattle.model.specs.Rects.{Rect, In, linesOf}
-use Rattle.model.specs.Record.{Words, decode}
+use Rattle.model.specs.Record.{Bytes, Words, decode}
 use Rattle.model.specs.Refusals.{refusal}
 use Rattle.model.specs.Marks.{Drawing, whole, owing, owes}
-use Rattle.model.specs.Open.{nothingPending, openPending}
+use Rattle.model.specs.Open.{openPending}
 use Rattle.model.specs.Points.{drawMode, point}
 use Rattle.model.specs.Lines.{line}
 use Rattle.model.specs.Boxes.{box}
 use Rattle.model.specs.Ellipses.{ellipse, circle}
+use Rattle.model.specs.Bitmaps.{paintMode, sourceBytes, bitmap}
+use Rattle.model.specs.Memory.{window}
 use Rattle.model.specs.Poke.{pokeMark}
 use Rattle.model.specs.Sends.{sendPending}
-use Rattle.model.specs.Calls.{Call, opening, reset, drawPoint, drawLine, drawBox, drawCircle, drawEllipse, checkPixel, writeByte, flush, getRow, getColumn, setRow, setColumn, setPrintMode, takeDirtyArea, send, Lent, Outcome, filled, refusals, outcome}
+use Rattle.model.specs.Calls.{Call, opening, reset, drawPoint, drawLine, drawBox, drawCircle, drawEllipse, checkPixel, paintBitmap, writeByte, flush, getRow, getColumn, setRow, setColumn, setPrintMode, takeDirtyArea, send, Lent, Outcome, filled, refusals, outcome, print, newline, cls, setScreenMode, blinkCursor, clearCursor}
+use Rattle.model.specs.Print.{Page, newlineOn, isInverse, printOn, pageOf, screenScrolls, scrollMark}
+use Rattle.model.specs.Cursor.{blinkDrawing}
 use lib.ListN.{length}
 
 -- ---- lists of calls
@@ -36,13 +41,20 @@ Typed (drawBox x1 y1 x2 y2 fill mode) = (x1 < 256) × (y1 < 256) × (x2 < 256) �
 Typed (drawCircle x y r fill mode) = (x < 256) × (y < 256) × (r < 256) × (fill < 256) × (mode < 256)
 Typed (drawEllipse x y rx ry fill mode) = (x < 256) × (y < 256) × (rx < 256) × (ry < 256) × (fill < 256) × (mode < 256)
 Typed (checkPixel x y) = Unit {0}
+Typed (paintBitmap a x y w n mode) = (a < 65536) × (w < 256) × (n < 256) × (mode < 256)
+Typed (print bs) = Bytes bs
+Typed newline = Unit {0}
+Typed cls = Unit {0}
 Typed (writeByte a v) = (a < 65536) × (v < 256)
 Typed (flush f) = Unit {0}
 Typed getRow = Unit {0}
 Typed getColumn = Unit {0}
 Typed (setRow n) = n < 256
 Typed (setColumn n) = n < 256
+Typed (setScreenMode n) = n < 256
 Typed (setPrintMode n) = n < 256
+Typed blinkCursor = Unit {0}
+Typed clearCursor = Unit {0}
 Typed takeDirtyArea = Unit {0}
 Typed send = Unit {0}
 
@@ -73,6 +85,16 @@ pub data Effect : Type 0 where
 abbrev pub draws : Geometry → Drawing → Effect
 draws g d = marks (owes (g .stride) (height g) (d .owed) (seen (g .stride) (height g) (d .writes)))
 
+-- a page that has scrolled in Graph
+abbrev pub turns : Geometry → Page → Lent → Effect
+turns g p l = marks (scrollMark g (screenScrolls (decode g (l .rec) .head .screen) (p .scrolls)))
+
+-- a blink in Text
+unfoldable pub blinks : Geometry → Lent → Effect
+blinks g l =
+    let h = decode g (l .rec) .head in
+    cond (eqb (h .screen) 0) (draws g (blinkDrawing g h (l .memory))) nothing
+
 -- what each call does to them where it is accepted, in the state that the calls before it leave
 unfoldable pub effect : Geometry → Call → Lent → Effect
 effect g (opening graphics text version keys) l = opens
@@ -83,13 +105,22 @@ effect g (drawBox x1 y1 x2 y2 fill mode) l = draws g (box (g .stride) (height g)
 effect g (drawCircle x y r fill mode) l = draws g (circle (g .stride) (height g) x y r (filled fill) (drawMode mode))
 effect g (drawEllipse x y rx ry fill mode) l = draws g (ellipse (g .stride) (height g) x y rx ry (filled fill) (drawMode mode))
 effect g (checkPixel x y) l = nothing
+effect g (paintBitmap a x y w n mode) l =
+    draws g (bitmap (g .stride) (height g) (window a (sourceBytes w n) (l .memory)) x y w n (paintMode mode))
+effect g (print bs) l =
+    let s = decode g (l .rec) in turns g (printOn (rows g) (columns g) (isInverse (s .head .print)) bs (pageOf g s (l .memory))) l
+effect g newline l = turns g (newlineOn (rows g) (columns g) (pageOf g (decode g (l .rec)) (l .memory))) l
+effect g cls l = marks (whole (g .stride) (height g))
 effect g (writeByte a v) l = let s = decode g (l .rec) in marks (pokeMark g (s .keys) (s .head .graphics) a)
 effect g (flush f) l = marks (whole (g .stride) (height g))
 effect g getRow l = nothing
 effect g getColumn l = nothing
 effect g (setRow n) l = nothing
 effect g (setColumn n) l = nothing
+effect g (setScreenMode n) l = marks (whole (g .stride) (height g))
 effect g (setPrintMode n) l = nothing
+effect g blinkCursor l = blinks g l
+effect g clearCursor l = cond (eqb (decode g (l .rec) .head .cursor) 0) nothing (blinks g l)
 effect g takeDirtyArea l = nothing
 effect g send l = sends
 

@@ -1,8 +1,14 @@
--- The text state: row, column and print mode.
+-- The text state: row, column, modes and cursor; `cls`.
 use mathlib.Core.Bool.{cond, _&&_}
+use mathlib.Core.List.{List}
 use Prim.Native.Nat.{ℕ}
 use lib.Dec.{eqb}
 use Rattle.model.specs.declared.Head.{Head}
+use Rattle.model.specs.Geometry.{Geometry, height, cells, screenBytes}
+use Rattle.model.specs.Memory.{zeros, withScreen, withText}
+use Rattle.model.specs.Record.{State}
+use Rattle.model.specs.Marks.{whole, marked}
+use Rattle.model.specs.Open.{clearFlags}
 
 unfoldable pub withRow : ℕ → Head → Head
 withRow n h = record {
@@ -46,3 +52,44 @@ withPrintMode n h = record {
   version = h .version;
   dirty = h .dirty;
 }
+
+abbrev pub atPlace : ℕ → ℕ → Head → Head
+atPlace row column h = withColumn column (withRow row h)
+
+-- screen modes: 0 Text, 1 Graph
+unfoldable pub withScreenMode : ℕ → Head → Head
+withScreenMode n h = record {
+  graphics = h .graphics;
+  text = h .text;
+  row = h .row;
+  column = h .column;
+  screen = n;
+  print = h .print;
+  cursor = h .cursor;
+  version = h .version;
+  dirty = h .dirty;
+}
+
+-- the cursor: 0 none, 1 half, 2 full
+unfoldable pub withCursor : ℕ → Head → Head
+withCursor n h = record {
+  graphics = h .graphics;
+  text = h .text;
+  row = h .row;
+  column = h .column;
+  screen = h .screen;
+  print = h .print;
+  cursor = n;
+  version = h .version;
+  dirty = h .dirty;
+}
+
+-- ---- `cls`, with the screen mode n: it keeps print mode and cursor
+
+unfoldable pub clearedState : Geometry → ℕ → State → State
+clearedState g n s =
+    marked g (whole (g .stride) (height g)) (whole (g .stride) (height g))
+    (record { head = atPlace 0 0 (withScreenMode n (s .head)); pending = s .pending; keys = s .keys; flags = clearFlags g })
+
+unfoldable pub clearedMemory : Geometry → Head → List ℕ → List ℕ
+clearedMemory g h m = withScreen (h .graphics) (zeros (screenBytes g)) (withText (h .text) (zeros (cells g)) m)

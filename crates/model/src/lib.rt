@@ -1,5 +1,7 @@
 // The types that code and definitions share. Every definition of document 01 stands in specs/; no function has a body here.
 
+pub mod glass;
+
 // left < right and top < bottom, right and bottom not included; the empty rectangle is four zeros.
 pub struct Rect {
     pub left: u16,
@@ -39,6 +41,21 @@ pub enum DrawMode {
     Or,
     Xor,
     Unknown,
+}
+
+pub enum PaintMode {
+    Copy,
+    Or,
+    Not,
+    And,
+    Xor,
+}
+
+// The places of an axis that show a run of places which may start before it: from `from` up to `to`, `to` not included. `skip` of the run lie before the axis.
+pub struct Visible {
+    pub skip: usize,
+    pub from: usize,
+    pub to: usize,
 }
 
 // An index or an offset, where there is one.

@@ -8,48 +8,53 @@ use Prim.Native.Nat.{ℕ, _+_, _≤_}
 use native.Mathlib.Omega.{arith}
 use lib.ListN.{length}
 use Rattle.model.specs.declared.Rect.{Rect}
+use Rattle.model.specs.declared.Head.{Head}
 use Rattle.model.specs.declared.DrawMode.{DrawMode}
 use Rattle.model.specs.Geometry.{Geometry, width, height, screenBytes}
 use Rattle.model.specs.Memory.{screenOf, withScreen}
 use Rattle.model.specs.Pixels.{onScreen, draw, seen}
-use Rattle.model.specs.Record.{decode, encode}
-use Rattle.model.specs.Marks.{Drawing, updateDirty, owes, drawnOn, marked}
+use Rattle.model.specs.Record.{decode, encode, withHead}
+use Rattle.model.specs.Marks.{Drawing, owes, drawnOn, marked}
 use Rattle.model.specs.Points.{pointRect, point}
-use Rattle.model.specs.Calls.{Lent, lent, drawing}
+use Rattle.model.specs.Calls.{Lent, lent, drawingWith, drawing}
 use Rattle.model.specs.Lists.{marks, draws}
 use Rattle.laws.specs.Tests.{tests, if-cases, and-true}
 use Rattle.laws.specs.Rects.{Fits}
 use Rattle.laws.specs.Pixels.{length-draw}
 use Rattle.laws.specs.Memory.{length-withWindow, window-same}
 use Rattle.laws.specs.Marks.{AgreeOutside, owes-agrees, seen-on}
-use Rattle.order.specs.Formed.{marked-formed}
-use Rattle.order.specs.Step.{Glass, Good, Step, known, marks-step, screen-in, screen-long}
+use Rattle.order.specs.Formed.{HeadFits, head-fits, fitting, formed}
+use Rattle.order.specs.Step.{Glass, Good, Step, known, rewritten-step, screen-in, screen-long}
 
 module _ (g : Geometry) (k : Glass g) where
-  -- a new screen is written to memory; it agrees with the old one outside what is owed
-  pub painted-step : (dirty owed : Rect) (new : List ℕ) (l : Lent) → Good g l → Fits 256 0 256 dirty → length new ≡ screenBytes g
+  -- a new screen is written to memory, and the head that f makes; the screen agrees with the old one outside what is owed
+  pub painted-step : (f : Head → Head) (dirty owed : Rect) (new : List ℕ) (l : Lent) → Good g l → HeadFits g (f (decode g (l .rec) .head))
+      → f (decode g (l .rec) .head) .graphics ≡ decode g (l .rec) .head .graphics → Fits 256 0 256 dirty → length new ≡ screenBytes g
       → AgreeOutside (g .stride) (height g) owed (screenOf g (decode g (l .rec) .head .graphics) (l .memory)) new
       → Step g l (marks owed)
-      (lent (encode (marked g dirty owed (decode g (l .rec)))) (withScreen (decode g (l .rec) .head .graphics) new (l .memory)) (l .panel))
-  unfolding marked updateDirty
-  painted-step dirty owed new l q f long a =
+      (lent (encode (marked g dirty owed (withHead (f (decode g (l .rec) .head)) (decode g (l .rec))))) (withScreen (decode g (l .rec) .head .graphics) new (l .memory)) (l .panel))
+  painted-step f dirty owed new l q h b d long a =
       let s = decode g (l .rec) in
       let w = known g k l q in
       let in-memory : s .head .graphics + screenBytes g ≤ length (l .memory) = rw (q .memory) (screen-in g k s w) in
-      marks-step g k l q (marked g dirty owed s) (withScreen (s .head .graphics) new (l .memory)) (marked-formed g dirty owed s f w)
+      rewritten-step g k dirty owed (withHead (f (s .head)) s) (withScreen (s .head .graphics) new (l .memory)) l q
+      (formed g (withHead (f (s .head)) s) h (fitting g s w) (w .counted) (w .words) (w .keys) (w .flags)) refl b d
       (length-withWindow (s .head .graphics) new (l .memory) (rw long in-memory) ∙ q .memory)
-      refl owed refl
       (rw (window-same (s .head .graphics) (screenBytes g) new (l .memory) long in-memory) a)
 
   -- a drawing whose dirty rectangle fits
-  pub drawing-step : (d : Drawing) (l : Lent) → Good g l → Fits 256 0 256 (d .dirty) → Step g l (draws g d) (drawing g d l)
-  unfolding drawing drawnOn
-  drawing-step d l q f =
+  pub drawing-with : (f : Head → Head) (d : Drawing) (l : Lent) → Good g l → HeadFits g (f (decode g (l .rec) .head))
+      → f (decode g (l .rec) .head) .graphics ≡ decode g (l .rec) .head .graphics → Fits 256 0 256 (d .dirty) → Step g l (draws g d) (drawingWith g f d l)
+  unfolding drawingWith drawnOn
+  drawing-with f d l q h b fit =
       let ws = seen (g .stride) (height g) (d .writes) in
       let old = screenOf g (decode g (l .rec) .head .graphics) (l .memory) in
-      painted-step (d .dirty) (owes (g .stride) (height g) (d .owed) ws) (draw (g .stride) ws old) l q f
+      painted-step f (d .dirty) (owes (g .stride) (height g) (d .owed) ws) (draw (g .stride) ws old) l q h b fit
       (length-draw (g .stride) ws old ∙ screen-long g k (decode g (l .rec)) (l .memory) (known g k l q) (q .memory))
       (owes-agrees (g .stride) (height g) (d .owed) ws old (seen-on (g .stride) (height g) (d .writes)))
+
+  pub drawing-step : (d : Drawing) (l : Lent) → Good g l → Fits 256 0 256 (d .dirty) → Step g l (draws g d) (drawing g d l)
+  drawing-step d l q fit = drawing-with (λ h. h) d l q (head-fits g (decode g (l .rec)) (known g k l q)) refl fit
 
 -- ---- the dirty rectangle of each shape fits
 

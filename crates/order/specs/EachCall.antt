@@ -5,7 +5,7 @@ use mathlib.Core.List.{List}
 use Prim.Native.Nat.{ℕ, zero, suc, _<_}
 use native.Mathlib.Omega.{arith}
 use lib.ListN.{length}
-use Rattle.model.specs.Geometry.{Geometry, height, screenBytes}
+use Rattle.model.specs.Geometry.{Geometry, height, rows, columns, screenBytes}
 use Rattle.model.specs.Rects.{none}
 use Rattle.model.specs.Refusals.{refusal, ruled}
 use Rattle.model.specs.Marks.{withDirty}
@@ -14,13 +14,19 @@ use Rattle.model.specs.Lines.{line}
 use Rattle.model.specs.Boxes.{box}
 use Rattle.model.specs.Ellipses.{ellipse, circle}
 use Rattle.model.specs.declared.DrawMode.{DrawMode}
+use Rattle.model.specs.Bitmaps.{paintMode, sourceBytes, bitmap}
+use Rattle.model.specs.Memory.{window}
 use Rattle.model.specs.Text.{withRow, withColumn, withPrintMode}
-use Rattle.model.specs.Calls.{Call, opening, reset, drawPoint, drawLine, drawBox, drawCircle, drawEllipse, checkPixel, writeByte, flush, getRow, getColumn, setRow, setColumn, setPrintMode, takeDirtyArea, send, Lent, answered, filled, refusals, refused, done, outcome}
+use Rattle.model.specs.Calls.{Call, opening, reset, drawPoint, drawLine, drawBox, drawCircle, drawEllipse, checkPixel, paintBitmap, writeByte, flush, getRow, getColumn, setRow, setColumn, setPrintMode, takeDirtyArea, send, Lent, answered, filled, refusals, refused, done, outcome, print, newline, cls, setScreenMode, blinkCursor, clearCursor}
+use Rattle.model.specs.Print.{newlineOn, isInverse, printOn, pageOf}
+use Rattle.model.specs.Record.{decode}
 use Rattle.model.specs.Lists.{accepted, Typed, Item, here, elsewhere, after, opens, effect, effectAt, itemEffect}
 use Rattle.laws.specs.Rects.{Fits, passes-fits}
 use Rattle.laws.specs.DrawLine.{line-fits}
 use Rattle.laws.specs.Boxes.{box-fits}
 use Rattle.laws.specs.EllipseMarks.{ellipse-fits}
+use Rattle.laws.specs.Bitmaps.{bitmap-fits}
+use Rattle.laws.specs.Pages.{newline-sheet, print-sheet}
 use Rattle.laws.specs.Calls.{accepted-pass}
 use Rattle.order.specs.Sim.{Simulates}
 use Rattle.order.specs.Step.{Glass, Good, Step, view, same-step}
@@ -29,6 +35,8 @@ use Rattle.order.specs.Draws.{drawing-step, point-fits}
 use Rattle.order.specs.Pokes.{poke-step}
 use Rattle.order.specs.Flushes.{flush-step}
 use Rattle.order.specs.Heads.{changed-step, row-fits, column-fits, print-fits, clean-fits}
+use Rattle.order.specs.Texts.{cleared-step, mode-listed, page-sheet, turned-step}
+use Rattle.order.specs.Cursors.{blink-step, uncursored-step}
 use Rattle.order.specs.Sent.{send-step}
 
 module _ (g : Geometry) (k : Glass g) where
@@ -64,6 +72,18 @@ module _ (g : Geometry) (k : Glass g) where
       drawing-step g k (ellipse (g .stride) (height g) x y rx ry (filled fill) (drawMode mode)) l q
       (ellipse-mark x y rx ry (filled fill) (drawMode mode) (t .0) (t .1))
   call-step (checkPixel x y) l t q a = same-step g l q
+  call-step (paintBitmap b x y w n mode) l t q a =
+      let source = window b (sourceBytes w n) (l .memory) in
+      drawing-step g k (bitmap (g .stride) (height g) source x y w n (paintMode mode)) l q
+      (passes-fits 256 0 256 _ (bitmap-fits (g .stride) (height g) source x y w n (paintMode mode) (omega (arith, k .small)) (omega (arith, k .small))))
+  call-step (print bs) l t q a =
+      let s = decode g (l .rec) in
+      turned-step g k l q (printOn (rows g) (columns g) (isInverse (s .head .print)) bs (pageOf g s (l .memory)))
+      (print-sheet (rows g) (columns g) (isInverse (s .head .print)) bs (pageOf g s (l .memory)) (page-sheet g k l q))
+  call-step newline l t q a =
+      let p = pageOf g (decode g (l .rec)) (l .memory) in
+      turned-step g k l q (newlineOn (rows g) (columns g) p) (newline-sheet (rows g) (columns g) 1 1 p (k .stride) (page-sheet g k l q))
+  call-step cls l t q a = cleared-step g k l q (decode g (l .rec) .head .screen) (mode-listed g k l q)
   call-step (writeByte b v) l t q a = poke-step g k b v l q
   call-step (flush f) l t q a = flush-step g k f l q
   call-step getRow l t q a = same-step g l q
@@ -74,9 +94,14 @@ module _ (g : Geometry) (k : Glass g) where
   call-step (setColumn n) l t q a =
       let b = accepted-pass (refusals g (setColumn n) l) (omega arith) a in
       changed-step g k (withColumn n) l q (column-fits g n (b .1 .1 .0)) (λ h. refl)
+  call-step (setScreenMode n) l t q a =
+      let b = accepted-pass (refusals g (setScreenMode n) l) (omega arith) a in
+      cleared-step g k l q n (b .1 .1 .0)
   call-step (setPrintMode n) l t q a =
       let b = accepted-pass (refusals g (setPrintMode n) l) (omega arith) a in
       changed-step g k (withPrintMode n) l q (print-fits g n (b .1 .1 .0)) (λ h. refl)
+  call-step blinkCursor l t q a = blink-step g k l q
+  call-step clearCursor l t q a = uncursored-step g k l q
   call-step takeDirtyArea l t q a = changed-step g k (withDirty none) l q (clean-fits g) (λ h. refl)
   call-step send l t q a = send-step g k l q
 

@@ -1,5 +1,5 @@
 -- `flush`: the screen changes anywhere, and the whole of it is owed.
-use mathlib.Core.Path.{_≡_, _∙_}
+use mathlib.Core.Path.{_≡_, refl, _∙_}
 use mathlib.Core.Logic.{inr}
 use mathlib.Core.List.{List}
 use native.Mathlib.Omega.{arith}
@@ -19,6 +19,7 @@ use Rattle.laws.specs.Rects.{Fits}
 use Rattle.laws.specs.Loops.{length-zeros}
 use Rattle.laws.specs.Marks.{whole-agrees}
 use Rattle.laws.specs.Glyphs.{length-paint}
+use Rattle.order.specs.Formed.{head-fits}
 use Rattle.order.specs.Draws.{painted-step}
 use Rattle.order.specs.Step.{Glass, Good, Step, known, screen-long}
 
@@ -38,6 +39,6 @@ module _ (g : Geometry) (k : Glass g) where
       (withScreen (decode g (l .rec) .head .graphics) (flushed g f (decode g (l .rec)) (l .memory)) (l .memory)) (l .panel))
   flush-step f l q =
       let s = decode g (l .rec) in
-      painted-step g k (whole (g .stride) (height g)) (whole (g .stride) (height g)) (flushed g f s (l .memory)) l q whole-fits
+      painted-step g k (λ h. h) (whole (g .stride) (height g)) (whole (g .stride) (height g)) (flushed g f s (l .memory)) l q (head-fits g s (known g k l q)) refl whole-fits
       (flushed-long f s (l .memory) (screen-long g k s (l .memory) (known g k l q) (q .memory)))
       (whole-agrees (g .stride) (height g) _ _)

@@ -11,6 +11,8 @@ pub mod Draws
 pub mod Pokes
 pub mod Flushes
 pub mod Heads
+pub mod Texts
+pub mod Cursors
 pub mod Sent
 pub mod EachCall
 pub mod Parts

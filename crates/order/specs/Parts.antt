@@ -2,10 +2,13 @@
 use mathlib.Core.Path.{_≡_, refl, sym, ap}
 use mathlib.Core.List.{[]}
 use Prim.Native.Nat.{ℕ, zero, suc}
+use lib.Dec.{eqb}
 use Rattle.model.specs.Geometry.{Geometry}
 use Rattle.model.specs.Memory.{zeros}
+use Rattle.model.specs.Record.{decode}
 use Rattle.model.specs.Refusals.{refusal, ruled}
-use Rattle.model.specs.Calls.{Call, opening, reset, drawPoint, drawLine, drawBox, drawCircle, drawEllipse, checkPixel, writeByte, flush, getRow, getColumn, setRow, setColumn, setPrintMode, takeDirtyArea, send, Lent, lent, Outcome, answered, refusals, numbers, refused, drawing, changed, done, outcome}
+use Rattle.model.specs.Calls.{Call, opening, reset, drawPoint, drawLine, drawBox, drawCircle, drawEllipse, checkPixel, paintBitmap, writeByte, flush, getRow, getColumn, setRow, setColumn, setPrintMode, takeDirtyArea, send, Lent, lent, Outcome, answered, refusals, numbers, refused, drawing, changed, done, outcome, print, newline, cls, setScreenMode, blinkCursor, clearCursor, drawingWith, cleared, turned, blinked, uncursored}
+use Rattle.laws.specs.Tests.{by-test}
 
 -- the record alone; record and memory; all three
 pub data Parts : Type 0 where
@@ -22,13 +25,20 @@ takes (drawBox x1 y1 x2 y2 fill mode) = with-memory
 takes (drawCircle x y r fill mode) = with-memory
 takes (drawEllipse x y rx ry fill mode) = with-memory
 takes (checkPixel x y) = with-memory
+takes (paintBitmap a x y w n mode) = with-memory
+takes (print bs) = with-memory
+takes newline = with-memory
+takes cls = with-memory
 takes (writeByte a v) = with-memory
 takes (flush f) = with-memory
 takes getRow = record-only
 takes getColumn = record-only
 takes (setRow n) = record-only
 takes (setColumn n) = record-only
+takes (setScreenMode n) = with-memory
 takes (setPrintMode n) = record-only
+takes blinkCursor = with-memory
+takes clearCursor = with-memory
 takes takeDirtyArea = record-only
 takes send = with-panel
 
@@ -48,9 +58,19 @@ unfoldable pub answeredBack : Parts → Lent → Outcome → Outcome
 answeredBack p l o = answered (o .code) (o .numbers) (givenBack p l (o .left))
 
 module _ (g : Geometry) where
+  blinked-parts : (l : Lent) → blinked g l ≡ lent (blinked g (lent (l .rec) (l .memory) []) .rec) (blinked g (lent (l .rec) (l .memory) []) .memory) (l .panel)
+  unfolding blinked drawingWith
+  blinked-parts l = by-test (eqb (decode g (l .rec) .head .screen) 0) (λ e. rw e) (λ e. rw e)
+
+  uncursored-parts : (l : Lent) → uncursored g l ≡ lent (uncursored g (lent (l .rec) (l .memory) []) .rec) (uncursored g (lent (l .rec) (l .memory) []) .memory) (l .panel)
+  unfolding uncursored changed
+  uncursored-parts l =
+      by-test (eqb (decode g (l .rec) .head .cursor) 0) (λ e. rw e)
+      (λ e. by-test (eqb (decode g (l .rec) .head .screen) 0) (λ f. rw (e, f) (blinked-parts l)) (λ f. rw (e, f)))
+
   -- a call tests and uses nothing that it is not lent, and leaves it
   each : (c : Call) (l : Lent) → (refusals g c l ≡ refusals g c (lentTo (takes c) l)) × (done g c l ≡ answeredBack (takes c) l (done g c (lentTo (takes c) l)))
-  unfolding takes lentTo givenBack answeredBack answered refusals done drawing changed
+  unfolding takes lentTo givenBack answeredBack answered refusals done drawingWith changed cleared turned
   each (opening graphics text version keys) l = (refl, refl)
   each reset l = (refl, refl)
   each (drawPoint x y mode) l = (refl, refl)
@@ -59,13 +79,20 @@ module _ (g : Geometry) where
   each (drawCircle x y r fill mode) l = (refl, refl)
   each (drawEllipse x y rx ry fill mode) l = (refl, refl)
   each (checkPixel x y) l = (refl, refl)
+  each (paintBitmap a x y w n mode) l = (refl, refl)
+  each (print bs) l = (refl, refl)
+  each newline l = (refl, refl)
+  each cls l = (refl, refl)
   each (writeByte a v) l = (refl, refl)
   each (flush f) l = (refl, refl)
   each getRow l = (refl, refl)
   each getColumn l = (refl, refl)
   each (setRow n) l = (refl, refl)
   each (setColumn n) l = (refl, refl)
+  each (setScreenMode n) l = (refl, refl)
   each (setPrintMode n) l = (refl, refl)
+  each blinkCursor l = (refl, ap (answered 0 []) (blinked-parts l))
+  each clearCursor l = (refl, ap (answered 0 []) (uncursored-parts l))
   each takeDirtyArea l = (refl, refl)
   each send l = (refl, refl)
 

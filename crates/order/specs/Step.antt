@@ -1,31 +1,47 @@
 -- What each accepted call is to show: it leaves a good state, and the panel's state follows by its effect.
-use mathlib.Core.Path.{_≡_, refl}
+use mathlib.Core.Path.{_≡_, refl, ap}
 use mathlib.Core.List.{List}
 use Prim.Native.Nat.{ℕ, _+_, _≤_, _<_}
 use native.Mathlib.Omega.{arith}
 use lib.ListN.{length}
 use Rattle.model.specs.declared.Rect.{Rect}
-use Rattle.model.specs.Geometry.{Geometry, height, screenBytes, rows, memoryBytes}
+use Rattle.model.specs.Geometry.{Geometry, base, width, height, screenBytes, rows, columns, cells, memoryBytes}
 use Rattle.model.specs.Memory.{screenOf}
 use Rattle.model.specs.Record.{State, WellFormed, decode, encode, windows, windowTests}
 use Rattle.model.specs.Calls.{Lent, lent}
 use Rattle.model.specs.Lists.{Effect, nothing, marks, affected}
 use Rattle.model.specs.Rects.{none}
-use Rattle.model.specs.Marks.{owing}
+use Rattle.model.specs.Marks.{updateDirty, owing, marked}
 use Rattle.laws.specs.Tests.{tests, all-true}
+use Rattle.laws.specs.Rects.{Fits}
 use Rattle.laws.specs.Record.{Passing, Small, decode-encode}
 use Rattle.laws.specs.States.{well-formed, encode-passing}
 use Rattle.laws.specs.Memory.{length-window}
 use Rattle.laws.specs.Marks.{AgreeOutside}
 use Rattle.order.specs.PanelState.{PanelState, Follows}
-use Rattle.order.specs.Formed.{head-fits}
+use Rattle.order.specs.Formed.{head-fits, marked-formed}
 
--- what the calls ask of a geometry: coordinates are bytes, there is a text cell, and the screen fits into memory
+-- what the calls ask of a geometry: coordinates are bytes, also those of a full cursor at the last column, there are two text columns and a text row, and
+-- screen and text fit into memory
 pub record Glass (g : Geometry) : Type 0 where
   pub small : Small g
   pub stride : 0 < g .stride
+  pub columns : 2 ≤ columns g
+  pub cursor : width g + 8 ≤ 256
   pub row : 0 < rows g
   pub fits : screenBytes g < memoryBytes
+  pub text : cells g < memoryBytes
+
+pub base-glass : Glass base
+base-glass = record {
+  small = record { wide = omega arith; high = omega arith };
+  stride = omega arith;
+  columns = omega arith;
+  cursor = omega arith;
+  row = omega arith;
+  fits = omega arith;
+  text = omega arith;
+}
 
 -- lent bytes as an accepted call leaves them
 pub record Good (g : Geometry) (l : Lent) : Type 0 where
@@ -79,7 +95,21 @@ module _ (g : Geometry) (k : Glass g) where
     unfolding affected
     marks-step r e a = stored l (marks r) s m (l .panel) w hm (q .panel) (record { pending = e; panel = refl; screen = rw base a })
 
-  -- the screen lies in memory
+  -- another state and memory: pixels change in what is owed alone
+  pub rewritten-step : (dirty owed : Rect) (s : State) (m : List ℕ) (l : Lent) → Good g l → WellFormed g s → s .pending ≡ decode g (l .rec) .pending
+      → s .head .graphics ≡ decode g (l .rec) .head .graphics → Fits 256 0 256 dirty → length m ≡ memoryBytes
+      → AgreeOutside (g .stride) (height g) owed (screenOf g (decode g (l .rec) .head .graphics) (l .memory)) (screenOf g (decode g (l .rec) .head .graphics) m)
+      → Step g l (marks owed) (lent (encode (marked g dirty owed s)) m (l .panel))
+  unfolding marked updateDirty
+  rewritten-step dirty owed s m l q w e b f hm a = marks-step l q (marked g dirty owed s) m (marked-formed g dirty owed s f w) hm b owed (ap (owing g owed) e) a
+
+  -- text and screen lie in memory
+  pub text-in : (s : State) → WellFormed g s → s .head .text + cells g ≤ memoryBytes
+  unfolding windows
+  text-in s w =
+      let a = all-true (windowTests g (s .head .graphics) (s .head .text)) (head-fits g s w .bases) in
+      omega (arith, tests, k .text)
+
   pub screen-in : (s : State) → WellFormed g s → s .head .graphics + screenBytes g ≤ memoryBytes
   unfolding windows
   screen-in s w =

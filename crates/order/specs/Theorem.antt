@@ -16,7 +16,7 @@ use Rattle.model.specs.Record.{decode, valid}
 use Rattle.model.specs.Open.{nothingPending}
 use Rattle.model.specs.Calls.{Call, opening, send, Lent, lent, outcome}
 use Rattle.model.specs.Lists.{accepted, Typed, Item, here, run, reckoned, linesLeft, InAny, Differs, differing}
-use Rattle.order.specs.Step.{Glass}
+use Rattle.order.specs.Step.{base-glass}
 use Rattle.order.specs.Accepted.{acceptedCalls, leftBy, left-run}
 use Rattle.order.specs.Parts.{takes, lentTo, answeredBack, outcome-parts}
 use Rattle.order.specs.Order.{Standing, standing-run, standing-open, pending-open, sendable, send-code, bound, idle-lines, none-more, lines-more, level, row-of-sends}
@@ -60,9 +60,6 @@ pub record Promised (start : Lent) (items : List (Item base)) (l : Lent) : Type 
   -- L sends in a row are such a list
   pub level-row : let l′ = run base l (replicate (linesIn l) (here send tt)) in differing base (screenIn l′) (l′ .panel) ≡ 0
 
-glass : Glass base
-glass = record { small = record { wide = omega arith; high = omega arith }; stride = omega arith; row = omega arith; fits = omega arith }
-
 promised : (start : Lent) (items : List (Item base)) (l : Lent) → l ≡ run base start items → pendingIn l ≡ reckoned base (nothingPending base) start items
     → Standing base l → Promised start items l
 promised start items l e p s =
@@ -71,17 +68,17 @@ promised start items l e p s =
       memory-length = s .good .memory;
       panel-length = s .good .panel;
       passes = s .good .passing .passes;
-      sendable = sendable base glass l s;
+      sendable = sendable base base-glass l s;
       pending = p;
       left-by = e ∙ left-run base start items;
-      bound = omega (arith, bound base glass l s);
+      bound = omega (arith, bound base base-glass l s);
       places = s .held .covered;
       idle = λ more n.
-          let i = idle-lines base glass l s in
-          rw (none-more base glass l more n) (send-code base glass l s, (λ e. omega (arith, i .0 e), λ z. i .1 (omega arith)));
-      lines = lines-more base glass l s;
-      level = λ more n e h. level base glass l s more n e (omega arith);
-      level-row = level base glass l s (replicate (linesIn l) (here send tt)) (linesIn l) (row-of-sends base glass l s (linesIn l)) (omega arith);
+          let i = idle-lines base base-glass l s in
+          rw (none-more base base-glass l more n) (send-code base base-glass l s, (λ e. omega (arith, i .0 e), λ z. i .1 (omega arith)));
+      lines = lines-more base base-glass l s;
+      level = λ more n e h. level base base-glass l s more n e (omega arith);
+      level-row = level base base-glass l s (replicate (linesIn l) (here send tt)) (linesIn l) (row-of-sends base base-glass l s (linesIn l)) (omega arith);
     }
 
 -- the theorem: an accepted open, lent any record r, any memory m and a panel p of any bytes, and then every list of items
@@ -92,8 +89,8 @@ unfolding run
 calls-in-any-order graphics text version keys t r m p a n items =
     let list = here (opening graphics text version keys) t ∷ items in
     promised (lent r m p) list (run base (lent r m p) list) refl
-    (pending-open base glass graphics text version keys t (lent r m p) a n items)
-    (standing-run base glass _ items (standing-open base glass graphics text version keys t (lent r m p) a n))
+    (pending-open base base-glass graphics text version keys t (lent r m p) a n items)
+    (standing-run base base-glass _ items (standing-open base base-glass graphics text version keys t (lent r m p) a n))
 
 -- A list gives each call all three buffers. A call that is lent only those that it takes answers the same and leaves the same in them, and the others stay.
 pub lent-parts : (c : Call) (l : Lent) → outcome base c l ≡ answeredBack (takes c) l (outcome base c (lentTo (takes c) l))

@@ -1,4 +1,5 @@
 // Points, runs of a line and marks: what the drawings of lines, boxes and ellipses are made of.
-pub mod marks;
 pub mod point;
+pub mod raster;
 pub mod run;
+pub mod span;

@@ -6,8 +6,11 @@ ghost use Rattle.model.specs.Pixels.{Screen, onScreen, bit, writePixel, draw, s
 ghost use Rattle.model.specs.Marks.{drawn, drawnOn};
 ghost use Rattle.model.specs.Points.{pointWrite, point, checkPoint};
 ghost use Rattle.laws.specs.Points.{maskOf, pointByte, axisOf};
-use crate::marks::no_marks;
-use crate::marks::span_marks;
+ghost use Rattle.pixels.specs.Raster.{modeOf, IsOp};
+use crate::raster::RasterOp;
+use crate::raster::draw_mask;
+use crate::span::no_marks;
+use crate::span::span_marks;
 use model::DrawMode;
 use model::Marks;
 
@@ -70,6 +73,50 @@ pub fn plot_seen(
     }
 }
 
+// A point of a line of the screen, under the mask of x: beside the screen it draws nothing.
+fn plot_beside(
+    stride: usize,
+    height: usize,
+    screen: &mut [u8],
+    x: usize,
+    y: usize,
+    mask: u8,
+    op: RasterOp,
+)
+    requires { ⌜ Screen stride height (now screen) ⌝ }
+    requires { ⌜ y < height ⌝ }
+    requires { ⌜ mask ≡ maskOf x ⌝ }
+    requires { ⌜ IsOp op ⌝ }
+    ensures { λ _. ⌜ now (screen .exit) ≡ draw stride (seen stride height (pointWrite x y (modeOf op) ∷ [])) (now (screen .entry)) ⌝ }
+{
+    if x < 8 * stride {
+        draw_mask(screen, stride * y + x / 8, mask, op);
+    }
+}
+
+// Two points of one line, each under the mask of its own x.
+pub fn plot_pair(
+    stride: usize,
+    height: usize,
+    screen: &mut [u8],
+    x1: usize,
+    x2: usize,
+    y: usize,
+    mask1: u8,
+    mask2: u8,
+    op: RasterOp,
+)
+    requires { ⌜ Screen stride height (now screen) ⌝ }
+    requires { ⌜ (mask1 ≡ maskOf x1) × (mask2 ≡ maskOf x2) ⌝ }
+    requires { ⌜ IsOp op ⌝ }
+    ensures { λ _. ⌜ now (screen .exit) ≡ draw stride (seen stride height (pointWrite x1 y (modeOf op) ∷ pointWrite x2 y (modeOf op) ∷ [])) (now (screen .entry)) ⌝ }
+{
+    if y < height {
+        plot_beside(stride, height, screen, x1, y, mask1, op);
+        plot_beside(stride, height, screen, x2, y, mask2, op);
+    }
+}
+
 pub fn on_screen(stride: usize, height: usize, x: usize, y: usize) -> bool
     requires { ⌜ stride < 256 ⌝ }
     ensures { λ r. ⌜ r ≡ onScreen stride height x y ⌝ }
@@ -108,7 +155,7 @@ fn axis(z: i32, size: usize) -> usize
     if n < size { n } else { size }
 }
 
-fn pixel(stride: usize, height: usize, screen: &[u8], x: usize, y: usize) -> bool
+pub fn pixel(stride: usize, height: usize, screen: &[u8], x: usize, y: usize) -> bool
     requires { ⌜ Screen stride height (now screen) ⌝ }
     requires { ⌜ (x < 8 * stride) × (y < height) ⌝ }
     ensures { λ r. ⌜ r ≡ bit stride (now (screen .entry)) x y ⌝ }

@@ -5,8 +5,10 @@ ghost use lib.ListN.{length};
 ghost use Rattle.model.specs.Pixels.{Screen, draw};
 ghost use Rattle.model.specs.Lines.{pixelRun};
 ghost use Rattle.laws.specs.Masks.{startMask, endMask};
-ghost use Rattle.laws.specs.Runs.{clears, flips, allOrNone, maskByte, masked, maskedBytes};
-use model::DrawMode;
+ghost use Rattle.laws.specs.Runs.{maskedBytes};
+ghost use Rattle.pixels.specs.Raster.{modeOf, IsOp};
+use crate::raster::RasterOp;
+use crate::raster::draw_mask;
 
 // The pixels of x's byte from x on.
 fn start_mask(x: usize) -> u8
@@ -24,53 +26,15 @@ fn end_mask(x: usize) -> u8
     !(127u8 >> k)
 }
 
-// All pixels of a byte where the mode clears those that it draws, before it inverts any; else none.
-fn clears(mode: DrawMode) -> u8
-    ensures { λ r. ⌜ r ≡ allOrNone (clears mode) ⌝ }
-{
-    match mode {
-        DrawMode::Clear => 255,
-        DrawMode::Or => 255,
-        DrawMode::Xor => 0,
-        DrawMode::Unknown => 0,
-    }
-}
-
-// All pixels of a byte where the mode inverts those that it draws; else none.
-fn flips(mode: DrawMode) -> u8
-    ensures { λ r. ⌜ r ≡ allOrNone (flips mode) ⌝ }
-{
-    match mode {
-        DrawMode::Clear => 0,
-        DrawMode::Or => 255,
-        DrawMode::Xor => 255,
-        DrawMode::Unknown => 255,
-    }
-}
-
-// A byte with the pixels of the mask drawn. There is no branch, so that whole rows are drawn many bytes at a time.
-fn mask_byte(mode: DrawMode, b: u8, mask: u8) -> u8
-    ensures { λ r. ⌜ r ≡ maskByte mode b mask ⌝ }
-{
-    (b & !(mask & clears(mode))) ^ (mask & flips(mode))
-}
-
-fn draw_mask(screen: &mut [u8], at: usize, mask: u8, mode: DrawMode)
-    requires { ⌜ at < length (now screen) ⌝ }
-    ensures { λ _. ⌜ now (screen .exit) ≡ masked (now (screen .entry)) at mask mode ⌝ }
-{
-    let b = mask_byte(mode, screen[at], mask);
-    screen[at] = b;
-}
-
 // The bytes from `from` up to `to`, whole.
-pub fn draw_bytes(screen: &mut [u8], from: usize, to: usize, mode: DrawMode)
+pub fn draw_bytes(screen: &mut [u8], from: usize, to: usize, op: RasterOp)
     requires { ⌜ (from ≤ to) × (to ≤ length (now screen)) ⌝ }
-    ensures { λ _. ⌜ now (screen .exit) ≡ maskedBytes (now (screen .entry)) from (to - from) mode ⌝ }
+    requires { ⌜ IsOp op ⌝ }
+    ensures { λ _. ⌜ now (screen .exit) ≡ maskedBytes (now (screen .entry)) from (to - from) (modeOf op) ⌝ }
 {
     let mut at = from;
     while at < to {
-        draw_mask(screen, at, 255, mode);
+        draw_mask(screen, at, 255, op);
         at += 1;
     }
 }
@@ -83,11 +47,12 @@ pub fn draw_run(
     left: usize,
     right: usize,
     y: usize,
-    mode: DrawMode,
+    op: RasterOp,
 )
     requires { ⌜ Screen stride height (now screen) ⌝ }
     requires { ⌜ (left ≤ right) × (right < 8 * stride) × (y < height) ⌝ }
-    ensures { λ _. ⌜ now (screen .exit) ≡ draw stride (pixelRun left y (suc (right - left)) mode) (now (screen .entry)) ⌝ }
+    requires { ⌜ IsOp op ⌝ }
+    ensures { λ _. ⌜ now (screen .exit) ≡ draw stride (pixelRun left y (suc (right - left)) (modeOf op)) (now (screen .entry)) ⌝ }
 {
     let line = stride * y;
     let first = left / 8;
@@ -95,10 +60,10 @@ pub fn draw_run(
     let start = start_mask(left);
     let end = end_mask(right);
     if first == last {
-        draw_mask(screen, line + first, start & end, mode);
+        draw_mask(screen, line + first, start & end, op);
         return;
     }
-    draw_mask(screen, line + first, start, mode);
-    draw_bytes(screen, line + first + 1, line + last, mode);
-    draw_mask(screen, line + last, end, mode);
+    draw_mask(screen, line + first, start, op);
+    draw_bytes(screen, line + first + 1, line + last, op);
+    draw_mask(screen, line + last, end, op);
 }

@@ -1,5 +1,7 @@
-pub mod Flags
+pub mod FlagRead
 pub mod Bands
 pub mod Entering
 pub mod Updates
 pub mod Opening
+pub mod Scrolling
+pub mod Flagging

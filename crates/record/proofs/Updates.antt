@@ -8,7 +8,7 @@ use Rattle.model.specs.declared.Head.{Head}
 use Rattle.model.specs.declared.Pending.{Pending}
 use Rattle.model.specs.Geometry.{base}
 use Rattle.model.specs.Memory.{withWindow}
-use Rattle.model.specs.Record.{Bytes, headOf, pendingOf, decode, encode, withHead, withPending, bytesOfHead, bytesOfPending, pendingAt}
+use Rattle.model.specs.Record.{Bytes, pendingOf, decode, encode, withHead, withPending, bytesOfHead, bytesOfPending, pendingAt}
 use Rattle.model.specs.Marks.{updateDirty, joinOwed, owing, marked}
 use Rattle.laws.specs.Record.{Passing}
 use Rattle.laws.specs.Stores.{put-head, put-pending, put-both, pending-kept}
@@ -42,14 +42,19 @@ pub one-owing : (m : Rect) (p : Pending) {q : Pending} → length (p .owed) ≡ 
 unfolding owing joinOwed
 one-owing m p n e = ap (λ (x : Pending). length (x .owed)) e ∙ ap (λ (l : List Rect). length (joinOwed 160 80 0 m l)) (one (p .owed) n)
 
-pub marks-record : (r : List ℕ) (h : Head) (d o : Rect) {n : Head} {p q : Pending} {s t : List ℕ} → Known r h → ((i : ℕ) → getD r i 0 < 256)
-    → n ≡ updateDirty d h → s ≡ withWindow 0 (bytesOfHead n) r → p ≡ pendingOf base s pendingAt → q ≡ owing base o p
-    → t ≡ withWindow pendingAt (bytesOfPending q) s → t ≡ encode (marked base d o (decode base r))
+pub marks-head : (r : List ℕ) (h n : Head) (d o : Rect) {k : Head} {p q : Pending} {s t : List ℕ} → Known r h → ((i : ℕ) → getD r i 0 < 256)
+    → k ≡ updateDirty d n → s ≡ withWindow 0 (bytesOfHead k) r → p ≡ pendingOf base s pendingAt → q ≡ owing base o p
+    → t ≡ withWindow pendingAt (bytesOfPending q) s → t ≡ encode (marked base d o (withHead n (decode base r)))
 unfolding marked decode withWindow
-marks-record r h d o {n} {p} {q} k b e f g i j =
-    let c = pending-read r n f g in
+marks-head r h n d o {k} {p} {q} w b e f g i j =
+    let c = pending-read r k f g in
     let m : q ≡ owing base o (pendingOf base r pendingAt) = i ∙ ap (owing base o) c in
-    let u : n ≡ updateDirty d (headOf r) = e ∙ ap (updateDirty d) (k .head) in
     j ∙ ap (withWindow pendingAt (bytesOfPending q)) f
-    ∙ put-both base n q r (passing r h k b) (one-owing o p (one-band r c) i)
-    ∙ (λ x. encode (record { head = u x; pending = m x; keys = decode base r .keys; flags = decode base r .flags }))
+    ∙ put-both base k q r (passing r h w b) (one-owing o p (one-band r c) i)
+    ∙ (λ x. encode (record { head = e x; pending = m x; keys = decode base r .keys; flags = decode base r .flags }))
+
+-- the head that stands there
+pub marks-record : (r : List ℕ) (h : Head) (d o : Rect) {t : List ℕ} → Known r h → t ≡ encode (marked base d o (withHead h (decode base r)))
+    → t ≡ encode (marked base d o (decode base r))
+unfolding decode
+marks-record r h d o k e = e ∙ ap (λ (x : Head). encode (marked base d o (withHead x (decode base r)))) (k .head)

@@ -8,6 +8,7 @@ ghost use Prim.Native.Nat.{_+_, _*_, _≤_};
 ghost use lib.ListN.{length, take, drop};
 ghost use Rattle.model.specs.Geometry.{base};
 ghost use Rattle.model.specs.Memory.{withWindow, zeros};
+ghost use Rattle.model.specs.Print.{scrolled};
 ghost use Rattle.model.specs.Record.{two, four, rectAt, headOf, pendingOf, bytesOfHead, bytesOfPending, fourBytes, wordsBytes, keysAt};
 
 pub const RECORD_BYTES: usize = 170;
@@ -141,7 +142,7 @@ fn pending_bytes(p: Pending) -> [u8; 20]
 }
 
 // `from` over the bytes of `to` that begin at a place.
-fn put_bytes(to: &mut [u8], at: usize, from: &[u8])
+pub fn put_bytes(to: &mut [u8], at: usize, from: &[u8])
     requires { ⌜ at + length (now from) ≤ length (now to) ⌝ }
     ensures { λ _. ⌜ now (to .exit) ≡ withWindow at (now (from .entry)) (now (to .entry)) ⌝ }
 {
@@ -179,6 +180,21 @@ pub fn clear(part: &mut [u8])
         part[i] = 0;
         i += 1;
     }
+}
+
+// The first n bytes of a lent part leave, and n zeros follow.
+pub fn scroll(part: &mut [u8], n: usize)
+    requires { ⌜ n ≤ length (now part) ⌝ }
+    ensures { λ _. ⌜ now (part .exit) ≡ scrolled n 0 (now (part .entry)) ⌝ }
+{
+    let size = part.len();
+    let left = size - n;
+    let mut i: usize = 0;
+    while i < left {
+        part[i] = part[i + n];
+        i += 1;
+    }
+    clear(&mut part[left..size]);
 }
 
 fn four_bytes(n: u32) -> [u8; 4]

@@ -1,6 +1,6 @@
 // The lent record to structs by value and back, and the STATE test. Only layout.rt knows an offset.
 pub mod entry;
-pub mod inverse;
+pub mod flags;
 pub mod keys;
 pub mod layout;
 pub mod open;

@@ -3,6 +3,7 @@ use crate::layout;
 use marks::rect;
 use model::Head;
 use model::Pending;
+use model::glass;
 ghost use mathlib.Core.Path.{_≡_};
 ghost use mathlib.Core.Bool.{_&&_};
 ghost use lib.ListN.{length, drop};
@@ -13,9 +14,10 @@ ghost use Rattle.model.specs.Record.{headOf, windows, stateFits, flagsFit, vali
 pub fn windows_fit(graphics: u16, text: u16) -> bool
     ensures { λ r. ⌜ r ≡ windows base graphics text ⌝ }
 {
-    (graphics <= 63935)
-        & (text <= 65435)
-        & (((graphics as u32) + 1600 <= (text as u32)) | ((text as u32) + 100 <= (graphics as u32)))
+    (graphics <= glass::LAST_GRAPHICS_BASE)
+        & (text <= glass::LAST_TEXT_BASE)
+        & (((graphics as usize) + glass::SCREEN_BYTES <= (text as usize))
+            | ((text as usize) + glass::TEXT_BYTES <= (graphics as usize)))
 }
 
 fn state_fits(h: Head, p: Pending) -> bool
@@ -27,15 +29,15 @@ fn state_fits(h: Head, p: Pending) -> bool
     let owed = bands[0];
     let hand = p.hand;
     windows_fit(h.graphics, h.text)
-        & (h.row < 5)
-        & (h.column < 20)
+        & (h.row < glass::ROWS)
+        & (h.column < glass::COLUMNS)
         & (h.screen <= 1)
         & (h.print <= 2)
         & (h.cursor <= 2)
         & (h.version <= 1)
         & rect::rect_fits(256, 0, 256, dirty)
-        & rect::rect_fits(160, 0, 80, owed)
-        & rect::rect_fits(160, 0, 80, hand)
+        & rect::rect_fits(glass::RIGHT, 0, glass::BOTTOM, owed)
+        & rect::rect_fits(glass::RIGHT, 0, glass::BOTTOM, hand)
 }
 
 fn flags_fit(flags: &[u8]) -> bool

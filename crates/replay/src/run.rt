@@ -2,13 +2,14 @@
 use crate::answer;
 use crate::answer::Answer;
 use crate::call;
+use caption::bitmaps;
 use caption::dirty;
 use caption::ellipses;
 use caption::lines;
 use caption::open;
+use caption::place;
 use caption::points;
 use caption::poke;
-use caption::text;
 use model::Value;
 
 // No refusal has this number: the list holds a call that is not replayed here.
@@ -64,12 +65,25 @@ fn run_check_point(rec: &[u8], memory: &[u8], stored: &[u8; 16]) -> Value {
     )
 }
 
+fn run_paint_bitmap(rec: &mut [u8], memory: &mut [u8], stored: &[u8; 16]) -> u32 {
+    bitmaps::caption_paint_bitmap(
+        rec,
+        memory,
+        call::two(stored, 1),
+        call::signed(stored, 3),
+        call::signed(stored, 7),
+        stored[11],
+        stored[12],
+        stored[13],
+    )
+}
+
 fn run_set(rec: &mut [u8], stored: &[u8; 16]) -> u32 {
     let number = stored[1];
     match stored[0] {
-        call::SET_ROW => text::caption_set_row(rec, number),
-        call::SET_COLUMN => text::caption_set_column(rec, number),
-        call::SET_PRINT_MODE => text::caption_set_print_mode(rec, number),
+        call::SET_ROW => place::caption_set_row(rec, number),
+        call::SET_COLUMN => place::caption_set_column(rec, number),
+        call::SET_PRINT_MODE => place::caption_set_print_mode(rec, number),
         _ => UNKNOWN,
     }
 }
@@ -84,8 +98,9 @@ pub fn run(rec: &mut [u8], memory: &mut [u8], stored: &[u8; 16]) -> Answer {
         call::RESET => answer::of_code(open::caption_reset(rec, memory)),
         call::DRAW_POINT..=call::DRAW_ELLIPSE => answer::of_code(run_draw(rec, memory, stored)),
         call::CHECK_POINT => answer::of_value(run_check_point(rec, memory, stored)),
-        call::GET_ROW => answer::of_value(text::caption_get_row(rec)),
-        call::GET_COLUMN => answer::of_value(text::caption_get_column(rec)),
+        call::PAINT_BITMAP => answer::of_code(run_paint_bitmap(rec, memory, stored)),
+        call::GET_ROW => answer::of_value(place::caption_get_row(rec)),
+        call::GET_COLUMN => answer::of_value(place::caption_get_column(rec)),
         call::SET_ROW..=call::SET_PRINT_MODE => answer::of_code(run_set(rec, stored)),
         call::WRITE_BYTE => answer::of_code(run_write_byte(rec, memory, stored)),
         call::TAKE_DIRTY_AREA => answer::of_area(dirty::caption_take_dirty_area(rec)),

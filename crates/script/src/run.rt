@@ -5,6 +5,7 @@ use crate::count;
 use crate::print;
 use crate::reader;
 use model::Sent;
+use model::glass::SCREEN_BYTES;
 use record::layout;
 ghost use mathlib.Core.Path.{_≡_};
 ghost use mathlib.Core.List.{[], _∷_};
@@ -87,8 +88,8 @@ fn put_ending(out: &mut [u8], at: usize, rec: &[u8], memory: &[u8], panel: &[u8]
     requires { ⌜ at + length (ending (lent (now rec) (now memory) (now panel))) ≤ length (now out) ⌝ }
     ensures { λ r. ⌜ Wrote at (ending (lent (now (rec .entry)) (now (memory .entry)) (now (panel .entry)))) (now (out .entry)) (now (out .exit)) r ⌝ }
 {
-    let from: usize = 4096;
-    let to: usize = 5696;
+    let from = GRAPHICS_BASE as usize;
+    let to = from + SCREEN_BYTES;
     let differing = count::count_differing(&memory[from..to], panel);
     let left = count::lines_left(layout::load_pending(rec, layout::PENDING));
     print::put_answer(out, at, b"end", &[differing, left])

@@ -52,16 +52,21 @@ fn boxes() -> impl Iterator<Item = Call> {
     })
 }
 
-/// All radii, filled and not, in every mode, around edge centres in turn.
+/// Centres on the glass, on and beyond its last pixel, and at both ends of the coordinates.
+const CENTRES: [(u8, u8); 5] = [(0, 0), (80, 40), (159, 79), (160, 80), (255, 255)];
+
+/// All radii, filled and not, in every mode, around each of the centres, and around all edge
+/// centres in turn.
 fn ellipses() -> impl Iterator<Item = Call> {
-    let centres = pairs(&EDGES, &EDGES);
+    let edges = pairs(&EDGES, &EDGES);
     let mut turn = 0;
     (0..=127).flat_map(|rx| (0..=127).map(move |ry| (rx, ry))).flat_map(move |(rx, ry)| {
         let mut calls = vec![];
         for (fill, mode) in pairs(&[0, 1], &MODES) {
-            turn = (turn + 37) % centres.len();
-            let (x, y) = centres[turn];
-            calls.push(Call::DrawEllipse { x, y, rx, ry, fill, mode });
+            turn = (turn + 37) % edges.len();
+            for (x, y) in CENTRES.into_iter().chain([edges[turn]]) {
+                calls.push(Call::DrawEllipse { x, y, rx, ry, fill, mode });
+            }
         }
         calls
     })

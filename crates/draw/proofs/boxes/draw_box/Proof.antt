@@ -15,6 +15,9 @@ greatest-requires c κs = search needs
 greatest-requires-2 : tie.Need-greatest-requires-2
 greatest-requires-2 c κs = search needs
 
+raster-op-requires : tie.Need-raster-op-requires
+raster-op-requires c κs = search needs
+
 fill-box-requires : tie.Need-fill-box-requires
 fill-box-requires c κs = search needs
 
@@ -47,6 +50,7 @@ draw-box-spec =
     least-requires-2
     greatest-requires
     greatest-requires-2
+    raster-op-requires
     fill-box-requires
     lowered-marks-requires
     same-length

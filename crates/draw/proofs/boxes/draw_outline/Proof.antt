@@ -3,6 +3,9 @@ use borrow.Author.Needs.{needs}
 use Rattle.draw.proofs.boxes.draw_outline.Statement.{statement}
 use Rattle.draw.proofs.boxes.draw_outline.Tie as tie
 
+raster-op-requires : tie.Need-raster-op-requires
+raster-op-requires c κs = search needs
+
 draw-hor-line-requires : tie.Need-draw-hor-line-requires
 draw-hor-line-requires c κs = search needs
 
@@ -34,6 +37,7 @@ pub draw-outline-spec : {M : Type 1} → statement M
 draw-outline-spec =
     tie.close
     (tie.spec
+    raster-op-requires
     draw-hor-line-requires
     draw-hor-line-requires-2
     is-unknown-requires

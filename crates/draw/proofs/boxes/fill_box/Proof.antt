@@ -21,16 +21,16 @@ is-whole-requires : tie.Need-is-whole-requires
 is-whole-requires c κs = search needs
 
 mul-draw-bytes : tie.Need-mul-draw-bytes
-mul-draw-bytes c = omega (arith, whole-in _ _ (c .before .before .before .before .before .before .args .top) (c .before .before .before .before .before .before .args .bottom) _ _ (c .before .before .before .before .before .before .pre .0) (c .before .before .before .before .before .before .pre .1 .1) (c .before .before .is-whole .ensures) (c .before .if1 .taken))
+mul-draw-bytes c = omega (arith, whole-in _ _ (c .before .before .before .before .before .before .args .top) (c .before .before .before .before .before .before .args .bottom) _ _ (c .before .before .before .before .before .before .pre .0) (c .before .before .before .before .before .before .pre .1 .0 .1) (c .before .before .is-whole .ensures) (c .before .if1 .taken))
 
 add-draw-bytes : tie.Need-add-draw-bytes
 add-draw-bytes c = search needs
 
 mul-draw-bytes-2 : tie.Need-mul-draw-bytes-2
-mul-draw-bytes-2 c = omega (arith, whole-in _ _ (c .before .before .before .before .before .before .args .top) (c .before .before .before .before .before .before .args .bottom) _ _ (c .before .before .before .before .before .before .pre .0) (c .before .before .before .before .before .before .pre .1 .1) (c .before .before .is-whole .ensures) (c .before .if1 .taken))
+mul-draw-bytes-2 c = omega (arith, whole-in _ _ (c .before .before .before .before .before .before .args .top) (c .before .before .before .before .before .before .args .bottom) _ _ (c .before .before .before .before .before .before .pre .0) (c .before .before .before .before .before .before .pre .1 .0 .1) (c .before .before .is-whole .ensures) (c .before .if1 .taken))
 
 draw-bytes-requires : tie.Need-draw-bytes-requires
-draw-bytes-requires c κs = whole-in _ _ (c .before .before .before .before .before .before .args .top) (c .before .before .before .before .before .before .args .bottom) _ _ (c .before .before .before .before .before .before .pre .0) (c .before .before .before .before .before .before .pre .1 .1) (c .before .before .is-whole .ensures) (c .before .if1 .taken)
+draw-bytes-requires c κs = (whole-in _ _ (c .before .before .before .before .before .before .args .top) (c .before .before .before .before .before .before .args .bottom) _ _ (c .before .before .before .before .before .before .pre .0) (c .before .before .before .before .before .before .pre .1 .0 .1) (c .before .before .is-whole .ensures) (c .before .if1 .taken), c .before .before .before .before .before .before .pre .1 .1)
 
 same-length : tie.Need-same-length
 same-length c = search needs
@@ -39,7 +39,7 @@ returns : tie.Need-returns
 unfolding Bytes
 returns c =
     let a = c .before .before .before .before .before .before .before .before .before in
-    box-whole _ _ _ _ _ _ _ _ _ (a .pre .0) (λ i. omega (arith, c .before .before .before .before .before .before .before .before .slice-known .given i)) (a .pre .1)
+    box-whole _ _ _ _ _ _ _ _ _ (a .pre .0) (λ i. omega (arith, c .before .before .before .before .before .before .before .before .slice-known .given i)) (a .pre .1 .0)
     (c .before .before .before .before .before .before .before .clamp .ensures) (c .before .before .before .before .before .before .clamp2 .ensures) (c .before .before .before .before .before .is-whole .ensures) (c .before .before .before .before .if1 .taken) (c .before .before .draw-bytes .ensures)
 
 fill-rows-requires : tie.Need-fill-rows-requires

@@ -6,17 +6,18 @@ use Rattle.model.specs.Pixels.{Screen, draw, seen}
 use Rattle.model.specs.Boxes.{rows, filledBox}
 use Rattle.laws.specs.Writes.{screen-draw}
 use Rattle.laws.specs.Boxes.{rows-start, rows-turn, rows-end}
+use Rattle.pixels.specs.Raster.{modeOf}
 use Rattle.draw.proofs.boxes.fill_rows.Statement.{statement}
 use Rattle.draw.proofs.boxes.fill_rows.Tie as tie
 
 abbrev Inv-loop : tie.InvT-loop
-Inv-loop stride height screen₀ left top right bottom mode first last y₀ count₀ screen y count =
+Inv-loop stride height screen₀ left top right bottom op first last y₀ count₀ screen y count =
     Screen stride height screen × (y + count ≤ 256)
-    × (draw stride (seen stride height (rows stride height left right y count mode)) screen
-    ≡ draw stride (seen stride height (filledBox stride height left top right bottom mode)) screen₀)
+    × (draw stride (seen stride height (rows stride height left right y count (modeOf op))) screen
+    ≡ draw stride (seen stride height (filledBox stride height left top right bottom (modeOf op))) screen₀)
 
 abbrev μ-loop : tie.MeasureT-loop
-μ-loop stride height screen₀ left top right bottom mode first last y₀ count₀ screen y count = count
+μ-loop stride height screen₀ left top right bottom op first last y₀ count₀ screen y count = count
 
 mul-clamp : tie.Need-mul-clamp Inv-loop μ-loop
 mul-clamp c = omega arith
@@ -46,7 +47,7 @@ clamp-requires-3 : tie.Need-clamp-requires-3 Inv-loop μ-loop
 clamp-requires-3 c κs = omega arith
 
 draw-run-requires : tie.Need-draw-run-requires Inv-loop μ-loop
-draw-run-requires c κs = (c .before .before .before .loop .inv .0, omega arith)
+draw-run-requires c κs = (c .before .before .before .loop .inv .0, (omega arith, c .before .before .before .before .before .before .before .pre .1 .1))
 
 add-y : tie.Need-add-y Inv-loop μ-loop
 add-y c = omega arith
@@ -63,7 +64,7 @@ loop-again c =
     let row = c .before .before .draw-run .ensures in (
       screen-draw _ _ _ (at .inv .0) row,
       omega arith,
-      rows-turn _ _ _ _ _ (at .count) _ _ _ _ (at .inv .0) (c .before .before .before .before .before .before .before .before .before .before .pre .1 .0) (omega arith)
+      rows-turn _ _ _ _ _ (at .count) _ _ _ _ (at .inv .0) (c .before .before .before .before .before .before .before .before .before .before .pre .1 .0 .0) (omega arith)
           (c .before .before .before .before .before .before .before .before .clamp .ensures) (c .before .before .before .before .before .before .before .clamp2 .ensures) (c .before .before .before .before .clamp3 .ensures) row (at .inv .2),
     )
 

@@ -13,7 +13,7 @@ chord-left-requires : tie.Need-chord-left-requires
 chord-left-requires c κs = search needs
 
 draw-hor-line-requires : tie.Need-draw-hor-line-requires
-draw-hor-line-requires c κs = (c .before .before .before .before .before .pre, chord-order _ _ (c .before .chord-left .ensures))
+draw-hor-line-requires c κs = (c .before .before .before .before .before .pre .0, (chord-order _ _ (c .before .chord-left .ensures), c .before .before .before .before .before .pre .1))
 
 same-length : tie.Need-same-length
 same-length c = search needs

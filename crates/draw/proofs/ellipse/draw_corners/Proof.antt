@@ -27,17 +27,17 @@ up-requires-2 c κs = search needs
 cast-bottom : tie.Need-cast-bottom
 cast-bottom c = search needs
 
-plot-seen-requires : tie.Need-plot-seen-requires
-plot-seen-requires c κs = search needs
+point-mask-requires : tie.Need-point-mask-requires
+point-mask-requires c κs = search needs
 
-plot-seen-requires-2 : tie.Need-plot-seen-requires-2
-plot-seen-requires-2 c κs = search needs
+point-mask-requires-2 : tie.Need-point-mask-requires-2
+point-mask-requires-2 c κs = search needs
 
-plot-seen-requires-3 : tie.Need-plot-seen-requires-3
-plot-seen-requires-3 c κs = search needs
+plot-pair-requires : tie.Need-plot-pair-requires
+plot-pair-requires c κs = search needs
 
-plot-seen-requires-4 : tie.Need-plot-seen-requires-4
-plot-seen-requires-4 c κs = search needs
+plot-pair-requires-2 : tie.Need-plot-pair-requires-2
+plot-pair-requires-2 c κs = search needs
 
 same-length : tie.Need-same-length
 same-length c = search needs
@@ -57,9 +57,9 @@ draw-corners-spec =
     cast-top
     up-requires-2
     cast-bottom
-    plot-seen-requires
-    plot-seen-requires-2
-    plot-seen-requires-3
-    plot-seen-requires-4
+    point-mask-requires
+    point-mask-requires-2
+    plot-pair-requires
+    plot-pair-requires-2
     same-length
     returns)

@@ -24,6 +24,9 @@ no-marks-requires c κs = search needs
 returns-2 : tie.Need-returns-2
 returns-2 c = search ellipse-nothing
 
+raster-op-requires : tie.Need-raster-op-requires
+raster-op-requires c κs = search needs
+
 draw-walk-requires : tie.Need-draw-walk-requires
 draw-walk-requires c κs = search (is-round, needs)
 
@@ -56,6 +59,7 @@ draw-ellipse-spec =
     is-nothing-requires
     no-marks-requires
     returns-2
+    raster-op-requires
     draw-walk-requires
     ellipse-mark-requires
     lower-requires

@@ -6,23 +6,24 @@ use Rattle.model.specs.Ellipses.{partsFrom, mostSteps}
 use Rattle.laws.specs.Writes.{screen-draw}
 use Rattle.laws.specs.EllipseSteps.{radii}
 use Rattle.laws.specs.EllipseWalks.{painted, stepsLeft, Painting, painting-start, painting-whole, painting-next, painting-last}
+use Rattle.pixels.specs.Raster.{modeOf}
 use Rattle.walk.specs.Walk.{walkOf}
 use Rattle.draw.proofs.ellipse.draw_walk.Statement.{statement}
 use Rattle.draw.proofs.ellipse.draw_walk.Tie as tie
 
 abbrev Inv-loop : tie.InvT-loop
-Inv-loop stride height screen₀ x y rx ry fill mode r w₀ screen w =
+Inv-loop stride height screen₀ x y rx ry fill op r w₀ screen w =
     Screen stride height screen
-    × Painting stride height x y r rx ry fill mode (walkOf w) screen (painted stride height x y fill mode (partsFrom mostSteps r rx ry (walkOf w₀)) screen₀)
+    × Painting stride height x y r rx ry fill (modeOf op) (walkOf w) screen (painted stride height x y fill (modeOf op) (partsFrom mostSteps r rx ry (walkOf w₀)) screen₀)
 
 abbrev μ-loop : tie.MeasureT-loop
-μ-loop stride height screen₀ x y rx ry fill mode r w₀ screen w = stepsLeft r (walkOf w)
+μ-loop stride height screen₀ x y rx ry fill op r w₀ screen w = stepsLeft r (walkOf w)
 
 greatest-requires : tie.Need-greatest-requires Inv-loop μ-loop
 greatest-requires c κs = tt
 
 draw-part-requires : tie.Need-draw-part-requires Inv-loop μ-loop
-draw-part-requires c κs = c .before .before .before .pre .0
+draw-part-requires c κs = (c .before .before .before .pre .0, c .before .before .before .pre .1 .1)
 
 start-requires : tie.Need-start-requires Inv-loop μ-loop
 start-requires c κs = tt
@@ -32,14 +33,14 @@ loop-holds c =
     let s = c .before .before .before .before .before .before .before in
     let a = s .args in (
       screen-draw (a .stride) (a .height) _ (s .pre .0) (c .before .before .before .draw-part .ensures),
-      painting-start (a .stride) (a .height) (a .x) (a .y) _ (a .rx) (a .ry) (a .fill) (a .mode) (radii (a .rx) (a .ry) (c .before .before .before .before .before .greatest .ensures) (s .pre .1)) _ (c .start .ensures),
+      painting-start (a .stride) (a .height) (a .x) (a .y) _ (a .rx) (a .ry) (a .fill) (modeOf (a .op)) (radii (a .rx) (a .ry) (c .before .before .before .before .before .greatest .ensures) (s .pre .1 .0)) _ (c .start .ensures),
     )
 
 next-step-requires : tie.Need-next-step-requires Inv-loop μ-loop
 next-step-requires c κs = tt
 
 draw-step-requires : tie.Need-draw-step-requires Inv-loop μ-loop
-draw-step-requires c κs = c .before .before .loop .inv .0
+draw-step-requires c κs = (c .before .before .loop .inv .0, c .before .before .before .before .before .before .before .before .before .before .pre .1 .1)
 
 ended-requires : tie.Need-ended-requires Inv-loop μ-loop
 ended-requires c κs = tt
@@ -51,7 +52,7 @@ loop-less c =
     let step = c .before .before .before .before .before .before .before .next-step .ensures in
     let drawn = c .before .before .before .before .before .draw-step .ensures in
     let on =
-    painting-next (a .stride) (a .height) (a .x) (a .y) _ (a .rx) (a .ry) (a .fill) (a .mode) (radii (a .rx) (a .ry) (c .before .before .before .before .before .before .before .before .before .before .before .before .before .before .greatest .ensures) (s .pre .1))
+    painting-next (a .stride) (a .height) (a .x) (a .y) _ (a .rx) (a .ry) (a .fill) (modeOf (a .op)) (radii (a .rx) (a .ry) (c .before .before .before .before .before .before .before .before .before .before .before .before .before .before .greatest .ensures) (s .pre .1 .0))
     (c .before .before .before .before .before .before .before .before .loop .inv .1) (step .walk) (step .part) drawn (c .before .ended .ensures) (c .if1 .left) in
     on .1
 
@@ -62,7 +63,7 @@ loop-again c =
     let step = c .before .before .before .before .before .before .before .next-step .ensures in
     let drawn = c .before .before .before .before .before .draw-step .ensures in
     let on =
-    painting-next (a .stride) (a .height) (a .x) (a .y) _ (a .rx) (a .ry) (a .fill) (a .mode) (radii (a .rx) (a .ry) (c .before .before .before .before .before .before .before .before .before .before .before .before .before .before .greatest .ensures) (s .pre .1))
+    painting-next (a .stride) (a .height) (a .x) (a .y) _ (a .rx) (a .ry) (a .fill) (modeOf (a .op)) (radii (a .rx) (a .ry) (c .before .before .before .before .before .before .before .before .before .before .before .before .before .before .greatest .ensures) (s .pre .1 .0))
     (c .before .before .before .before .before .before .before .before .loop .inv .1) (step .walk) (step .part) drawn (c .before .ended .ensures) (c .if1 .left) in
     (screen-draw (a .stride) (a .height) _ (c .before .before .before .before .before .before .before .before .loop .inv .0) drawn, on .0)
 
@@ -76,9 +77,9 @@ returns c =
     let step = c .before .before .before .before .before .before .before .next-step .ensures in
     let drawn = c .before .before .before .before .before .draw-step .ensures in
     let on =
-    painting-last (a .stride) (a .height) (a .x) (a .y) _ (a .rx) (a .ry) (a .fill) (a .mode) (radii (a .rx) (a .ry) (c .before .before .before .before .before .before .before .before .before .before .before .before .before .before .greatest .ensures) (s .pre .1))
+    painting-last (a .stride) (a .height) (a .x) (a .y) _ (a .rx) (a .ry) (a .fill) (modeOf (a .op)) (radii (a .rx) (a .ry) (c .before .before .before .before .before .before .before .before .before .before .before .before .before .before .greatest .ensures) (s .pre .1 .0))
     (c .before .before .before .before .before .before .before .before .loop .inv .1) (step .walk) (step .part) drawn (c .before .ended .ensures) (c .if1 .taken) in
-    on ∙ painting-whole (a .stride) (a .height) (a .x) (a .y) _ (a .rx) (a .ry) (a .fill) (a .mode) _ _ (c .before .before .before .before .before .before .before .before .before .before .before .before .before .before .greatest .ensures) (c .before .before .before .before .before .before .before .before .before .start .ensures) (c .before .before .before .before .before .before .before .before .before .before .before .before .draw-part .ensures)
+    on ∙ painting-whole (a .stride) (a .height) (a .x) (a .y) _ (a .rx) (a .ry) (a .fill) (modeOf (a .op)) _ _ (c .before .before .before .before .before .before .before .before .before .before .before .before .before .before .greatest .ensures) (c .before .before .before .before .before .before .before .before .before .start .ensures) (c .before .before .before .before .before .before .before .before .before .before .before .before .draw-part .ensures)
 
 pub draw-walk-spec : {M : Type 1} → statement M
 draw-walk-spec =

@@ -3,6 +3,9 @@ use borrow.Author.Needs.{needs}
 use Rattle.draw.proofs.line.draw_horizontal.Statement.{statement}
 use Rattle.draw.proofs.line.draw_horizontal.Tie as tie
 
+raster-op-requires : tie.Need-raster-op-requires
+raster-op-requires c κs = search needs
+
 draw-hor-line-requires : tie.Need-draw-hor-line-requires
 draw-hor-line-requires c κs = search needs
 
@@ -17,4 +20,4 @@ returns c = search horizontal-marked
 
 pub draw-horizontal-spec : {M : Type 1} → statement M
 draw-horizontal-spec =
-    tie.close (tie.spec draw-hor-line-requires lowered-marks-requires same-length returns)
+    tie.close (tie.spec raster-op-requires draw-hor-line-requires lowered-marks-requires same-length returns)

@@ -4,21 +4,22 @@ use Prim.Native.Nat.{_≤_, _-_}
 use native.Mathlib.Omega.{arith}
 use lib.ListN.{length}
 use Rattle.laws.specs.Runs.{maskedBytes, bytes-turn, bytes-end}
+use Rattle.pixels.specs.Raster.{modeOf}
 use Rattle.pixels.proofs.run.draw_bytes.Statement.{statement}
 use Rattle.pixels.proofs.run.draw_bytes.Tie as tie
 
 abbrev Inv-loop : tie.InvT-loop
-Inv-loop screen₀ from to mode at₀ screen at =
-    (at ≤ to) × (length screen ≡ length screen₀) × (maskedBytes screen at (to - at) mode ≡ maskedBytes screen₀ from (to - from) mode)
+Inv-loop screen₀ from to op at₀ screen at =
+    (at ≤ to) × (length screen ≡ length screen₀) × (maskedBytes screen at (to - at) (modeOf op) ≡ maskedBytes screen₀ from (to - from) (modeOf op))
 
 abbrev μ-loop : tie.MeasureT-loop
-μ-loop screen₀ from to mode at₀ screen at = to - at
+μ-loop screen₀ from to op at₀ screen at = to - at
 
 loop-holds : tie.Need-loop-holds Inv-loop μ-loop
-loop-holds c = (c .before .pre .0, refl, refl)
+loop-holds c = (c .before .pre .0 .0, refl, refl)
 
 draw-mask-requires : tie.Need-draw-mask-requires Inv-loop μ-loop
-draw-mask-requires c κs = omega arith
+draw-mask-requires c κs = (omega arith, c .before .before .before .before .pre .1)
 
 add-at : tie.Need-add-at Inv-loop μ-loop
 add-at c = omega arith

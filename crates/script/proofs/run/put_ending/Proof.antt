@@ -3,6 +3,12 @@ use borrow.Author.Needs.{needs}
 use Rattle.script.proofs.run.put_ending.Statement.{statement}
 use Rattle.script.proofs.run.put_ending.Tie as tie
 
+cast-from : tie.Need-cast-from
+cast-from c = search needs
+
+add-to : tie.Need-add-to
+add-to c = search needs
+
 sub-count-differing : tie.Need-sub-count-differing
 sub-count-differing c = search needs
 
@@ -40,6 +46,8 @@ pub put-ending-spec : {M : Type 1} → statement M
 put-ending-spec =
     tie.close
     (tie.spec
+    cast-from
+    add-to
     sub-count-differing
     part-count-differing-start
     part-count-differing-end

@@ -1,0 +1,3 @@
+pub mod Signed
+pub mod Painting
+pub mod Sources

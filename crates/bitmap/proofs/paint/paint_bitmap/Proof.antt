@@ -1,0 +1,91 @@
+use Prim.Native.Nat.{_*_}
+use native.Mathlib.Omega.{arith}
+use Rattle.laws.specs.Bitmaps.{bitmap-painted, bitmap-beside, bitmap-below}
+use Rattle.bitmap.proofs.Painting.{visible-given, visible-lies, source-screen}
+use borrow.Author.Needs.{needs}
+use Rattle.bitmap.proofs.paint.paint_bitmap.Statement.{statement}
+use Rattle.bitmap.proofs.paint.paint_bitmap.Tie as tie
+
+mul-visible : tie.Need-mul-visible
+mul-visible c = search needs
+
+visible-requires : tie.Need-visible-requires
+visible-requires c κs = search needs
+
+visible-requires-2 : tie.Need-visible-requires-2
+visible-requires-2 c κs = search needs
+
+no-marks-requires : tie.Need-no-marks-requires
+no-marks-requires c κs = search needs
+
+returns : tie.Need-returns
+returns c =
+    let a = c .before .before .before .before .before .before .before in
+    bitmap-beside _ _ _ (a .args .x) (a .args .y) _ _ _ _
+    (visible-given (a .args .x) _ _ (a .fits .x) (c .before .before .before .before .visible .ensures))
+    (visible-given (a .args .y) _ _ (a .fits .y) (c .before .before .before .visible2 .ensures))
+    (c .before .if1 .taken) (c .no-marks .ensures)
+
+no-marks-requires-2 : tie.Need-no-marks-requires-2
+no-marks-requires-2 c κs = search needs
+
+returns-2 : tie.Need-returns-2
+returns-2 c =
+    let a = c .before .before .before .before .before .before .before .before .before in
+    bitmap-below _ _ _ (a .args .x) (a .args .y) _ _ _ _
+    (visible-given (a .args .x) _ _ (a .fits .x) (c .before .before .before .before .before .before .visible .ensures))
+    (visible-given (a .args .y) _ _ (a .fits .y) (c .before .before .before .before .before .visible2 .ensures))
+    (c .before .before .before .if1 .left) (c .before .if2 .taken) (c .no-marks2 .ensures)
+
+add-bytes : tie.Need-add-bytes
+add-bytes c = search needs
+
+paint-lines-requires : tie.Need-paint-lines-requires
+paint-lines-requires c κs =
+    let a = c .before .before .before .before .before .before .before .before .before in
+    let across = visible-lies (a .args .x) (a .args .width) (8 * a .args .stride)
+    (visible-given (a .args .x) _ _ (a .fits .x) (c .before .before .before .before .before .before .visible .ensures))
+    (c .before .before .before .if1 .left) in
+    let down = visible-lies (a .args .y) (a .args .lines) (a .args .height)
+    (visible-given (a .args .y) _ _ (a .fits .y) (c .before .before .before .before .before .visible2 .ensures))
+    (c .before .if2 .left) in
+    (a .pre .0, (source-screen (a .args .width) (a .args .lines) (a .args .source .now) (a .pre .1) (omega arith) (omega arith) (omega arith) (omega arith), omega arith))
+
+visible-marks-requires : tie.Need-visible-marks-requires
+visible-marks-requires c κs =
+    let a = c .before .before .before .before .before .before .before .before .before .before .before .before in
+    let across = visible-lies (a .args .x) (a .args .width) (8 * a .args .stride)
+    (visible-given (a .args .x) _ _ (a .fits .x) (c .before .before .before .before .before .before .before .before .before .visible .ensures))
+    (c .before .before .before .before .before .before .if1 .left) in
+    let down = visible-lies (a .args .y) (a .args .lines) (a .args .height)
+    (visible-given (a .args .y) _ _ (a .fits .y) (c .before .before .before .before .before .before .before .before .visible2 .ensures))
+    (c .before .before .before .before .if2 .left) in
+    omega (arith, a .pre .0)
+
+same-length : tie.Need-same-length
+same-length c = search needs
+
+returns-3 : tie.Need-returns-3
+returns-3 c =
+    let a = c .before .before .before .before .before .before .before .before .before .before .before .before .before in
+    bitmap-painted _ _ _ (a .args .x) (a .args .y) _ _ _ _
+    (visible-given (a .args .x) _ _ (a .fits .x) (c .before .before .before .before .before .before .before .before .before .before .visible .ensures))
+    (visible-given (a .args .y) _ _ (a .fits .y) (c .before .before .before .before .before .before .before .before .before .visible2 .ensures))
+    _ (c .before .before .before .before .before .before .before .if1 .left) (c .before .before .before .before .before .if2 .left) (c .visible-marks .ensures) (c .before .before .before .paint-lines .ensures)
+
+pub paint-bitmap-spec : {M : Type 1} → statement M
+paint-bitmap-spec =
+    tie.close
+    (tie.spec
+    mul-visible
+    visible-requires
+    visible-requires-2
+    no-marks-requires
+    returns
+    no-marks-requires-2
+    returns-2
+    add-bytes
+    paint-lines-requires
+    visible-marks-requires
+    same-length
+    returns-3)

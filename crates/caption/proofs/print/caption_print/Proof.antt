@@ -1,0 +1,40 @@
+use Rattle.caption.proofs.Printing.{print-stops, print-ends}
+use Rattle.caption.proofs.Blinking.{placed}
+use Rattle.caption.proofs.Calls.{knows}
+use Rattle.caption.proofs.Opening.{whole-memory}
+use borrow.Author.Needs.{needs}
+use Rattle.caption.proofs.print.caption_print.Statement.{statement}
+use Rattle.caption.proofs.print.caption_print.Tie as tie
+
+enter-requires : tie.Need-enter-requires
+enter-requires c κs = search needs
+
+same-length : tie.Need-same-length
+same-length c = search needs
+
+returns : tie.Need-returns
+returns c = search print-stops
+
+print-done-requires : tie.Need-print-done-requires
+print-done-requires c κs = (search knows, (search whole-memory, search placed))
+
+same-length-2 : tie.Need-same-length-2
+same-length-2 c = search needs
+
+same-length-3 : tie.Need-same-length-3
+same-length-3 c = search needs
+
+returns-2 : tie.Need-returns-2
+returns-2 c = search print-ends
+
+pub caption-print-spec : {M : Type 1} → statement M
+caption-print-spec =
+    tie.close
+    (tie.spec
+    enter-requires
+    same-length
+    returns
+    print-done-requires
+    same-length-2
+    same-length-3
+    returns-2)

@@ -1,0 +1,85 @@
+-- What a picture says of a call: what it answers and leaves on every record that passes STATE with dirty and owed empty, and on every memory of its length.
+use mathlib.Core.Path.{_≡_}
+use mathlib.Core.Logic.{_≢_, _⊎_}
+use mathlib.Core.Bool.{true, false, not}
+use mathlib.Core.List.{List, [], _∷_}
+use Prim.Native.Nat.{ℕ, _<_}
+use lib.ListN.{length}
+use Rattle.model.specs.declared.Rect.{Rect}
+use Rattle.model.specs.Geometry.{base}
+use Rattle.model.specs.Pixels.{PixelWrite, bit}
+use Rattle.model.specs.Rects.{none}
+use Rattle.model.specs.Memory.{screenOf, withScreen}
+use Rattle.model.specs.Record.{State, Bytes, decode, encode, valid}
+use Rattle.model.specs.Marks.{withDirty}
+use Rattle.model.specs.Calls.{Call, Lent, Outcome, outcome}
+use Rattle.laws.specs.Pixels.{Each}
+
+abbrev pub rect : ℕ → ℕ → ℕ → ℕ → Rect
+rect left top right bottom = record { left = left; top = top; right = right; bottom = bottom }
+
+-- ---- pixels
+
+-- a pixel that is set, cleared or inverted
+abbrev pub sets : ℕ → ℕ → PixelWrite
+sets x y = record { x = x; y = y; op = λ v. true }
+
+abbrev pub clears : ℕ → ℕ → PixelWrite
+clears x y = record { x = x; y = y; op = λ v. false }
+
+abbrev pub inverts : ℕ → ℕ → PixelWrite
+inverts x y = record { x = x; y = y; op = not }
+
+-- t is the screen s with the pixels that ps names made what it says, and no other pixel changed
+pub record Changed (ps : List PixelWrite) (s t : List ℕ) : Type 0 where
+  pub made : Each (λ p. bit 20 t (p .x) (p .y) ≡ p .op (bit 20 s (p .x) (p .y))) ps
+  pub others : (x y : ℕ) → x < 160 → y < 80 → Each (λ p. (x ≢ p .x) ⊎ (y ≢ p .y)) ps → bit 20 t x y ≡ bit 20 s x y
+
+-- ---- lent bytes
+
+abbrev pub dirtyIn : Lent → Rect
+dirtyIn l = decode base (l .rec) .head .dirty
+
+abbrev pub owedIn : Lent → List Rect
+owedIn l = decode base (l .rec) .pending .owed
+
+abbrev pub graphicsIn : Lent → ℕ
+graphicsIn l = decode base (l .rec) .head .graphics
+
+abbrev pub screenIn : Lent → List ℕ
+screenIn l = screenOf base (graphicsIn l) (l .memory)
+
+-- the record passes STATE, its dirty and owed are empty, and the memory has its length
+pub record Unmarked (l : Lent) : Type 0 where
+  pub sized : length (l .rec) ≡ 170
+  pub bytes : Bytes (l .rec)
+  pub passes : valid base (l .rec) ≡ true
+  pub memory : length (l .memory) ≡ 65536
+  pub dirty : dirtyIn l ≡ none
+  pub owed : owedIn l ≡ none ∷ []
+
+-- a state with another dirty and another owed
+abbrev pub withMarks : Rect → Rect → State → State
+withMarks d o s = record {
+  head = withDirty d (s .head);
+  pending = record { owed = o ∷ []; hand = s .pending .hand; sent = s .pending .sent };
+  keys = s .keys;
+  flags = s .flags;
+}
+
+-- ---- pictures
+
+-- a call that was lent l is done; it leaves dirty d and owed o, changes the pixels that ps names, and nothing else
+pub record Drew (l : Lent) (ps : List PixelWrite) (d o : Rect) (out : Outcome) : Type 0 where
+  pub code : out .code ≡ 0
+  pub numbers : out .numbers ≡ []
+  pub dirty : dirtyIn (out .left) ≡ d
+  pub owed : owedIn (out .left) ≡ o ∷ []
+  pub pixels : Changed ps (screenIn l) (screenIn (out .left))
+  -- no other field of the record changes, no byte of memory outside the screen, and no byte of the panel
+  pub rec : out .left .rec ≡ encode (withMarks d o (decode base (l .rec)))
+  pub memory : out .left .memory ≡ withScreen (graphicsIn l) (screenIn (out .left)) (l .memory)
+  pub panel : out .left .panel ≡ l .panel
+
+abbrev pub Picture : Call → List PixelWrite → Rect → Rect → Type 0
+Picture c ps d o = (l : Lent) → Unmarked l → Drew l ps d o (outcome base c l)

@@ -1,0 +1,114 @@
+-- The known pictures of document 01 that it stars, and both of its scripts, from the definitions of crates/model/specs. Picture.antt says what a picture is:
+-- each starts with dirty and owed empty, in any record that passes STATE and over any memory. `text` of crates/model/specs/Script/Run.antt is what a script prints.
+use mathlib.Core.Path.{_≡_, refl}
+use mathlib.Core.List.{[], _∷_}
+use Prim.Native.Nat.{ℕ, _/_, _%_, _≤_, _<_}
+use lib.IntN.{ℤ, pos, negsuc}
+use lib.ListN.{getD}
+use Rattle.model.specs.declared.Found.{Found}
+use Rattle.model.specs.declared.Found.the-variants.{At}
+use Rattle.model.specs.Geometry.{base}
+use Rattle.model.specs.Pixels.{bit}
+use Rattle.model.specs.Refusals.{SOURCE}
+use Rattle.model.specs.Ellipses.{part, parts, steps}
+use Rattle.model.specs.Codes.{inRow, indexIn, emojiIndex}
+use Rattle.model.specs.Calls.{drawPoint, drawLine, drawBox, drawCircle, paintBitmap, Lent, answered, outcome}
+use Rattle.model.specs.Script.Run.{text}
+use Rattle.pictures.specs.Texts.{bytesOf}
+use Rattle.pictures.specs.Picture.{rect, sets, clears, inverts, screenIn, Unmarked, Drew, Picture}
+use Rattle.pictures.specs.Start.{clearBytes, clear-unmarked}
+use Rattle.pictures.specs.Shapes.{point-off, point-unknown, line-clamped, line-sloped, box-past-bottom, box-row, circle-parts, circle-steps, circle-two, circle-one}
+use Rattle.pictures.specs.Bitmaps.{bitmap-clipped, source-refused, source-accepted}
+use Rattle.pictures.specs.Scripts.{point-send, send-point}
+
+-- draw modes, the paint mode Copy, the fill flag, emoji versions
+abbrev or : ℕ
+or = 1
+
+abbrev xor : ℕ
+xor = 2
+
+abbrev unknown : ℕ
+unknown = 3
+
+abbrev copy : ℕ
+copy = 0
+
+abbrev outlined : ℕ
+outlined = 0
+
+abbrev filled : ℕ
+filled = 1
+
+abbrev V1 : ℕ
+V1 = 0
+
+abbrev V2 : ℕ
+V2 = 1
+
+-- the emoji index of a code, lead × 256 + trail
+abbrev emojiOf : ℕ → ℕ → Found
+emojiOf version code = emojiIndex version (code / 256) (code % 256)
+
+pub record KnownPictures : Type 0 where
+  -- Each starts with dirty and owed empty: there are such lent bytes
+  pub start : Unmarked clearBytes
+  -- Point (160, 0): nothing
+  pub point-off : (mode : ℕ) → mode ≤ 3 → (l : Lent) → Unmarked l → outcome base (drawPoint 160 0 mode) l ≡ answered 0 [] l
+  -- Point (5, 5) Unknown: only dirty and owed 5, 5, 6, 6
+  pub point-unknown : Picture (drawPoint 5 5 unknown) [] (rect 5 5 6 6) (rect 5 5 6 6)
+  -- Line (200, 90)-(210, 90) Or: pixel (159, 79); dirty 200, 90, 211, 91; owed 159, 79, 160, 80
+  pub line-clamped : Picture (drawLine 200 90 210 90 or) (sets 159 79 ∷ []) (rect 200 90 211 91) (rect 159 79 160 80)
+  -- Line (0, 0)-(2, 1) Or: (0, 0), (1, 0), (2, 1)
+  pub line-sloped : Picture (drawLine 0 0 2 1 or) (sets 0 0 ∷ sets 1 0 ∷ sets 2 1 ∷ []) (rect 0 0 3 2) (rect 0 0 3 2)
+  -- Filled box (0, 78)-(7, 80) Xor: row 79 unchanged; row 78 is inverted from 0 to 7
+  pub box-row-79 : (l : Lent) → Unmarked l → (x : ℕ) → x < 160
+      → bit 20 (screenIn (outcome base (drawBox 0 78 7 80 filled xor) l .left)) x 79 ≡ bit 20 (screenIn l) x 79
+  pub box-row-78 : Picture (drawBox 0 78 7 80 filled xor)
+      (inverts 0 78 ∷ inverts 1 78 ∷ inverts 2 78 ∷ inverts 3 78 ∷ inverts 4 78 ∷ inverts 5 78 ∷ inverts 6 78 ∷ inverts 7 78 ∷ [])
+      (rect 0 78 8 81) (rect 0 78 8 80)
+  -- Circle (10, 10) radius 2: parts (2, 0), (2, 1), (2, 2), (0, 2) in 4 steps; Or sets their corners
+  pub circle-parts : parts 2 2 ≡ part 2 0 ∷ part 2 1 ∷ part 2 2 ∷ part 0 2 ∷ []
+  pub circle-steps : steps 2 2 ≡ 4
+  pub circle-corners : Picture (drawCircle 10 10 2 outlined or)
+      (sets 8 10 ∷ sets 12 10 ∷ sets 8 9 ∷ sets 12 9 ∷ sets 8 11 ∷ sets 12 11 ∷ sets 8 8 ∷ sets 12 8 ∷ sets 8 12 ∷ sets 12 12 ∷ sets 10 8 ∷ sets 10 12 ∷ [])
+      (rect 8 8 160 80) (rect 8 8 160 80)
+  -- Radius 1 Or: (9, 10), (11, 10) only
+  pub circle-one : Picture (drawCircle 10 10 1 outlined or) (sets 9 10 ∷ sets 11 10 ∷ []) (rect 9 9 160 80) (rect 9 9 160 80)
+  -- Byte 0x81 copied at (-1, 0), 8 by 1: pixel 6 set, 0-5 cleared; dirty 0, 0, 7, 1
+  pub bitmap-clipped : (address : ℕ) → address < 65536 → (l : Lent) → Unmarked l → getD (l .memory) address 0 ≡ 0x81
+      → Drew l (clears 0 0 ∷ clears 1 0 ∷ clears 2 0 ∷ clears 3 0 ∷ clears 4 0 ∷ clears 5 0 ∷ sets 6 0 ∷ []) (rect 0 0 7 1) (rect 0 0 7 1)
+      (outcome base (paintBitmap address (negsuc 0) (pos 0) 8 1 copy) l)
+  -- Width 9, height 1, address 65,535: SOURCE; 65,534 accepted
+  pub source-refused : (x y : ℤ) (mode : ℕ) → mode ≤ 4 → (l : Lent) → Unmarked l → outcome base (paintBitmap 65535 x y 9 1 mode) l ≡ answered SOURCE [] l
+  pub source-accepted : (x y : ℤ) (mode : ℕ) → mode ≤ 4 → (l : Lent) → Unmarked l → outcome base (paintBitmap 65534 x y 9 1 mode) l .code ≡ 0
+  -- Codes 0xFA46 and 0xFD7D in V1: 0 and 526; so 0xF8A1 and 0xFDD9 in V2
+  pub codes-V1 : (emojiOf V1 0xFA46 ≡ At 0) × (emojiOf V1 0xFD7D ≡ At 526)
+  pub codes-V2 : (emojiOf V2 0xF8A1 ≡ At 0) × (emojiOf V2 0xFDD9 ≡ At 526)
+  -- The point form, then a send, prints `(done)`, `(sent 0 0 160)`, `(end 0 79)`
+  pub point-send : text (bytesOf "(point (3 0) or)\n(send)\n") ≡ bytesOf "(done)\n(sent 0 0 160)\n(end 0 79)\n"
+  -- Send first gives `(sent 0 0 160)`, `(done)`, `(end 1 80)`
+  pub send-point : text (bytesOf "(send)\n(point (3 0) or)\n") ≡ bytesOf "(sent 0 0 160)\n(done)\n(end 1 80)\n"
+
+pub known-pictures : KnownPictures
+unfolding emojiIndex indexIn inRow
+known-pictures = record {
+  start = clear-unmarked;
+  point-off = point-off;
+  point-unknown = point-unknown;
+  line-clamped = line-clamped;
+  line-sloped = line-sloped;
+  box-row-79 = box-row;
+  box-row-78 = box-past-bottom;
+  circle-parts = circle-parts;
+  circle-steps = circle-steps;
+  circle-corners = circle-two;
+  circle-one = circle-one;
+  bitmap-clipped = bitmap-clipped;
+  source-refused = source-refused;
+  source-accepted = source-accepted;
+  codes-V1 = (refl, refl);
+  codes-V2 = (refl, refl);
+  point-send = point-send;
+  send-point = send-point;
+}

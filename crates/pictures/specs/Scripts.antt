@@ -1,0 +1,241 @@
+-- The two scripts: the record is found by computing, the screen and the panel by laws of windows and pixels.
+use mathlib.Core.Path.{_≡_, refl, sym, ap, _∙_}
+use mathlib.Core.Logic.{_≢_, _⊎_, inl, inr}
+use mathlib.Core.Bool.{true, false, not, _&&_}
+use mathlib.Core.List.{List, [], _∷_, _++_}
+use Prim.Native.Nat.{ℕ, zero, suc, _+_, _≤_, _<_}
+use native.Mathlib.Omega.{arith}
+use lib.ListN.{length, take, set, getD-replicate, length-set}
+use borrow.Author.Tests.{eq-eqb, not-true}
+use Rattle.model.specs.declared.Rect.{Rect}
+use Rattle.model.specs.Geometry.{base}
+use Rattle.model.specs.Bits.{bitAt}
+use Rattle.model.specs.Pixels.{bit, put, onScreen, writePixel, draw, seen, copyRun}
+use Rattle.model.specs.Rects.{isEmpty, fits, join, cut, inside}
+use Rattle.model.specs.Memory.{window, zeros, screenOf, withScreen}
+use Rattle.model.specs.Record.{State, decode, encode, valid, windows, bandsFit, stateFits, flagsFit, withPending}
+use Rattle.model.specs.Refusals.{ruled}
+use Rattle.model.specs.Marks.{updateDirty, joinOwed, owing, within, owes, marked, drawnOn}
+use Rattle.model.specs.Open.{isKey, withKeys, clearMemory, nothingPending, openPending, openState}
+use Rattle.model.specs.Points.{pointOp, pointRect, point}
+use Rattle.model.specs.Sends.{firstOwed, restOwed, takeOwed, nextLine, lineSent, sendPending, lineNumbers, sendNumbers, copyLine, sendPanel}
+use Rattle.model.specs.Calls.{Call, drawPoint, send, Lent, lent, Outcome, answered, refusals, drawingWith, drawing, refused, done, outcome}
+use Rattle.model.specs.Lists.{owedLines, linesLeft, differing}
+use Rattle.model.specs.Script.Read.{onFirst, lines, isDigit, goesOn, digits, atMost, number, word, orElse, mode, piece, isField, kept, andThen, matched, Line, call, choose, form, read}
+use Rattle.model.specs.Script.Run.{spelled, spaced, printed, endWord, said, answer, leaves, noKeys, opened, ending, runFrom, run, text}
+use Rattle.laws.specs.Tests.{by-eq, clash}
+use Rattle.laws.specs.Tables.{every-at}
+use Rattle.laws.specs.Calls.{pass-accepted}
+use Rattle.laws.specs.Memory.{length-withWindow, window-same, window-set-out}
+use Rattle.laws.specs.Pixels.{length-put, put-same, put-other, copyRun-same, copyRun-other}
+use Rattle.laws.specs.Keys.{length-withKeys}
+use Rattle.laws.specs.Loops.{length-zeros}
+use Rattle.laws.specs.Counts.{none-differ}
+use Rattle.pictures.specs.Picture.{rect}
+use Rattle.pictures.specs.Texts.{bytesOf}
+use Rattle.pictures.specs.Differing.{one-differs}
+
+-- ---- what is read
+
+point-then-send : read (bytesOf "(point (3 0) or)\n(send)\n") ≡ call (drawPoint 3 0 1) ∷ call send ∷ []
+unfolding bytesOf read lines onFirst form choose matched andThen kept isField piece mode orElse word number atMost digits goesOn isDigit
+point-then-send = refl
+
+send-then-point : read (bytesOf "(send)\n(point (3 0) or)\n") ≡ call send ∷ call (drawPoint 3 0 1) ∷ []
+unfolding bytesOf read lines onFirst form choose matched andThen kept isField piece mode orElse word number atMost digits goesOn isDigit
+send-then-point = refl
+
+-- ---- the record
+
+-- the bytes of a state mean it and pass
+record Encoded (s : State) : Type 0 where
+  sized : length (encode s) ≡ 170
+  means : decode base (encode s) ≡ s
+  passes : valid base (encode s) ≡ true
+
+-- as the program opens it
+unfoldable openedState : State
+openedState = openState base 4096 8192 1 noKeys
+
+-- the point's mark
+abbrev mark : Rect
+mark = rect 3 0 4 1
+
+unfoldable pointed : State → State
+pointed s = marked base mark mark s
+
+unfoldable sentOf : State → State
+sentOf s = withPending (sendPending (s .pending)) s
+
+encoded-opened : Encoded openedState
+unfolding openedState openState openPending nothingPending owing joinOwed join isEmpty cut encode decode valid stateFits windows fits bandsFit flagsFit
+encoded-opened = record { sized = refl; means = refl; passes = refl }
+
+encoded-pointed : Encoded (pointed openedState)
+unfolding pointed marked updateDirty openedState openState openPending nothingPending owing joinOwed join isEmpty cut encode decode valid stateFits windows fits bandsFit flagsFit
+encoded-pointed = record { sized = refl; means = refl; passes = refl }
+
+encoded-sent : Encoded (sentOf openedState)
+unfolding sentOf sendPending lineSent takeOwed firstOwed restOwed nextLine openedState openState openPending nothingPending owing joinOwed join isEmpty cut encode decode valid stateFits windows fits bandsFit flagsFit
+encoded-sent = record { sized = refl; means = refl; passes = refl }
+
+-- ---- the calls
+
+-- the point on a screen
+unfoldable dotted : List ℕ → List ℕ
+dotted s = put 20 s 3 0 true
+
+module _ (s : State) (k : Encoded s) (m p : List ℕ) (hm : length m ≡ 65536) where
+  point-done : outcome base (drawPoint 3 0 1) (lent (encode s) m p)
+      ≡ answered 0 [] (lent (encode (pointed s)) (withScreen (s .head .graphics) (dotted (screenOf base (s .head .graphics) m)) m) p)
+  unfolding outcome ruled refusals done drawingWith drawnOn point pointRect pointOp onScreen seen draw writePixel owes within inside dotted pointed
+  point-done =
+      let l = lent (encode s) m p in
+      let c = drawPoint 3 0 1 in
+      let a = pass-accepted (refusals base c l) ((λ i. eq-eqb (length (encode s)) 170 (k .sized) i && eq-eqb (length m) 65536 hm i), (k .passes, (refl, tt))) in
+      ap (λ (n : ℕ). ruled n (refused c l) (done base c l)) a
+      ∙ ap (λ (t : State). answered 0 [] (lent (encode (pointed t)) (withScreen (t .head .graphics) (dotted (screenOf base (t .head .graphics) m)) m) p)) (k .means)
+
+  send-done : length p ≡ 1600 → outcome base send (lent (encode s) m p)
+      ≡ answered 0 (sendNumbers (s .pending)) (lent (encode (sentOf s)) m (sendPanel 20 (s .pending) (screenOf base (s .head .graphics) m) p))
+  unfolding outcome ruled refusals done sentOf
+  send-done hp =
+      let l = lent (encode s) m p in
+      let a = pass-accepted (refusals base send l)
+      ((λ i. eq-eqb (length (encode s)) 170 (k .sized) i && (eq-eqb (length m) 65536 hm i && eq-eqb (length p) 1600 hp i)), (k .passes, tt)) in
+      ap (λ (n : ℕ). ruled n (refused send l) (done base send l)) a
+      ∙ ap (λ (t : State). answered 0 (sendNumbers (t .pending)) (lent (encode (sentOf t)) m (sendPanel 20 (t .pending) (screenOf base (t .head .graphics) m) p))) (k .means)
+
+-- ---- the screen and the panel
+
+take-zeros : (n k : ℕ) → n ≤ k → take n (zeros k) ≡ zeros n
+unfolding zeros
+take-zeros zero k h = refl
+take-zeros (suc n) zero h = absurd (omega arith)
+take-zeros (suc n) (suc k) h = ap (λ (l : List ℕ). 0 ∷ l) (take-zeros n k (omega arith))
+
+window-zeros : (b n k : ℕ) → b + n ≤ k → window b n (zeros k) ≡ zeros n
+unfolding window zeros
+window-zeros zero n k h = take-zeros n k (omega arith)
+window-zeros (suc b) n zero h = absurd (omega arith)
+window-zeros (suc b) n (suc k) h = window-zeros b n k (omega arith)
+
+no-key : (a : ℕ) → a < 256 → isKey noKeys a ≡ false
+unfolding isKey bitAt
+no-key a h = not-true (isKey noKeys a) (every-at 256 (λ b. not (isKey noKeys b)) refl a h)
+
+no-keys : (m : List ℕ) (n : ℕ) → n ≤ 256 → withKeys noKeys n m ≡ m
+unfolding withKeys
+no-keys m zero h = refl
+no-keys m (suc n) h = rw (no-key n (omega arith)) (no-keys m n (omega arith))
+
+cleared-screen : screenOf base 4096 (clearMemory noKeys) ≡ zeros 1600
+unfolding clearMemory
+cleared-screen =
+    ap (window 4096 1600) (no-keys (set (zeros 65536) 65535 64) 256 (omega arith))
+    ∙ window-set-out 4096 1600 (zeros 65536) 65535 64 (inr (omega arith))
+    ∙ window-zeros 4096 1600 65536 (omega arith)
+
+cleared-length : length (clearMemory noKeys) ≡ 65536
+unfolding clearMemory
+cleared-length = length-withKeys noKeys 256 (set (zeros 65536) 65535 64) ∙ length-set (zeros 65536) 65535 64 ∙ length-zeros 65536
+
+blank-bit : bit 20 (zeros 1600) 3 0 ≡ false
+unfolding bit bitAt zeros
+blank-bit = ap (λ (b : ℕ). bitAt b 4) (getD-replicate 1600 0 0 0 (omega arith))
+
+-- of a screen z: its point, and its first line copied to the panel
+module _ (z : List ℕ) (hz : length z ≡ 1600) where
+  dotted-other : (x y : ℕ) → x < 160 → (x ≢ 3) ⊎ (y ≢ 0) → bit 20 (dotted z) x y ≡ bit 20 z x y
+  unfolding dotted
+  dotted-other x y hx n = put-other 20 z 3 0 true x y (omega arith) hx n
+
+  -- where the line is copied, it is the screen's; elsewhere the panel stays
+  copied-line : (s : List ℕ) (x : ℕ) → x < 160 → bit 20 (copyRun 20 s 0 0 160 z) x 0 ≡ bit 20 s x 0
+  copied-line s x hx = copyRun-same 20 s 0 0 160 z x (omega arith) (λ k h. omega arith) (omega arith) (omega arith)
+
+  copied-other : (s : List ℕ) (x y : ℕ) → x < 160 → y ≢ 0 → bit 20 (copyRun 20 s 0 0 160 z) x y ≡ bit 20 z x y
+  copied-other s x y hx n = copyRun-other 20 s 0 0 160 z x y (omega arith) hx (inl n)
+
+  -- drawn, then sent: no pixel differs
+  none-left : differing base (dotted z) (copyRun 20 (dotted z) 0 0 160 z) ≡ 0
+  none-left =
+      none-differ base (dotted z) (copyRun 20 (dotted z) 0 0 160 z)
+      (λ x y hx hy d. d (by-eq y 0 (λ e. rw e (sym (copied-line (dotted z) x hx))) (λ n. dotted-other x y hx (inr n) ∙ sym (copied-other (dotted z) x y hx n))))
+
+  copied : (x y : ℕ) → x < 160 → bit 20 (copyRun 20 z 0 0 160 z) x y ≡ bit 20 z x y
+  copied x y hx = by-eq y 0 (λ e. rw e (copied-line z x hx)) (λ n. copied-other z x y hx n)
+
+  -- sent, then drawn: the point differs
+  point-left : bit 20 z 3 0 ≡ false → differing base (dotted z) (copyRun 20 z 0 0 160 z) ≡ 1
+  unfolding dotted
+  point-left f =
+      one-differs base (dotted z) (copyRun 20 z 0 0 160 z) 3 0 (omega arith) (omega arith)
+      (λ e. clash (bit 20 z 3 0) (sym (copied 3 0 (omega arith)) ∙ sym e ∙ put-same 20 z 3 0 true (omega arith)) f)
+      (λ x y hx hy n. dotted-other x y hx n ∙ sym (copied x y hx))
+
+-- ---- what is printed
+
+two-lines : (c d : Call) (l m n : Lent) (ms ns : List ℕ) → outcome base c l ≡ answered 0 ms m → outcome base d m ≡ answered 0 ns n
+    → run (call c ∷ call d ∷ []) l ≡ said 0 ms ++ (said 0 ns ++ ending n)
+unfolding run runFrom answer leaves answered
+two-lines c d l m n ms ns e f =
+    ap (λ (o : Outcome). said (o .code) (o .numbers) ++ (said (outcome base d (o .left) .code) (outcome base d (o .left) .numbers) ++ ending (outcome base d (o .left) .left))) e
+    ∙ ap (λ (o : Outcome). said 0 ms ++ (said (o .code) (o .numbers) ++ ending (o .left))) f
+
+-- the end line of a screen z that stands at 4,096
+ended : (s : State) (m p z : List ℕ) (d n : ℕ) → screenOf base 4096 m ≡ z → differing base z p ≡ d → linesLeft (decode base (encode s) .pending) ≡ n
+    → ending (lent (encode s) m p) ≡ printed endWord (d ∷ n ∷ [])
+unfolding ending
+ended s m p z d n e f g = λ i. printed endWord ((ap (λ (t : List ℕ). differing base t p) e ∙ f) i ∷ g i ∷ [])
+
+module _ (m : List ℕ) (hm : length m ≡ 65536) (e : screenOf base 4096 m ≡ zeros 1600) where
+  dotted-long : length (dotted (screenOf base 4096 m)) ≡ 1600
+  unfolding dotted
+  dotted-long = length-put 20 (screenOf base 4096 m) 3 0 true ∙ ap length e ∙ length-zeros 1600
+
+  dotted-screen : screenOf base 4096 (withScreen 4096 (dotted (screenOf base 4096 m)) m) ≡ dotted (zeros 1600)
+  dotted-screen = window-same 4096 1600 (dotted (screenOf base 4096 m)) m dotted-long (omega arith) ∙ ap dotted e
+
+  dotted-memory : length (withScreen 4096 (dotted (screenOf base 4096 m)) m) ≡ 65536
+  dotted-memory = length-withWindow 4096 (dotted (screenOf base 4096 m)) m (rw dotted-long (omega arith)) ∙ hm
+
+  -- the point, then the send
+  point-first : run (call (drawPoint 3 0 1) ∷ call send ∷ []) (lent (encode openedState) m (zeros 1600))
+      ≡ said 0 [] ++ (said 0 (1 ∷ 0 ∷ 0 ∷ 160 ∷ []) ++ printed endWord (0 ∷ 79 ∷ []))
+  unfolding pointed marked updateDirty openedState openState openPending nothingPending owing joinOwed join isEmpty cut sentOf sendPending lineSent takeOwed firstOwed restOwed nextLine sendNumbers lineNumbers sendPanel copyLine encode decode linesLeft owedLines
+  point-first =
+      let s = pointed openedState in
+      let m′ = withScreen 4096 (dotted (screenOf base 4096 m)) m in
+      let p = copyRun 20 (screenOf base 4096 m′) 0 0 160 (zeros 1600) in
+      two-lines (drawPoint 3 0 1) send (lent (encode openedState) m (zeros 1600)) (lent (encode s) m′ (zeros 1600)) (lent (encode (sentOf s)) m′ p) [] (1 ∷ 0 ∷ 0 ∷ 160 ∷ [])
+      (point-done openedState encoded-opened m (zeros 1600) hm)
+      (send-done s encoded-pointed m′ (zeros 1600) dotted-memory (length-zeros 1600))
+      ∙ ap (λ (t : List ℕ). said 0 [] ++ (said 0 (1 ∷ 0 ∷ 0 ∷ 160 ∷ []) ++ t))
+      (ended (sentOf s) m′ p (dotted (zeros 1600)) 0 79 dotted-screen
+      (ap (λ (t : List ℕ). differing base (dotted (zeros 1600)) (copyRun 20 t 0 0 160 (zeros 1600))) dotted-screen ∙ none-left (zeros 1600) (length-zeros 1600)) refl)
+
+  -- the send, then the point
+  send-first : run (call send ∷ call (drawPoint 3 0 1) ∷ []) (lent (encode openedState) m (zeros 1600))
+      ≡ said 0 (1 ∷ 0 ∷ 0 ∷ 160 ∷ []) ++ (said 0 [] ++ printed endWord (1 ∷ 80 ∷ []))
+  unfolding pointed marked updateDirty openedState openState openPending nothingPending owing joinOwed join isEmpty cut sentOf sendPending lineSent takeOwed firstOwed restOwed nextLine sendNumbers lineNumbers sendPanel copyLine encode decode linesLeft owedLines
+  send-first =
+      let s = sentOf openedState in
+      let m′ = withScreen 4096 (dotted (screenOf base 4096 m)) m in
+      let p = copyRun 20 (screenOf base 4096 m) 0 0 160 (zeros 1600) in
+      two-lines send (drawPoint 3 0 1) (lent (encode openedState) m (zeros 1600)) (lent (encode s) m p) (lent (encode (pointed s)) m′ p) (1 ∷ 0 ∷ 0 ∷ 160 ∷ []) []
+      (send-done openedState encoded-opened m (zeros 1600) hm (length-zeros 1600))
+      (point-done s encoded-sent m p hm)
+      ∙ ap (λ (t : List ℕ). said 0 (1 ∷ 0 ∷ 0 ∷ 160 ∷ []) ++ (said 0 [] ++ t))
+      (ended (pointed s) m′ p (dotted (zeros 1600)) 1 80 dotted-screen
+      (ap (λ (t : List ℕ). differing base (dotted (zeros 1600)) (copyRun 20 t 0 0 160 (zeros 1600))) e ∙ point-left (zeros 1600) (length-zeros 1600) blank-bit) refl)
+
+-- ---- the scripts
+
+pub point-send : text (bytesOf "(point (3 0) or)\n(send)\n") ≡ bytesOf "(done)\n(sent 0 0 160)\n(end 0 79)\n"
+unfolding text bytesOf printed spaced spelled said opened openedState
+point-send = ap (λ (xs : List Line). run xs opened) point-then-send ∙ point-first (clearMemory noKeys) cleared-length cleared-screen
+
+pub send-point : text (bytesOf "(send)\n(point (3 0) or)\n") ≡ bytesOf "(sent 0 0 160)\n(done)\n(end 1 80)\n"
+unfolding text bytesOf printed spaced spelled said opened openedState
+send-point = ap (λ (xs : List Line). run xs opened) send-then-point ∙ send-first (clearMemory noKeys) cleared-length cleared-screen
