@@ -20,6 +20,8 @@ pub const CHECK_POINT: u8 = 7;
 
 pub const PAINT_BITMAP: u8 = 8;
 
+pub const FLUSH: u8 = 12;
+
 pub const GET_ROW: u8 = 13;
 
 pub const GET_COLUMN: u8 = 14;

@@ -3,6 +3,7 @@
 mod answer;
 mod call;
 mod checksum;
+mod fonts;
 mod print;
 mod run;
 

@@ -2,9 +2,11 @@
 use crate::answer;
 use crate::answer::Answer;
 use crate::call;
+use crate::fonts;
 use caption::bitmaps;
 use caption::dirty;
 use caption::ellipses;
+use caption::flushes;
 use caption::lines;
 use caption::open;
 use caption::place;
@@ -78,6 +80,21 @@ fn run_paint_bitmap(rec: &mut [u8], memory: &mut [u8], stored: &[u8; 16]) -> u32
     )
 }
 
+// Lent the whole stand-in fonts and no extra list.
+fn run_flush(rec: &mut [u8], memory: &mut [u8]) -> u32 {
+    let mut ascii8 = [0u8; 1024];
+    let mut ascii16 = [0u8; 2048];
+    let mut gb = [0u8; 243648];
+    let mut emoji = [0u8; 16864];
+    let mut extra = [0u8; 1024];
+    fonts::make(&mut ascii8, 1);
+    fonts::make(&mut ascii16, 2);
+    fonts::make(&mut gb, 3);
+    fonts::make(&mut emoji, 4);
+    fonts::make(&mut extra, 5);
+    flushes::caption_flush(rec, memory, &ascii8, &ascii16, &gb, &emoji, b"", &extra)
+}
+
 fn run_set(rec: &mut [u8], stored: &[u8; 16]) -> u32 {
     let number = stored[1];
     match stored[0] {
@@ -99,6 +116,7 @@ pub fn run(rec: &mut [u8], memory: &mut [u8], stored: &[u8; 16]) -> Answer {
         call::DRAW_POINT..=call::DRAW_ELLIPSE => answer::of_code(run_draw(rec, memory, stored)),
         call::CHECK_POINT => answer::of_value(run_check_point(rec, memory, stored)),
         call::PAINT_BITMAP => answer::of_code(run_paint_bitmap(rec, memory, stored)),
+        call::FLUSH => answer::of_code(run_flush(rec, memory)),
         call::GET_ROW => answer::of_value(place::caption_get_row(rec)),
         call::GET_COLUMN => answer::of_value(place::caption_get_column(rec)),
         call::SET_ROW..=call::SET_PRINT_MODE => answer::of_code(run_set(rec, stored)),
