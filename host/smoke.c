@@ -33,6 +33,8 @@ static void refused(const char *what, uint32_t code, uint32_t n) {
 #define OPEN(r, m, g, t, v) caption_open(r, m, g, t, v, 0, 0, 0, 0, 0, 0, 0, 0)
 #define LESS_RECORD rec, sizeof rec - 1
 #define LESS_MEMORY memory, sizeof memory - 1
+#define NOTHING (const uint8_t *)"", 0
+#define NO_FONTS NOTHING, NOTHING, NOTHING, NOTHING
 
 static void refusals(void) {
     keep();
@@ -61,6 +63,8 @@ static void refusals(void) {
     refused("bitmap 4", caption_paint_bitmap(R, M, 65535, 0, 0, 9, 1, 5), 4);
     refused("bitmap 4", caption_paint_bitmap(R, M, 65535, 0, 0, 0, 0, 5), 4);
     refused("bitmap 5", caption_paint_bitmap(R, M, 65535, 0, 0, 9, 1, 4), 5);
+    refused("flush 1", caption_flush(R, LESS_MEMORY, NO_FONTS, NOTHING, NOTHING), 1);
+    refused("flush 1", caption_flush(R, M, NO_FONTS, rec, 7, NOTHING), 1);
     refused("poke 1", caption_write_byte(LESS_RECORD, M, 4096, 1), 1);
     refused("get row 1", caption_get_row(LESS_RECORD).code, 1);
     refused("get column 1", caption_get_column(LESS_RECORD).code, 1);
@@ -85,6 +89,7 @@ static void broken_record(void) {
     refused("ellipse 2", caption_draw_ellipse(R, M, 0, 0, 200, 1, 9, 9), 2);
     refused("check 2", caption_check_point(R, M, 0, 0).code, 2);
     refused("bitmap 2", caption_paint_bitmap(R, M, 65535, 0, 0, 9, 1, 9), 2);
+    refused("flush 2", caption_flush(R, M, NO_FONTS, NOTHING, NOTHING), 2);
     refused("poke 2", caption_write_byte(R, M, 4096, 1), 2);
     refused("get row 2", caption_get_row(R).code, 2);
     refused("get column 2", caption_get_column(R).code, 2);
@@ -110,6 +115,20 @@ static void bitmap(void) {
     expect("source at the end", caption_paint_bitmap(R, M, 65534, 300, 0, 9, 1, 0) == 0);
 }
 
+/* "a" in the first cell: refused without its bytes, painted with them; an empty text needs no font. In Text mode the rest is cleared. */
+static void flush(void) {
+    static uint8_t font[98 * 16];
+    font[97 * 16] = 0x5a;
+    expect("a poked text", caption_write_byte(R, M, 8192, 97) == 0);
+    keep();
+    refused("flush 7", caption_flush(R, M, NOTHING, font, sizeof font - 1, NOTHING, NOTHING, NOTHING, NOTHING), 7);
+    expect("flush", caption_flush(R, M, NOTHING, font, sizeof font, NOTHING, NOTHING, NOTHING, NOTHING) == 0);
+    expect("its glyph", memory[4096] == 0x5a && memory[4097] == 0 && memory[4116] == 0);
+    caption_area dirty = caption_take_dirty_area(R);
+    expect("its dirty", dirty.left == 0 && dirty.top == 0 && dirty.right == 160 && dirty.bottom == 80);
+    expect("no text", caption_write_byte(R, M, 8192, 0) == 0 && caption_flush(R, M, NO_FONTS, NOTHING, NOTHING) == 0 && memory[4096] == 0);
+}
+
 int main(void) {
     memset(rec, 0xa5, sizeof rec);
     memset(memory, 0xa5, sizeof memory);
@@ -124,11 +143,12 @@ int main(void) {
     refusals();
     broken_record();
     bitmap();
+    flush();
     int more = 0;
     while ((s = caption_send(R, M, P)).sent)
         more++;
     printf("%d more lines, then idle\n", more);
-    expect("79 more, and the painted line", more == 80 && s.code == 0);
+    expect("79 more, and the flushed screen", more == 79 + 80 && s.code == 0);
     expect("level", !memcmp(panel, memory + 4096, sizeof panel));
     printf(failures ? "%d failures\n" : "ok\n", failures);
     return failures != 0;

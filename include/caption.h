@@ -56,6 +56,13 @@ caption_value caption_check_point(const uint8_t *record, size_t record_len, cons
 uint32_t caption_paint_bitmap(uint8_t *record, size_t record_len, uint8_t *memory, size_t memory_len, uint16_t address, int32_t x, int32_t y,
                               uint8_t width, uint8_t height, uint8_t mode);
 
+/* The text's glyphs onto the screen, which is cleared first in Text mode; the whole screen is marked. Fonts: ascii8 has 8 bytes a character, ascii16 16 bytes,
+   gb and emoji 32 bytes an index. The extra list has entries of 6 bytes, least byte first: a code (2, lead * 256 + trail), the offset (4) of 32 bytes in the
+   extra font; the first match counts. 7 GLYPH where a byte would lie past the end of its font */
+uint32_t caption_flush(uint8_t *record, size_t record_len, uint8_t *memory, size_t memory_len, const uint8_t *ascii8, size_t ascii8_len,
+                       const uint8_t *ascii16, size_t ascii16_len, const uint8_t *gb, size_t gb_len, const uint8_t *emoji, size_t emoji_len,
+                       const uint8_t *extra_list, size_t extra_list_len, const uint8_t *extra_font, size_t extra_font_len);
+
 caption_value caption_get_row(const uint8_t *record, size_t record_len);
 caption_value caption_get_column(const uint8_t *record, size_t record_len);
 uint32_t caption_set_row(uint8_t *record, size_t record_len, uint8_t row);
