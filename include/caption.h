@@ -51,12 +51,22 @@ uint32_t caption_draw_ellipse(uint8_t *record, size_t record_len, uint8_t *memor
                               uint8_t ry, uint8_t fill, uint8_t mode);
 caption_value caption_check_point(const uint8_t *record, size_t record_len, const uint8_t *memory, size_t memory_len, int32_t x, int32_t y);
 
+/* the bytes of text are printed from row and column on; text is no part of memory */
+uint32_t caption_print(uint8_t *record, size_t record_len, uint8_t *memory, size_t memory_len, const uint8_t *text, size_t text_len);
+uint32_t caption_newline(uint8_t *record, size_t record_len, uint8_t *memory, size_t memory_len);
+uint32_t caption_cls(uint8_t *record, size_t record_len, uint8_t *memory, size_t memory_len);
+
 caption_value caption_get_row(const uint8_t *record, size_t record_len);
 caption_value caption_get_column(const uint8_t *record, size_t record_len);
 uint32_t caption_set_row(uint8_t *record, size_t record_len, uint8_t row);
 uint32_t caption_set_column(uint8_t *record, size_t record_len, uint8_t column);
+/* 0 Text, 1 Graph; clears */
+uint32_t caption_set_screen_mode(uint8_t *record, size_t record_len, uint8_t *memory, size_t memory_len, uint8_t mode);
 /* 0 Normal, 1 Inverse, 2 Flash */
 uint32_t caption_set_print_mode(uint8_t *record, size_t record_len, uint8_t mode);
+
+uint32_t caption_blink_cursor(uint8_t *record, size_t record_len, uint8_t *memory, size_t memory_len);
+uint32_t caption_clear_cursor(uint8_t *record, size_t record_len, uint8_t *memory, size_t memory_len);
 
 uint32_t caption_write_byte(uint8_t *record, size_t record_len, uint8_t *memory, size_t memory_len, uint16_t address, uint8_t byte);
 caption_area caption_take_dirty_area(uint8_t *record, size_t record_len);
