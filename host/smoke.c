@@ -63,6 +63,9 @@ static void refusals(void) {
     refused("bitmap 4", caption_paint_bitmap(R, M, 65535, 0, 0, 9, 1, 5), 4);
     refused("bitmap 4", caption_paint_bitmap(R, M, 65535, 0, 0, 0, 0, 5), 4);
     refused("bitmap 5", caption_paint_bitmap(R, M, 65535, 0, 0, 9, 1, 4), 5);
+    refused("print 1", caption_print(R, LESS_MEMORY, (const uint8_t *)"a", 1), 1);
+    refused("newline 1", caption_newline(LESS_RECORD, M), 1);
+    refused("cls 1", caption_cls(R, LESS_MEMORY), 1);
     refused("flush 1", caption_flush(R, LESS_MEMORY, NO_FONTS, NOTHING, NOTHING), 1);
     refused("flush 1", caption_flush(R, M, NO_FONTS, rec, 7, NOTHING), 1);
     refused("poke 1", caption_write_byte(LESS_RECORD, M, 4096, 1), 1);
@@ -72,8 +75,12 @@ static void refusals(void) {
     refused("set row 4", caption_set_row(R, 5), 4);
     refused("set column 1", caption_set_column(LESS_RECORD, 99), 1);
     refused("set column 4", caption_set_column(R, 20), 4);
+    refused("screen mode 1", caption_set_screen_mode(LESS_RECORD, M, 9), 1);
+    refused("screen mode 4", caption_set_screen_mode(R, M, 2), 4);
     refused("print mode 1", caption_set_print_mode(LESS_RECORD, 9), 1);
     refused("print mode 4", caption_set_print_mode(R, 3), 4);
+    refused("blink 1", caption_blink_cursor(R, LESS_MEMORY), 1);
+    refused("clear cursor 1", caption_clear_cursor(LESS_RECORD, M), 1);
     refused("dirty 1", caption_take_dirty_area(LESS_RECORD).code, 1);
     refused("send 1", caption_send(R, M, panel, sizeof panel - 1).code, 1);
 }
@@ -89,13 +96,19 @@ static void broken_record(void) {
     refused("ellipse 2", caption_draw_ellipse(R, M, 0, 0, 200, 1, 9, 9), 2);
     refused("check 2", caption_check_point(R, M, 0, 0).code, 2);
     refused("bitmap 2", caption_paint_bitmap(R, M, 65535, 0, 0, 9, 1, 9), 2);
+    refused("print 2", caption_print(R, M, (const uint8_t *)"a", 1), 2);
+    refused("newline 2", caption_newline(R, M), 2);
+    refused("cls 2", caption_cls(R, M), 2);
     refused("flush 2", caption_flush(R, M, NO_FONTS, NOTHING, NOTHING), 2);
     refused("poke 2", caption_write_byte(R, M, 4096, 1), 2);
     refused("get row 2", caption_get_row(R).code, 2);
     refused("get column 2", caption_get_column(R).code, 2);
     refused("set row 2", caption_set_row(R, 9), 2);
     refused("set column 2", caption_set_column(R, 99), 2);
+    refused("screen mode 2", caption_set_screen_mode(R, M, 9), 2);
     refused("print mode 2", caption_set_print_mode(R, 9), 2);
+    refused("blink 2", caption_blink_cursor(R, M), 2);
+    refused("clear cursor 2", caption_clear_cursor(R, M), 2);
     refused("dirty 2", caption_take_dirty_area(R).code, 2);
     refused("send 2", caption_send(R, M, P).code, 2);
     rec[4] = 0;
@@ -150,6 +163,12 @@ int main(void) {
     printf("%d more lines, then idle\n", more);
     expect("79 more, and the flushed screen", more == 79 + 80 && s.code == 0);
     expect("level", !memcmp(panel, memory + 4096, sizeof panel));
+    expect("print", caption_print(R, M, (const uint8_t *)"caption", 7) == 0 && !memcmp(memory + 8192, "caption", 7) && caption_get_column(R).value == 7);
+    expect("blink", caption_blink_cursor(R, M) == 0 && memory[4096 + 7] == 0xff && rec[8] == 1);
+    expect("clear cursor", caption_clear_cursor(R, M) == 0 && memory[4096 + 7] == 0 && rec[8] == 0);
+    expect("newline", caption_newline(R, M) == 0 && caption_get_row(R).value == 1 && caption_get_column(R).value == 0);
+    expect("screen mode", caption_set_screen_mode(R, M, 1) == 0 && memory[8192] == 0 && rec[6] == 1);
+    expect("cls", caption_cls(R, M) == 0 && rec[6] == 1);
     printf(failures ? "%d failures\n" : "ok\n", failures);
     return failures != 0;
 }

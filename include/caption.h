@@ -55,6 +55,10 @@ caption_value caption_check_point(const uint8_t *record, size_t record_len, cons
    the highest bit; it may share bytes with the screen, and counts as it was before the call. modes: 0 Copy, 1 Or, 2 Not, 3 And, 4 Xor */
 uint32_t caption_paint_bitmap(uint8_t *record, size_t record_len, uint8_t *memory, size_t memory_len, uint16_t address, int32_t x, int32_t y,
                               uint8_t width, uint8_t height, uint8_t mode);
+/* the bytes of text are printed from row and column on; text is no part of memory */
+uint32_t caption_print(uint8_t *record, size_t record_len, uint8_t *memory, size_t memory_len, const uint8_t *text, size_t text_len);
+uint32_t caption_newline(uint8_t *record, size_t record_len, uint8_t *memory, size_t memory_len);
+uint32_t caption_cls(uint8_t *record, size_t record_len, uint8_t *memory, size_t memory_len);
 
 /* The text's glyphs onto the screen, which is cleared first in Text mode; the whole screen is marked. Fonts: ascii8 has 8 bytes a character, ascii16 16 bytes,
    gb and emoji 32 bytes an index. The extra list has entries of 6 bytes, least byte first: a code (2, lead * 256 + trail), the offset (4) of 32 bytes in the
@@ -67,8 +71,13 @@ caption_value caption_get_row(const uint8_t *record, size_t record_len);
 caption_value caption_get_column(const uint8_t *record, size_t record_len);
 uint32_t caption_set_row(uint8_t *record, size_t record_len, uint8_t row);
 uint32_t caption_set_column(uint8_t *record, size_t record_len, uint8_t column);
+/* 0 Text, 1 Graph; clears */
+uint32_t caption_set_screen_mode(uint8_t *record, size_t record_len, uint8_t *memory, size_t memory_len, uint8_t mode);
 /* 0 Normal, 1 Inverse, 2 Flash */
 uint32_t caption_set_print_mode(uint8_t *record, size_t record_len, uint8_t mode);
+
+uint32_t caption_blink_cursor(uint8_t *record, size_t record_len, uint8_t *memory, size_t memory_len);
+uint32_t caption_clear_cursor(uint8_t *record, size_t record_len, uint8_t *memory, size_t memory_len);
 
 uint32_t caption_write_byte(uint8_t *record, size_t record_len, uint8_t *memory, size_t memory_len, uint16_t address, uint8_t byte);
 caption_area caption_take_dirty_area(uint8_t *record, size_t record_len);

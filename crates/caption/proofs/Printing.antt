@@ -4,14 +4,12 @@ use mathlib.Core.Bool.{Bool, true, not}
 use mathlib.Core.List.{List, [], map}
 use Prim.Native.Nat.{ℕ, _+_, _-_, _^_, _<_, _≤_}
 use native.Mathlib.Omega.{arith}
-use borrow.Author.Tests.{eq-eqb, ne-eqb}
 use borrow.Rule.Slice.PartMut.{putMid}
 use lib.Dec.{eqb}
 use lib.ListN.{length, getD, take, drop, length-take, length-drop, length-map}
 use lib.Seq.{take-all}
 use mir.Syntax.{w8}
 use mir.Val.{Fits}
-use Rattle.model.specs.declared.Rect.{Rect}
 use Rattle.model.specs.declared.Head.{Head}
 use Rattle.model.specs.declared.Marks.{Marks}
 use Rattle.model.specs.Geometry.{base}
@@ -19,7 +17,7 @@ use Rattle.model.specs.Rects.{none}
 use Rattle.model.specs.Memory.{zeros, window, withWindow}
 use Rattle.model.specs.Record.{headOf, pendingOf, pendingAt, flagOf, flagByte, flagsFit, flagsAt, stateFits, valid, decode, encode, withHead}
 use Rattle.model.specs.Refusals.{refusal}
-use Rattle.model.specs.Marks.{whole, marked}
+use Rattle.model.specs.Marks.{marked}
 use Rattle.model.specs.Text.{atPlace}
 use Rattle.model.specs.Print.{Page, scrolledTimes, newlineOn, isInverse, printOn, pageOf, screenScrolls, scrollMark, turnedState, scrolledMemory, turnedMemory}
 use Rattle.model.specs.Calls.{Outcome, print, newline, lent, answered, refusals, refused, numbers, turned, done, outcome}
@@ -38,22 +36,6 @@ use Rattle.caption.specs.Placed.{Placed, placeOf, Turned}
 use Rattle.caption.proofs.Calls.{stops, ends}
 
 -- ---- the screen and the record
-
-pub in-graph : (mode n : ℕ) → mode ≡ 1 → n ≡ screenScrolls mode n
-unfolding screenScrolls
-in-graph mode n e = rw (eq-eqb mode 1 e)
-
-pub in-text : (mode n : ℕ) → (mode ≡ 1 → ⊥) → 0 ≡ screenScrolls mode n
-unfolding screenScrolls
-in-text mode n e = rw (ne-eqb mode 1 e)
-
-pub no-mark : (n : ℕ) {q : Rect} → n ≡ 0 → q ≡ none → q ≡ scrollMark base n
-unfolding scrollMark
-no-mark n e f = f ∙ rw (eq-eqb n 0 e)
-
-pub whole-mark : (n : ℕ) {q : Rect} → (n ≡ 0 → ⊥) → q ≡ whole 20 80 → q ≡ scrollMark base n
-unfolding scrollMark
-whole-mark n e f = f ∙ rw (ne-eqb n 0 e)
 
 pub page-follows : (r m : List ℕ) (h : Head) (p : Place) {n : ℕ} {a : Head} {k : Marks} {s t : List ℕ} → length m ≡ 65536 → h .graphics ≤ 63935
     → n ≡ screenScrolls (h .screen) (p .scrolls) → s ≡ scrolledTimes n 320 (take (h .graphics + 1600 - h .graphics) (drop (h .graphics) m))

@@ -1,7 +1,5 @@
 // `caption_print` and `caption_newline`.
-use marks::rect;
 use model::Head;
-use model::Marks;
 use model::glass::MEMORY_BYTES;
 use model::glass::ROW_BYTES;
 use model::glass::SCREEN_BYTES;
@@ -20,9 +18,7 @@ ghost use mathlib.Core.List.{[]};
 ghost use Prim.Native.Nat.{_<_};
 ghost use lib.ListN.{length};
 ghost use Rattle.model.specs.Geometry.{base};
-ghost use Rattle.model.specs.Rects.{none};
 ghost use Rattle.model.specs.Text.{atPlace};
-ghost use Rattle.model.specs.Print.{screenScrolls, scrollMark};
 ghost use Rattle.model.specs.Calls.{print, newline, lent, answered, done, outcome};
 ghost use Rattle.record.specs.Entry.{Known};
 ghost use Rattle.caption.specs.Placed.{Placed, placeOf, Turned};
@@ -47,29 +43,6 @@ fn at_place(h: Head, p: Place) -> Head
     n
 }
 
-// In Graph the screen scrolls with the text.
-fn screen_scrolls(mode: u8, n: usize) -> usize
-    ensures { λ r. ⌜ r ≡ screenScrolls mode n ⌝ }
-{
-    if mode == 1 { n } else { 0 }
-}
-
-// Each scroll in Graph owes the whole screen, and marks nothing.
-fn scroll_marks(n: usize) -> Marks
-    ensures { λ r. ⌜ (r .dirty ≡ none) × (r .owed ≡ scrollMark base n) ⌝ }
-{
-    if n == 0 {
-        return Marks {
-            dirty: rect::empty(),
-            owed: rect::empty(),
-        };
-    }
-    Marks {
-        dirty: rect::empty(),
-        owed: update::whole_screen(),
-    }
-}
-
 // The text and its flags have been written up to p: the screen and the record follow.
 fn turn_page(rec: &mut [u8], memory: &mut [u8], h: Head, p: Place)
     requires { ⌜ Known (now rec) h ⌝ }
@@ -77,11 +50,11 @@ fn turn_page(rec: &mut [u8], memory: &mut [u8], h: Head, p: Place)
     requires { ⌜ (p .row < 5) × (p .column < 20) ⌝ }
     ensures { λ _. ⌜ Turned (now (rec .entry)) (now (memory .entry)) h p (now (rec .exit)) (now (memory .exit)) ⌝ }
 {
-    let n = screen_scrolls(h.screen, p.scrolls);
+    let n = scroll::screen_scrolls(h.screen, p.scrolls);
     let from = h.graphics as usize;
     let to = from + SCREEN_BYTES;
     scroll::scroll_screen(TEXT_ROWS, ROW_BYTES, &mut memory[from..to], n);
-    update::mark_head(rec, h, at_place(h, p), scroll_marks(n));
+    update::mark_head(rec, h, at_place(h, p), scroll::scroll_marks(n));
 }
 
 fn newline_done(rec: &mut [u8], memory: &mut [u8], h: Head) -> u32

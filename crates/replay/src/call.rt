@@ -20,6 +20,12 @@ pub const CHECK_POINT: u8 = 7;
 
 pub const PAINT_BITMAP: u8 = 8;
 
+pub const PRINT: u8 = 9;
+
+pub const NEWLINE: u8 = 10;
+
+pub const CLS: u8 = 11;
+
 pub const FLUSH: u8 = 12;
 
 pub const GET_ROW: u8 = 13;
@@ -30,7 +36,13 @@ pub const SET_ROW: u8 = 15;
 
 pub const SET_COLUMN: u8 = 16;
 
+pub const SET_SCREEN_MODE: u8 = 17;
+
 pub const SET_PRINT_MODE: u8 = 18;
+
+pub const BLINK_CURSOR: u8 = 19;
+
+pub const CLEAR_CURSOR: u8 = 20;
 
 pub const WRITE_BYTE: u8 = 21;
 

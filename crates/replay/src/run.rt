@@ -4,6 +4,8 @@ use crate::answer::Answer;
 use crate::call;
 use crate::fonts;
 use caption::bitmaps;
+use caption::clear;
+use caption::cursor;
 use caption::dirty;
 use caption::ellipses;
 use caption::flushes;
@@ -12,6 +14,7 @@ use caption::open;
 use caption::place;
 use caption::points;
 use caption::poke;
+use caption::print;
 use model::Value;
 
 // No refusal has this number: the list holds a call that is not replayed here.
@@ -95,6 +98,50 @@ fn run_flush(rec: &mut [u8], memory: &mut [u8]) -> u32 {
     flushes::caption_flush(rec, memory, &ascii8, &ascii16, &gb, &emoji, b"", &extra)
 }
 
+fn wide(byte: u8) -> usize {
+    byte as usize
+}
+
+fn print_first(rec: &mut [u8], memory: &mut [u8], bytes: &[u8], size: usize) -> u32 {
+    if size > bytes.len() {
+        return UNKNOWN;
+    }
+    print::caption_print(rec, memory, &bytes[..size])
+}
+
+// The text's length, then its bytes.
+fn run_print(rec: &mut [u8], memory: &mut [u8], stored: &[u8; 16]) -> u32 {
+    let bytes = [
+        stored[2],
+        stored[3],
+        stored[4],
+        stored[5],
+        stored[6],
+        stored[7],
+        stored[8],
+        stored[9],
+        stored[10],
+        stored[11],
+        stored[12],
+        stored[13],
+        stored[14],
+        stored[15],
+    ];
+    print_first(rec, memory, &bytes, wide(stored[1]))
+}
+
+fn run_text(rec: &mut [u8], memory: &mut [u8], stored: &[u8; 16]) -> u32 {
+    match stored[0] {
+        call::PRINT => run_print(rec, memory, stored),
+        call::NEWLINE => print::caption_newline(rec, memory),
+        call::CLS => clear::caption_cls(rec, memory),
+        call::SET_SCREEN_MODE => clear::caption_set_screen_mode(rec, memory, stored[1]),
+        call::BLINK_CURSOR => cursor::caption_blink_cursor(rec, memory),
+        call::CLEAR_CURSOR => cursor::caption_clear_cursor(rec, memory),
+        _ => UNKNOWN,
+    }
+}
+
 fn run_set(rec: &mut [u8], stored: &[u8; 16]) -> u32 {
     let number = stored[1];
     match stored[0] {
@@ -116,10 +163,14 @@ pub fn run(rec: &mut [u8], memory: &mut [u8], stored: &[u8; 16]) -> Answer {
         call::DRAW_POINT..=call::DRAW_ELLIPSE => answer::of_code(run_draw(rec, memory, stored)),
         call::CHECK_POINT => answer::of_value(run_check_point(rec, memory, stored)),
         call::PAINT_BITMAP => answer::of_code(run_paint_bitmap(rec, memory, stored)),
+        call::PRINT..=call::CLS => answer::of_code(run_text(rec, memory, stored)),
         call::FLUSH => answer::of_code(run_flush(rec, memory)),
         call::GET_ROW => answer::of_value(place::caption_get_row(rec)),
         call::GET_COLUMN => answer::of_value(place::caption_get_column(rec)),
-        call::SET_ROW..=call::SET_PRINT_MODE => answer::of_code(run_set(rec, stored)),
+        call::SET_ROW..=call::SET_COLUMN => answer::of_code(run_set(rec, stored)),
+        call::SET_SCREEN_MODE => answer::of_code(run_text(rec, memory, stored)),
+        call::SET_PRINT_MODE => answer::of_code(run_set(rec, stored)),
+        call::BLINK_CURSOR..=call::CLEAR_CURSOR => answer::of_code(run_text(rec, memory, stored)),
         call::WRITE_BYTE => answer::of_code(run_write_byte(rec, memory, stored)),
         call::TAKE_DIRTY_AREA => answer::of_area(dirty::caption_take_dirty_area(rec)),
         _ => answer::of_code(UNKNOWN),

@@ -7,8 +7,12 @@ use native.Mathlib.Nat.{mul-le-mul-right}
 use native.Mathlib.Omega.{arith}
 use lib.Dec.{leb, ltb}
 use lib.ListN.{length, getD, set, drop, length-set, List·getD-eq-default}
-use borrow.Author.Tests.{leb-true, ltb-true, eq-eqb}
-use Rattle.model.specs.Print.{Page, printByte, printPair, printBytes, scrolled, scrolledTimes, clearUntil, clearFrom, clearAfter, printOn}
+use borrow.Author.Tests.{leb-true, ltb-true, eq-eqb, ne-eqb}
+use Rattle.model.specs.declared.Rect.{Rect}
+use Rattle.model.specs.Geometry.{base}
+use Rattle.model.specs.Rects.{none}
+use Rattle.model.specs.Marks.{whole}
+use Rattle.model.specs.Print.{screenScrolls, scrollMark, Page, printByte, printPair, printBytes, scrolled, scrolledTimes, clearUntil, clearFrom, clearAfter, printOn}
 use Rattle.laws.specs.Tests.{and-true}
 use Rattle.laws.specs.Scrolls.{times-most}
 use Rattle.laws.specs.Pages.{byte-sheet, pair-sheet, bytes-sheet}
@@ -84,6 +88,23 @@ gone-in n rows k s e f = rw (e, f) (mul-le-mul-right {m = min n rows} {n = rows}
 pub screen-scrolled : (n rows k : ℕ) (s : List ℕ) {g : ℕ} {d : List ℕ} → length s ≡ rows * k → 0 < rows → g ≡ min n rows → d ≡ scrolled (g * k) 0 s
     → d ≡ scrolledTimes n k s
 screen-scrolled n rows k s e h f q = q ∙ ap (λ (x : ℕ). scrolled (x * k) 0 s) f ∙ sym (times-most n rows k s e h)
+
+-- in Graph it scrolls with the text, and is owed whole
+pub in-graph : (mode n : ℕ) → mode ≡ 1 → n ≡ screenScrolls mode n
+unfolding screenScrolls
+in-graph mode n e = rw (eq-eqb mode 1 e)
+
+pub in-text : (mode n : ℕ) → (mode ≡ 1 → ⊥) → 0 ≡ screenScrolls mode n
+unfolding screenScrolls
+in-text mode n e = rw (ne-eqb mode 1 e)
+
+pub no-mark : (n : ℕ) {q : Rect} → n ≡ 0 → q ≡ none → q ≡ scrollMark base n
+unfolding scrollMark
+no-mark n e f = f ∙ rw (eq-eqb n 0 e)
+
+pub whole-mark : (n : ℕ) {q : Rect} → (n ≡ 0 → ⊥) → q ≡ whole 20 80 → q ≡ scrollMark base n
+unfolding scrollMark
+whole-mark n e f = f ∙ rw (ne-eqb n 0 e)
 
 -- ---- the whole text
 

@@ -1,3 +1,4 @@
+use native.Mathlib.Omega.{arith}
 use Rattle.text.proofs.Writing.{row-in-text, row-in-flags, newline-none, newline-scrolls, newline-next}
 use borrow.Author.Needs.{needs}
 use Rattle.text.proofs.page.newline.Statement.{statement}
@@ -13,7 +14,10 @@ scroll-requires : tie.Need-scroll-requires
 scroll-requires c κs = search row-in-text
 
 scroll-flags-requires : tie.Need-scroll-flags-requires
-scroll-flags-requires c κs = (search row-in-flags, search needs)
+scroll-flags-requires c κs =
+    let k = c .before .before .before .before .before .before .before .before .before in
+    let a = k .args in
+    (omega (arith, row-in-flags (a .rows) (a .columns) (a .text .now) (a .flags .now) (a .p) (k .pre .0)), search needs)
 
 add-t16 : tie.Need-add-t16
 add-t16 c = search needs

@@ -1,7 +1,7 @@
-use Rattle.caption.proofs.Printing.{no-mark, whole-mark}
+use Rattle.text.proofs.Turning.{no-mark, whole-mark}
 use borrow.Author.Needs.{needs}
-use Rattle.caption.proofs.print.scroll_marks.Statement.{statement}
-use Rattle.caption.proofs.print.scroll_marks.Tie as tie
+use Rattle.text.proofs.scroll.scroll_marks.Statement.{statement}
+use Rattle.text.proofs.scroll.scroll_marks.Tie as tie
 
 empty-requires : tie.Need-empty-requires
 empty-requires c κs = search needs

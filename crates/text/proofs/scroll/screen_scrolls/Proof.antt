@@ -1,6 +1,6 @@
-use Rattle.caption.proofs.Printing.{in-graph, in-text}
-use Rattle.caption.proofs.print.screen_scrolls.Statement.{statement}
-use Rattle.caption.proofs.print.screen_scrolls.Tie as tie
+use Rattle.text.proofs.Turning.{in-graph, in-text}
+use Rattle.text.proofs.scroll.screen_scrolls.Statement.{statement}
+use Rattle.text.proofs.scroll.screen_scrolls.Tie as tie
 
 returns : tie.Need-returns
 returns c = search in-graph
