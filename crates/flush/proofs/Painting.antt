@@ -1,6 +1,6 @@
 -- Painting in code: a column of bytes, a glyph by value, the font part that holds it, a byte in hexadecimal.
 use mathlib.Core.Path.{_≡_, sym, ap, _∙_}
-use mathlib.Core.Bool.{Bool, true, false}
+use mathlib.Core.Bool.{Bool, true, false, _||_}
 use mathlib.Core.List.{List, []}
 use Prim.Native.Nat.{ℕ, _+_, _-_, _*_, _/_, _%_, _≤_, _<_}
 use native.Mathlib.Omega.{arith}
@@ -9,6 +9,7 @@ use lib.ListN.{length, getD, set, take, drop, drop-of-length-le}
 use Rattle.model.specs.declared.Glyph.{Glyph}
 use Rattle.model.specs.declared.Glyph.the-variants.{Emoji, Gb, Extra, Hexadecimal}
 use Rattle.model.specs.Glyphs.{flipped, digit, paint, column, code}
+use Rattle.laws.specs.Tests.{neither}
 use Rattle.laws.specs.Glyphs.{paint-append, column-turn, column-end, paintLines, lines-turn}
 use Rattle.flush.specs.Page.{Room, partOf, PartFits}
 
@@ -36,6 +37,16 @@ module _ (st : ℕ) (font : List ℕ) (inverse : Bool) where
 
   pub column-done : (place i e : ℕ) (s : List ℕ) {t : List ℕ} → e ≤ i → paint (column st font place i inverse (e - i)) s ≡ t → s ≡ t
   column-done place i e s l h = sym (column-end st font inverse place i e s l) ∙ h
+
+-- a flag that was tested
+pub column-as : (st : ℕ) (font : List ℕ) (top from h : ℕ) (s : List ℕ) {a b : Bool} {v : List ℕ} → a ≡ b → v ≡ paint (column st font top from b h) s
+    → v ≡ paint (column st font top from a h) s
+column-as st font top from h s e k = k ∙ ap (λ (x : Bool). paint (column st font top from x h) s) (sym e)
+
+pub lines-as : (st left right : ℕ) (g : List (List ℕ)) (s : List ℕ) (a b : Bool) {v : List ℕ} → (a || b) ≡ false → v ≡ paintLines st left right false false g s
+    → v ≡ paintLines st left right a b g s
+lines-as st left right g s a b e k =
+    let n = neither a b e in k ∙ (λ i. paintLines st left right (sym (n .0) i) (sym (n .1) i) g s)
 
 pub room-start : (st : ℕ) (s : List ℕ) (place i h : ℕ) → Room st s place h → place + st * (i + h - i) < length s + st
 room-start st s place i h r = let q : i + h - i ≡ h = omega arith in omega (arith, r .inside, ap (λ (k : ℕ). st * k) q)

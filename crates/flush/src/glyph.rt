@@ -15,7 +15,7 @@ fn flip(b: u8, inverse: bool) -> u8
 }
 
 // One byte a line: the font's bytes from a place on, down the screen.
-pub fn paint_column(
+fn paint_column(
     stride: usize,
     screen: &mut [u8],
     top: usize,
@@ -36,6 +36,27 @@ pub fn paint_column(
         place += stride;
         i += 1;
     }
+}
+
+// The same with the flag tested once, so that each of the two loops is plain.
+pub fn paint_character(
+    stride: usize,
+    screen: &mut [u8],
+    top: usize,
+    font: &[u8],
+    from: usize,
+    height: usize,
+    inverse: bool,
+)
+    requires { ⌜ Room stride (now screen) top height ⌝ }
+    requires { ⌜ from + height ≤ length (now font) ⌝ }
+    ensures { λ _. ⌜ now (screen .exit) ≡ paint (column stride (now (font .entry)) top from inverse height) (now (screen .entry)) ⌝ }
+{
+    if inverse {
+        paint_column(stride, screen, top, font, from, height, true);
+        return;
+    }
+    paint_column(stride, screen, top, font, from, height, false);
 }
 
 // The part of whichever font holds the glyph; nothing for hexadecimal.
@@ -95,7 +116,7 @@ pub fn load_glyph(part: &[u8]) -> [[u8; 2]; 16]
 }
 
 // Line by line, each half inverted by itself, down from two places.
-pub fn paint_glyph(
+fn paint_glyph(
     stride: usize,
     screen: &mut [u8],
     left: usize,
@@ -120,6 +141,28 @@ pub fn paint_glyph(
         r += stride;
         i += 1;
     }
+}
+
+// The same with the flags tested once where neither half is inverted.
+pub fn paint_halves(
+    stride: usize,
+    screen: &mut [u8],
+    left: usize,
+    right: usize,
+    g: [[u8; 2]; 16],
+    inverse: bool,
+    inverse2: bool,
+)
+    requires { ⌜ Room stride (now screen) left 16 ⌝ }
+    requires { ⌜ Room stride (now screen) right 16 ⌝ }
+    requires { ⌜ length g ≡ 16 ⌝ }
+    ensures { λ _. ⌜ now (screen .exit) ≡ paintLines stride left right inverse inverse2 g (now (screen .entry)) ⌝ }
+{
+    if inverse | inverse2 {
+        paint_glyph(stride, screen, left, right, g, inverse, inverse2);
+        return;
+    }
+    paint_glyph(stride, screen, left, right, g, false, false);
 }
 
 // The character of a hexadecimal digit.

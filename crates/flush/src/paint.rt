@@ -2,9 +2,9 @@
 use crate::codes::glyph_of;
 use crate::glyph::glyph_part;
 use crate::glyph::load_glyph;
+use crate::glyph::paint_character;
 use crate::glyph::paint_code;
-use crate::glyph::paint_column;
-use crate::glyph::paint_glyph;
+use crate::glyph::paint_halves;
 use crate::walk::byte_at;
 use crate::walk::cells_of;
 use crate::walk::form_of;
@@ -87,7 +87,7 @@ fn paint_pair<'a>(
     let glyph = load_glyph(glyph_part(emoji, gb, extra, g));
     let inverse = is_inverse(flags, cell);
     let inverse2 = is_inverse(flags, cell + 1);
-    paint_glyph(
+    paint_halves(
         columns,
         screen,
         top,
@@ -125,7 +125,7 @@ fn paint_form<'a>(
             let cell = s.cell;
             let inverse = is_inverse(flags, cell);
             let from = 16 * (b as usize);
-            paint_column(
+            paint_character(
                 columns,
                 screen,
                 top_of(columns, s),

@@ -23,8 +23,8 @@ mul-from c = search needs
 top-of-requires : tie.Need-top-of-requires
 top-of-requires c κs = search needs
 
-paint-column-requires : tie.Need-paint-column-requires
-paint-column-requires c κs =
+paint-character-requires : tie.Need-paint-character-requires
+paint-character-requires c κs =
     let k = c .before .before .before .before .before .before .before .before .before .before .before .before .before in
     let a = k .args in (
       room-at (a .columns) (a .screen .now) (a .screen .now) 16 (k .pre .0 .left) refl (c .top-of .ensures .0),
@@ -72,7 +72,7 @@ returns-2 : tie.Need-returns-2
 returns-2 c =
     let k = c .before .before .before .before .before .before .before .before .before .before .before .before .before .before .before .before in
     let a = k .args in
-    single-shown (a .columns) (map flagOf (a .flags .now)) (fonts (a .ascii8 .now) (a .ascii16 .now) (a .gb .now) (a .emoji .now) (a .list .now) (a .extra .now)) (a .s) (a .b) (a .trail) (a .screen .now) (a .version) (c .before .before .before .before .before .before .enum-told2 .given .1) (c .before .before .before .top-of .ensures .0) (c .before .before .before .before .before .is-inverse .ensures) (c .before .before .paint-column .ensures)
+    single-shown (a .columns) (map flagOf (a .flags .now)) (fonts (a .ascii8 .now) (a .ascii16 .now) (a .gb .now) (a .emoji .now) (a .list .now) (a .extra .now)) (a .s) (a .b) (a .trail) (a .screen .now) (a .version) (c .before .before .before .before .before .before .enum-told2 .given .1) (c .before .before .before .top-of .ensures .0) (c .before .before .before .before .before .is-inverse .ensures) (c .before .before .paint-character .ensures)
 
 same-length-2 : tie.Need-same-length-2
 same-length-2 c = search needs
@@ -101,7 +101,7 @@ paint-form-spec =
     is-inverse-requires
     mul-from
     top-of-requires
-    paint-column-requires
+    paint-character-requires
     enum-told-3
     glyph-of-requires
     paint-pair-requires

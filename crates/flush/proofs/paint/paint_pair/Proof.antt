@@ -72,8 +72,8 @@ is-inverse-requires-2 c κs = search needs
 right-of-requires : tie.Need-right-of-requires
 right-of-requires c κs = search needs
 
-paint-glyph-requires : tie.Need-paint-glyph-requires
-paint-glyph-requires c κs = search needs
+paint-halves-requires : tie.Need-paint-halves-requires
+paint-halves-requires c κs = search needs
 
 same-length-2 : tie.Need-same-length-2
 same-length-2 c = search needs
@@ -84,7 +84,7 @@ returns-2 c =
     let a = k .args in
     glyph-shown (a .columns) (map flagOf (a .flags .now)) (fonts (a .ascii8 .now) (a .ascii16 .now) (a .gb .now) (a .emoji .now) (a .list .now) (a .extra .now)) (a .s) (a .lead) (a .trail) (a .screen .now) (a .g)
     (c .before .before .before .before .before .before .before .before .before .before .is-hexadecimal .ensures) (c .before .before .before .before .before .before .before .before .before .if1 .left) (c .before .before .before .before .before .before .before .before .before .before .before .top-of .ensures .0) (c .before .before .before .right-of .ensures)
-    (c .before .before .before .before .before .before .is-inverse .ensures) (c .before .before .before .before .before .is-inverse2 .ensures) (c .before .before .before .before .before .before .before .before .glyph-part .ensures) (c .before .before .before .before .before .before .before .load-glyph .ensures) (c .before .before .paint-glyph .ensures)
+    (c .before .before .before .before .before .before .is-inverse .ensures) (c .before .before .before .before .before .is-inverse2 .ensures) (c .before .before .before .before .before .before .before .before .glyph-part .ensures) (c .before .before .before .before .before .before .before .load-glyph .ensures) (c .before .before .paint-halves .ensures)
 
 pub paint-pair-spec : {M : Type 1} → statement M
 paint-pair-spec =
@@ -103,6 +103,6 @@ paint-pair-spec =
     add-is-inverse
     is-inverse-requires-2
     right-of-requires
-    paint-glyph-requires
+    paint-halves-requires
     same-length-2
     returns-2)
