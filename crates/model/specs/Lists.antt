@@ -82,8 +82,8 @@ abbrev pub draws : Geometry → Drawing → Effect
 draws g d = marks (owes (g .stride) (height g) (d .owed) (seen (g .stride) (height g) (d .writes)))
 
 -- a page that has scrolled in Graph
-abbrev pub turns : Geometry → Page → Lent → Effect
-turns g p l = marks (scrollMark g (screenScrolls (decode g (l .rec) .head .screen) (p .scrolls)))
+abbrev pub prints : Geometry → Page → Lent → Effect
+prints g p l = marks (scrollMark g (screenScrolls (decode g (l .rec) .head .screen) (p .scrolls)))
 
 -- a blink in Text
 unfoldable pub blinks : Geometry → Lent → Effect
@@ -102,8 +102,8 @@ effect g (drawCircle x y r fill mode) l = draws g (circle (g .stride) (height g)
 effect g (drawEllipse x y rx ry fill mode) l = draws g (ellipse (g .stride) (height g) x y rx ry (filled fill) (drawMode mode))
 effect g (checkPixel x y) l = nothing
 effect g (print bs) l =
-    let s = decode g (l .rec) in turns g (printOn (rows g) (columns g) (isInverse (s .head .print)) bs (pageOf g s (l .memory))) l
-effect g newline l = turns g (newlineOn (rows g) (columns g) (pageOf g (decode g (l .rec)) (l .memory))) l
+    let s = decode g (l .rec) in prints g (printOn (rows g) (columns g) (isInverse (s .head .print)) bs (pageOf g s (l .memory))) l
+effect g newline l = prints g (newlineOn (rows g) (columns g) (pageOf g (decode g (l .rec)) (l .memory))) l
 effect g cls l = marks (whole (g .stride) (height g))
 effect g (writeByte a v) l = let s = decode g (l .rec) in marks (pokeMark g (s .keys) (s .head .graphics) a)
 effect g getRow l = nothing
