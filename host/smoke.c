@@ -1,4 +1,4 @@
-/* Links libcaption.a and shows the first calls at work: open, a point, all sends, and each refusal of each call, which must leave every byte.
+/* Links libcaption.a and shows the first calls at work: open, a point, all sends, text and cursor, and each refusal of each call, which must leave every byte.
    Prints what it sees and ends with "ok"; the exit status is 0 only then. */
 #include "caption.h"
 #include <stdio.h>

@@ -1,3 +1,4 @@
+-- In Text a drawing with another head, in Graph nothing.
 use Rattle.caption.proofs.Blinking.{blink-graph, blink-least, blink-most, blink-drew}
 use borrow.Author.Needs.{needs}
 use Rattle.caption.proofs.cursor.blink_done.Statement.{statement}

@@ -1,3 +1,4 @@
+-- The lent text and flags with the head's place are the definition's page; a newline on them keeps the record one that passes.
 use Rattle.caption.proofs.Printing.{ready-newline, few-scrolls, newline-keeps, row-in, column-in, known-after, length-after, page-stored, newline-left}
 use Rattle.model.specs.Print.{newlineOn}
 use borrow.Author.Needs.{needs}

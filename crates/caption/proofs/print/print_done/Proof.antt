@@ -1,3 +1,4 @@
+-- The lent text and flags with the head's place are the definition's page; what is printed on them keeps the record one that passes.
 use Rattle.caption.proofs.Printing.{ready-print, no-scrolls, print-keeps, row-in, column-in, known-after, length-after, page-stored, print-left}
 use Rattle.model.specs.Print.{printOn}
 use mathlib.Core.Bool.{not}

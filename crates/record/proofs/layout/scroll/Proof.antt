@@ -1,3 +1,4 @@
+-- The invariant: the first i bytes are those that stood n places on, the others are as they were.
 use borrow.Author.Needs.{needs}
 use mathlib.Core.Path.{_≡_, refl}
 use Prim.Native.Nat.{_≤_, _-_}

@@ -1,3 +1,4 @@
+-- The invariant: clearing on from here gives what clearing from the first cell gives. A cell that is set is there, so the loop ends by the text's end.
 use borrow.Author.Needs.{needs}
 use mathlib.Core.Path.{_≡_, refl, _∙_}
 use Prim.Native.Nat.{_-_}

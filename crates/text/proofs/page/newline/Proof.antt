@@ -1,3 +1,4 @@
+-- The three arms are the definition's. A row of cells lies in text and flags, so both can scroll by it.
 use native.Mathlib.Omega.{arith}
 use Rattle.text.proofs.Writing.{row-in-text, row-in-flags, newline-none, newline-scrolls, newline-next}
 use borrow.Author.Needs.{needs}

@@ -1,3 +1,4 @@
+-- The next cell lies on the page that all bytes leave, so the clearing may start there.
 use native.Mathlib.Omega.{arith}
 use Rattle.text.proofs.Turning.{cell-after, text-printed}
 use borrow.Author.Needs.{needs}

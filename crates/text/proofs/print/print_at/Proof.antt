@@ -1,3 +1,4 @@
+-- One turn: the two arms are the two ways in which the definition goes on.
 use Rattle.text.proofs.Turning.{leads, next-in, pair-taken, byte-taken}
 use borrow.Author.Needs.{needs}
 use Rattle.text.proofs.print.print_at.Statement.{statement}

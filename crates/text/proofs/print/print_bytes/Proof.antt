@@ -1,3 +1,4 @@
+-- The invariant: what is left of the text, printed on the page as it stands, gives what the whole text gives on the first page; each turn scrolls at most twice.
 use borrow.Author.Needs.{needs}
 use mathlib.Core.Path.{_≡_, refl}
 use Prim.Native.Nat.{_≤_, _-_, _*_}
