@@ -18,7 +18,7 @@ use Rattle.model.specs.Refusals.{refusal}
 use Rattle.model.specs.Marks.{drawn, drawnOn, marked}
 use Rattle.model.specs.Text.{withCursor}
 use Rattle.model.specs.Cursor.{cursorFor, blinkOf, blinkNext, cursorBox, underCursor, blinkHead, blinkDrawing}
-use Rattle.model.specs.Calls.{Outcome, blinkCursor, clearCursor, lent, answered, refusals, refused, numbers, changed, drawingWith, blinked, uncursored, done, outcome}
+use Rattle.model.specs.Calls.{Outcome, blinkCursor, clearCursor, lent, answered, refusals, refused, numbers, changed, drawingWith, blinked, cursorCleared, done, outcome}
 use Rattle.laws.specs.Tests.{and-true, if-cases}
 use Rattle.laws.specs.Record.{numbers as state-numbers}
 use Rattle.record.specs.declared.entry.Entry.{Entry}
@@ -112,17 +112,17 @@ module _ (r m : List ℕ) (h : Head) where
   -- ---- the cursor cleared
 
   pub clear-none : Known r h → h .cursor ≡ 0 → answered 0 [] (lent r m []) ≡ done base clearCursor (lent r m [])
-  unfolding done uncursored decode
+  unfolding done cursorCleared decode
   clear-none k z = rw (ap (λ (x : Head). eqb (x .cursor) 0) (sym (k .head)) ∙ eq-eqb (h .cursor) 0 z)
 
   pub clear-blinks : {o : Outcome} → Known r h → (h .cursor ≡ 0 → ⊥) → h .screen ≡ 0 → o ≡ done base blinkCursor (lent r m []) → o ≡ done base clearCursor (lent r m [])
-  unfolding done uncursored decode
+  unfolding done cursorCleared decode
   clear-blinks k z g e =
       rw (ap (λ (x : Head). eqb (x .cursor) 0) (sym (k .head)) ∙ ne-eqb (h .cursor) 0 z, ap (λ (x : Head). eqb (x .screen) 0) (sym (k .head)) ∙ eq-eqb (h .screen) 0 g) e
 
   pub clear-graph : {n : Head} {t : List ℕ} → Known r h → (h .cursor ≡ 0 → ⊥) → (h .screen ≡ 0 → ⊥) → n ≡ withCursor 0 h
       → t ≡ encode (withHead n (decode base r)) → answered 0 [] (lent t m []) ≡ done base clearCursor (lent r m [])
-  unfolding done uncursored changed decode
+  unfolding done cursorCleared changed decode
   clear-graph k z g e f =
       let a = e ∙ ap (withCursor 0) (k .head) in
       rw (ap (λ (x : Head). eqb (x .cursor) 0) (sym (k .head)) ∙ ne-eqb (h .cursor) 0 z, ap (λ (x : Head). eqb (x .screen) 0) (sym (k .head)) ∙ ne-eqb (h .screen) 0 g)

@@ -16,9 +16,10 @@ use Rattle.model.specs.Marks.{joinOwed, owing}
 use Rattle.model.specs.Open.{clearMemory, clearHead, nothingPending, openPending, openState, resetState}
 use Rattle.model.specs.Calls.{Outcome, opening, reset, lent, answered, refusals, refused, numbers, done, outcome}
 use Rattle.laws.specs.Tests.{and-true, true-all}
-use Rattle.laws.specs.Record.{Small, decode-encode}
+use Rattle.laws.specs.Record.{decode-encode}
 use Rattle.record.specs.declared.entry.Entry.{Entry}
 use Rattle.record.specs.Entry.{Entered}
+use Rattle.record.proofs.Flagging.{small}
 use Rattle.caption.specs.Opened.{Opened}
 use Rattle.caption.proofs.Calls.{stops, ends}
 
@@ -40,9 +41,6 @@ opened-formed r m graphics text version keys o = record {
   keys = o .fits;
   flags = length-replicate 100 false;
 }
-
-small : Small base
-small = record { wide = omega arith; high = omega arith }
 
 -- the keys are read back
 keys-read : (r m : List ℕ) (graphics text version : ℕ) (keys : List ℕ) → Opened r m graphics text version keys

@@ -19,8 +19,8 @@ use Rattle.model.specs.Record.{headOf, pendingOf, pendingAt, flagOf, flagByte, 
 use Rattle.model.specs.Refusals.{refusal}
 use Rattle.model.specs.Marks.{marked}
 use Rattle.model.specs.Text.{atPlace}
-use Rattle.model.specs.Print.{Page, scrolledTimes, newlineOn, isInverse, printOn, pageOf, screenScrolls, scrollMark, turnedState, scrolledMemory, turnedMemory}
-use Rattle.model.specs.Calls.{Outcome, print, newline, lent, answered, refusals, refused, numbers, turned, done, outcome}
+use Rattle.model.specs.Print.{Page, scrolledTimes, newlineOn, isInverse, printOn, pageOf, screenScrolls, scrollMark, stateWithPage, scrolledMemory, memoryWithPage}
+use Rattle.model.specs.Calls.{Outcome, print, newline, lent, answered, refusals, refused, numbers, withPage, done, outcome}
 use Rattle.laws.specs.Tests.{and-true}
 use Rattle.laws.specs.Layout.{flags-again}
 use Rattle.laws.specs.Memory.{length-withWindow}
@@ -32,7 +32,7 @@ use Rattle.record.specs.Entry.{Known, Entered}
 use Rattle.record.proofs.Flagging.{flags-state, flags-known}
 use Rattle.text.specs.declared.page.Place.{Place}
 use Rattle.text.specs.Written.{page, Ready, Written}
-use Rattle.caption.specs.Placed.{Placed, placeOf, Turned}
+use Rattle.caption.specs.Placed.{Placed, placeOf, PageStored}
 use Rattle.caption.proofs.Calls.{stops, ends}
 
 -- ---- the screen and the record
@@ -41,7 +41,7 @@ pub page-follows : (r m : List ℕ) (h : Head) (p : Place) {n : ℕ} {a : Head} 
     → n ≡ screenScrolls (h .screen) (p .scrolls) → s ≡ scrolledTimes n 320 (take (h .graphics + 1600 - h .graphics) (drop (h .graphics) m))
     → a ≡ atPlace (p .row) (p .column) h → k .dirty ≡ none → k .owed ≡ scrollMark base n
     → t ≡ encode (marked base (k .dirty) (k .owed) (withHead a (decode base r)))
-    → Turned r m h p t (putMid (h .graphics) (h .graphics + 1600 - h .graphics) m s)
+    → PageStored r m h p t (putMid (h .graphics) (h .graphics + 1600 - h .graphics) m s)
 unfolding scrolledMemory
 page-follows r m h p {n} {s = s} l b e f c d o q =
     let g = h .graphics in
@@ -126,15 +126,15 @@ module _ (r m : List ℕ) (h : Head) (o : Place) (k : Known r h) (l : length m �
         let n : length t ≡ 100 = last-sheet .text in
         ap length text-back ∙ length-withWindow (h .text) t m (omega (arith, d .text)) ∙ l
 
-    pub was-turned : {s n : List ℕ} → Turned (putMid 70 (170 - 70) r g) (putMid (h .text) (h .text + 100 - h .text) m t) h p s n
-        → lent s n [] ≡ turned base (f (pageOf base (decode base r) m)) (lent r m [])
-    unfolding turned turnedState turnedMemory decode
-    was-turned u =
+    pub page-stored : {s n : List ℕ} → PageStored (putMid 70 (170 - 70) r g) (putMid (h .text) (h .text + 100 - h .text) m t) h p s n
+        → lent s n [] ≡ withPage base (f (pageOf base (decode base r) m)) (lent r m [])
+    unfolding withPage stateWithPage memoryWithPage decode
+    page-stored u =
         let state = flags-state r h (map flagOf g) k b flags-long flags-back in
         let rec = u .rec ∙ (λ i. encode (marked base none (scrollMark base (screenScrolls (k .head i .screen) (p .scrolls))) (withHead (atPlace (p .row) (p .column) (k .head i)) (state i)))) in
         let memory = u .memory ∙ ap (scrolledMemory base (h .graphics) (screenScrolls (h .screen) (p .scrolls))) text-back
-        ∙ ap (λ (x : Head). turnedMemory base (page t g p) x m) (k .head) in
-        (λ i. lent (rec i) (memory i) []) ∙ ap (λ (x : Page). turned base x (lent r m [])) (w .page ∙ ap f page-is)
+        ∙ ap (λ (x : Head). memoryWithPage base (page t g p) x m) (k .head) in
+        (λ i. lent (rec i) (memory i) []) ∙ ap (λ (x : Page). withPage base x (lent r m [])) (w .page ∙ ap f page-is)
 
 pub no-scrolls : (h : Head) {o : Place} → o ≡ placeOf h → o .scrolls ≡ 0
 no-scrolls h e = ap (λ (p : Place). p .scrolls) e
@@ -151,10 +151,10 @@ print-keeps v bs p s = print-sheet 5 20 v bs p s
 -- ---- the ends
 
 module _ (r m : List ℕ) where
-  pub newline-turned : {s n : List ℕ} → lent s n [] ≡ turned base (newlineOn 5 20 (pageOf base (decode base r) m)) (lent r m [])
+  pub newline-left : {s n : List ℕ} → lent s n [] ≡ withPage base (newlineOn 5 20 (pageOf base (decode base r) m)) (lent r m [])
       → answered 0 [] (lent s n []) ≡ done base newline (lent r m [])
   unfolding done
-  newline-turned e = ap (answered 0 []) e
+  newline-left e = ap (answered 0 []) e
 
   pub newline-stops : {e : Entry} → Entered (eqb (length m) 65536) r e → (e .code ≡ 0 → ⊥) → answered (e .code) [] (lent r m []) ≡ outcome base newline (lent r m [])
   unfolding refusals refused numbers zeros
@@ -166,12 +166,12 @@ module _ (r m : List ℕ) where
   newline-ends n z d = ends newline (lent r m []) (eqb (length m) 65536) [] refl n z refl d
 
   module _ (bs : List ℕ) where
-    pub print-turned : (h : Head) {s n : List ℕ} → Known r h → lent s n [] ≡ turned base (printOn 5 20 (not (eqb (h .print) 0)) bs (pageOf base (decode base r) m)) (lent r m [])
+    pub print-left : (h : Head) {s n : List ℕ} → Known r h → lent s n [] ≡ withPage base (printOn 5 20 (not (eqb (h .print) 0)) bs (pageOf base (decode base r) m)) (lent r m [])
         → answered 0 [] (lent s n []) ≡ done base (print bs) (lent r m [])
     unfolding done decode isInverse
-    print-turned h k e =
+    print-left h k e =
         ap (answered 0 []) e
-        ∙ ap (λ (x : Head). answered 0 [] (turned base (printOn 5 20 (not (eqb (x .print) 0)) bs (pageOf base (decode base r) m)) (lent r m []))) (k .head)
+        ∙ ap (λ (x : Head). answered 0 [] (withPage base (printOn 5 20 (not (eqb (x .print) 0)) bs (pageOf base (decode base r) m)) (lent r m []))) (k .head)
 
     pub print-stops : {e : Entry} → Entered (eqb (length m) 65536) r e → (e .code ≡ 0 → ⊥) → answered (e .code) [] (lent r m []) ≡ outcome base (print bs) (lent r m [])
     unfolding refusals refused numbers zeros

@@ -22,6 +22,6 @@ abbrev pub placeOf : Head → Place
 placeOf h = record { row = h .row; column = h .column; scrolls = 0 }
 
 -- record and memory with the head at p, and with the screen scrolled and owed where p says so
-pub record Turned (r m : List ℕ) (h : Head) (p : Place) (s n : List ℕ) : Type 0 where
+pub record PageStored (r m : List ℕ) (h : Head) (p : Place) (s n : List ℕ) : Type 0 where
   pub rec : s ≡ encode (marked base none (scrollMark base (screenScrolls (h .screen) (p .scrolls))) (withHead (atPlace (p .row) (p .column) h) (decode base r)))
   pub memory : n ≡ scrolledMemory base (h .graphics) (screenScrolls (h .screen) (p .scrolls)) m

@@ -21,7 +21,7 @@ ghost use Rattle.model.specs.Geometry.{base};
 ghost use Rattle.model.specs.Text.{atPlace};
 ghost use Rattle.model.specs.Calls.{print, newline, lent, answered, done, outcome};
 ghost use Rattle.record.specs.Entry.{Known};
-ghost use Rattle.caption.specs.Placed.{Placed, placeOf, Turned};
+ghost use Rattle.caption.specs.Placed.{Placed, placeOf, PageStored};
 
 fn place_of(h: Head) -> Place
     ensures { λ r. ⌜ r ≡ placeOf h ⌝ }
@@ -44,11 +44,11 @@ fn at_place(h: Head, p: Place) -> Head
 }
 
 // The text and its flags have been written up to p: the screen and the record follow.
-fn turn_page(rec: &mut [u8], memory: &mut [u8], h: Head, p: Place)
+fn store_page(rec: &mut [u8], memory: &mut [u8], h: Head, p: Place)
     requires { ⌜ Known (now rec) h ⌝ }
     requires { ⌜ length (now memory) ≡ 65536 ⌝ }
     requires { ⌜ (p .row < 5) × (p .column < 20) ⌝ }
-    ensures { λ _. ⌜ Turned (now (rec .entry)) (now (memory .entry)) h p (now (rec .exit)) (now (memory .exit)) ⌝ }
+    ensures { λ _. ⌜ PageStored (now (rec .entry)) (now (memory .entry)) h p (now (rec .exit)) (now (memory .exit)) ⌝ }
 {
     let n = scroll::screen_scrolls(h.screen, p.scrolls);
     let from = h.graphics as usize;
@@ -73,7 +73,7 @@ fn newline_done(rec: &mut [u8], memory: &mut [u8], h: Head) -> u32
         &mut rec[layout::FLAGS..layout::RECORD_BYTES],
         start,
     );
-    turn_page(rec, memory, h, p);
+    store_page(rec, memory, h, p);
     0
 }
 
@@ -108,7 +108,7 @@ fn print_done(rec: &mut [u8], memory: &mut [u8], bytes: &[u8], h: Head) -> u32
         bytes,
         inverse,
     );
-    turn_page(rec, memory, h, p);
+    store_page(rec, memory, h, p);
     0
 }
 

@@ -22,7 +22,7 @@ use Rattle.model.specs.Boxes.{box}
 use Rattle.model.specs.Ellipses.{ellipse, circle, radiiFit, stepsFit}
 use Rattle.model.specs.Bitmaps.{paintMode, sourceBytes, sourceFits, bitmap}
 use Rattle.model.specs.Text.{withRow, withColumn, withPrintMode, withCursor, clearedState, clearedMemory}
-use Rattle.model.specs.Print.{Page, newlineOn, isInverse, printOn, pageOf, turnedState, turnedMemory}
+use Rattle.model.specs.Print.{Page, newlineOn, isInverse, printOn, pageOf, stateWithPage, memoryWithPage}
 use Rattle.model.specs.Cursor.{blinkHead, blinkDrawing}
 use Rattle.model.specs.Poke.{poked, pokeMark}
 use Rattle.model.specs.Glyphs.{Fonts, fontsFit}
@@ -205,8 +205,8 @@ unfoldable pub cleared : Geometry → ℕ → Lent → Lent
 cleared g n l = let s = decode g (l .rec) in lent (encode (clearedState g n s)) (clearedMemory g (s .head) (l .memory)) (l .panel)
 
 -- the page p takes the place of the old one
-unfoldable pub turned : Geometry → Page → Lent → Lent
-turned g p l = let s = decode g (l .rec) in lent (encode (turnedState g p s)) (turnedMemory g p (s .head) (l .memory)) (l .panel)
+unfoldable pub withPage : Geometry → Page → Lent → Lent
+withPage g p l = let s = decode g (l .rec) in lent (encode (stateWithPage g p s)) (memoryWithPage g p (s .head) (l .memory)) (l .panel)
 
 -- in Graph a blink does nothing
 unfoldable pub blinked : Geometry → Lent → Lent
@@ -214,9 +214,9 @@ blinked g l =
     let h = decode g (l .rec) .head in
     cond (eqb (h .screen) 0) (drawingWith g (blinkHead g (l .memory)) (blinkDrawing g h (l .memory)) l) l
 
--- without a cursor nothing; else a blink, and none is shown
-unfoldable pub uncursored : Geometry → Lent → Lent
-uncursored g l =
+-- without a cursor nothing; else a blink, which in Text leaves none shown, and in Graph none is shown all the same
+unfoldable pub cursorCleared : Geometry → Lent → Lent
+cursorCleared g l =
     let h = decode g (l .rec) .head in
     cond (eqb (h .cursor) 0) l (cond (eqb (h .screen) 0) (blinked g l) (changed g (withCursor 0) l))
 
@@ -243,8 +243,8 @@ done g (paintBitmap a x y w n mode) l =
     answered 0 [] (drawing g (bitmap (g .stride) (height g) (window a (sourceBytes w n) (l .memory)) x y w n (paintMode mode)) l)
 done g (print bs) l =
     let s = decode g (l .rec) in
-    answered 0 [] (turned g (printOn (rows g) (columns g) (isInverse (s .head .print)) bs (pageOf g s (l .memory))) l)
-done g newline l = answered 0 [] (turned g (newlineOn (rows g) (columns g) (pageOf g (decode g (l .rec)) (l .memory))) l)
+    answered 0 [] (withPage g (printOn (rows g) (columns g) (isInverse (s .head .print)) bs (pageOf g s (l .memory))) l)
+done g newline l = answered 0 [] (withPage g (newlineOn (rows g) (columns g) (pageOf g (decode g (l .rec)) (l .memory))) l)
 done g cls l = answered 0 [] (cleared g (decode g (l .rec) .head .screen) l)
 done g (writeByte a v) l =
     let s = decode g (l .rec) in
@@ -261,7 +261,7 @@ done g (setColumn n) l = answered 0 [] (changed g (withColumn n) l)
 done g (setScreenMode n) l = answered 0 [] (cleared g n l)
 done g (setPrintMode n) l = answered 0 [] (changed g (withPrintMode n) l)
 done g blinkCursor l = answered 0 [] (blinked g l)
-done g clearCursor l = answered 0 [] (uncursored g l)
+done g clearCursor l = answered 0 [] (cursorCleared g l)
 done g takeDirtyArea l = answered 0 (rectNumbers (decode g (l .rec) .head .dirty)) (changed g (withDirty none) l)
 done g send l =
     let s = decode g (l .rec) in

@@ -86,8 +86,8 @@ abbrev pub draws : Geometry → Drawing → Effect
 draws g d = marks (owes (g .stride) (height g) (d .owed) (seen (g .stride) (height g) (d .writes)))
 
 -- a page that has scrolled in Graph
-abbrev pub turns : Geometry → Page → Lent → Effect
-turns g p l = marks (scrollMark g (screenScrolls (decode g (l .rec) .head .screen) (p .scrolls)))
+abbrev pub prints : Geometry → Page → Lent → Effect
+prints g p l = marks (scrollMark g (screenScrolls (decode g (l .rec) .head .screen) (p .scrolls)))
 
 -- a blink in Text
 unfoldable pub blinks : Geometry → Lent → Effect
@@ -108,8 +108,8 @@ effect g (checkPixel x y) l = nothing
 effect g (paintBitmap a x y w n mode) l =
     draws g (bitmap (g .stride) (height g) (window a (sourceBytes w n) (l .memory)) x y w n (paintMode mode))
 effect g (print bs) l =
-    let s = decode g (l .rec) in turns g (printOn (rows g) (columns g) (isInverse (s .head .print)) bs (pageOf g s (l .memory))) l
-effect g newline l = turns g (newlineOn (rows g) (columns g) (pageOf g (decode g (l .rec)) (l .memory))) l
+    let s = decode g (l .rec) in prints g (printOn (rows g) (columns g) (isInverse (s .head .print)) bs (pageOf g s (l .memory))) l
+effect g newline l = prints g (newlineOn (rows g) (columns g) (pageOf g (decode g (l .rec)) (l .memory))) l
 effect g cls l = marks (whole (g .stride) (height g))
 effect g (writeByte a v) l = let s = decode g (l .rec) in marks (pokeMark g (s .keys) (s .head .graphics) a)
 effect g (flush f) l = marks (whole (g .stride) (height g))

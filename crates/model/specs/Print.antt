@@ -128,13 +128,13 @@ screenScrolls mode n = cond (eqb mode 1) n 0
 unfoldable pub scrollMark : Geometry → ℕ → Rect
 scrollMark g n = cond (eqb n 0) none (whole (g .stride) (height g))
 
-unfoldable pub turnedState : Geometry → Page → State → State
-turnedState g p s =
+unfoldable pub stateWithPage : Geometry → Page → State → State
+stateWithPage g p s =
     marked g none (scrollMark g (screenScrolls (s .head .screen) (p .scrolls)))
     (record { head = atPlace (p .row) (p .column) (s .head); pending = s .pending; keys = s .keys; flags = p .flags })
 
 unfoldable pub scrolledMemory : Geometry → ℕ → ℕ → List ℕ → List ℕ
 scrolledMemory g graphics n m = withScreen graphics (scrolledTimes n (rowBytes g) (screenOf g graphics m)) m
 
-unfoldable pub turnedMemory : Geometry → Page → Head → List ℕ → List ℕ
-turnedMemory g p h m = scrolledMemory g (h .graphics) (screenScrolls (h .screen) (p .scrolls)) (withText (h .text) (p .text) m)
+unfoldable pub memoryWithPage : Geometry → Page → Head → List ℕ → List ℕ
+memoryWithPage g p h m = scrolledMemory g (h .graphics) (screenScrolls (h .screen) (p .scrolls)) (withText (h .text) (p .text) m)

@@ -12,7 +12,7 @@ use Rattle.model.specs.Geometry.{Geometry, height, rows, columns}
 use Rattle.model.specs.Record.{decode}
 use Rattle.model.specs.Text.{withCursor}
 use Rattle.model.specs.Cursor.{cursorFor, blinkOf, blinkNext, cursorBox, underCursor, blinkHead, blinkDrawing}
-use Rattle.model.specs.Calls.{Lent, blinked, uncursored}
+use Rattle.model.specs.Calls.{Lent, blinked, cursorCleared}
 use Rattle.model.specs.Lists.{nothing, blinks}
 use Rattle.laws.specs.Tests.{if-cases, by-test}
 use Rattle.laws.specs.Rects.{Fits, passes-fits}
@@ -70,9 +70,9 @@ module _ (g : Geometry) (k : Glass g) (l : Lent) (q : Good g l) where
       (cursor-fits g (blinkNext (h .cursor) (underCursor g h (l .memory))) (le-leb (blinkNext (h .cursor) (underCursor g h (l .memory))) 2 (next-most (h .cursor) (underCursor g h (l .memory)))) h f) refl (box-in h (l .memory) f)))
       (λ e. rw e (same-step g l q))
 
-  pub uncursored-step : Step g l (cond (eqb (decode g (l .rec) .head .cursor) 0) nothing (blinks g l)) (uncursored g l)
-  unfolding uncursored withCursor blinks
-  uncursored-step =
+  pub clear-cursor-step : Step g l (cond (eqb (decode g (l .rec) .head .cursor) 0) nothing (blinks g l)) (cursorCleared g l)
+  unfolding cursorCleared withCursor blinks
+  clear-cursor-step =
       let h = decode g (l .rec) .head in
       by-test (eqb (h .cursor) 0) (λ e. rw e (same-step g l q))
       (λ e. by-test (eqb (h .screen) 0) (λ f. rw (e, f) (rw f at blink-step)) (λ f. rw (e, f) (changed-step g k (withCursor 0) l q (cursor-fits g 0 refl) (λ x. refl))))

@@ -35,8 +35,8 @@ use Rattle.order.specs.Draws.{drawing-step, point-fits}
 use Rattle.order.specs.Pokes.{poke-step}
 use Rattle.order.specs.Flushes.{flush-step}
 use Rattle.order.specs.Heads.{changed-step, row-fits, column-fits, print-fits, clean-fits}
-use Rattle.order.specs.Texts.{cleared-step, mode-listed, page-sheet, turned-step}
-use Rattle.order.specs.Cursors.{blink-step, uncursored-step}
+use Rattle.order.specs.Texts.{cleared-step, mode-listed, page-sheet, page-step}
+use Rattle.order.specs.Cursors.{blink-step, clear-cursor-step}
 use Rattle.order.specs.Sent.{send-step}
 
 module _ (g : Geometry) (k : Glass g) where
@@ -78,11 +78,11 @@ module _ (g : Geometry) (k : Glass g) where
       (passes-fits 256 0 256 _ (bitmap-fits (g .stride) (height g) source x y w n (paintMode mode) (omega (arith, k .small)) (omega (arith, k .small))))
   call-step (print bs) l t q a =
       let s = decode g (l .rec) in
-      turned-step g k l q (printOn (rows g) (columns g) (isInverse (s .head .print)) bs (pageOf g s (l .memory)))
+      page-step g k l q (printOn (rows g) (columns g) (isInverse (s .head .print)) bs (pageOf g s (l .memory)))
       (print-sheet (rows g) (columns g) (isInverse (s .head .print)) bs (pageOf g s (l .memory)) (page-sheet g k l q))
   call-step newline l t q a =
       let p = pageOf g (decode g (l .rec)) (l .memory) in
-      turned-step g k l q (newlineOn (rows g) (columns g) p) (newline-sheet (rows g) (columns g) 1 1 p (k .stride) (page-sheet g k l q))
+      page-step g k l q (newlineOn (rows g) (columns g) p) (newline-sheet (rows g) (columns g) 1 1 p (k .stride) (page-sheet g k l q))
   call-step cls l t q a = cleared-step g k l q (decode g (l .rec) .head .screen) (mode-listed g k l q)
   call-step (writeByte b v) l t q a = poke-step g k b v l q
   call-step (flush f) l t q a = flush-step g k f l q
@@ -101,7 +101,7 @@ module _ (g : Geometry) (k : Glass g) where
       let b = accepted-pass (refusals g (setPrintMode n) l) (omega arith) a in
       changed-step g k (withPrintMode n) l q (print-fits g n (b .1 .1 .0)) (λ h. refl)
   call-step blinkCursor l t q a = blink-step g k l q
-  call-step clearCursor l t q a = uncursored-step g k l q
+  call-step clearCursor l t q a = clear-cursor-step g k l q
   call-step takeDirtyArea l t q a = changed-step g k (withDirty none) l q (clean-fits g) (λ h. refl)
   call-step send l t q a = send-step g k l q
 

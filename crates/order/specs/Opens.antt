@@ -1,11 +1,11 @@
 -- Open and reset: memory is cleared, and the whole screen is owed.
 use mathlib.Core.Path.{_≡_, refl, _∙_}
-use mathlib.Core.Bool.{true, false}
+use mathlib.Core.Bool.{true}
 use mathlib.Core.List.{List}
 use Prim.Native.Nat.{ℕ, zero, suc}
 use native.Mathlib.Omega.{arith}
 use lib.Dec.{leb}
-use lib.ListN.{length, set, replicate, length-set, length-replicate}
+use lib.ListN.{length, set, length-set}
 use borrow.Author.Tests.{lt-ltb}
 use Rattle.model.specs.Geometry.{Geometry, height, rows, columns, cells, screenBytes, memoryBytes}
 use Rattle.model.specs.Memory.{zeros}
@@ -19,6 +19,7 @@ use Rattle.laws.specs.Tests.{if-cases}
 use Rattle.laws.specs.Rects.{fits-passes, none-fits}
 use Rattle.laws.specs.Marks.{whole-agrees}
 use Rattle.laws.specs.Loops.{length-zeros}
+use Rattle.laws.specs.Flags.{length-no-flags}
 use Rattle.order.specs.Pending.{fitting-owing, fitting-open}
 use Rattle.order.specs.Formed.{HeadFits, head-fits, fitting, formed}
 use Rattle.order.specs.Step.{Glass, Good, Step, known, stored, marks-step}
@@ -49,9 +50,6 @@ clear-fits g k graphics text version a b =
       dirty = fits-passes 256 0 256 none (none-fits 256 0 256);
     }
 
-length-flags : (n : ℕ) → length (replicate n false) ≡ n
-length-flags n = length-replicate n false
-
 module _ (g : Geometry) (k : Glass g) where
   -- over any record, and any memory
   pub open-step : (graphics text version : ℕ) (keys : List ℕ) (l : Lent) → windows g graphics text ≡ true → leb version 1 ≡ true → length keys ≡ 8 → Words keys
@@ -59,7 +57,7 @@ module _ (g : Geometry) (k : Glass g) where
   unfolding openState openPending owing nothingPending affected
   open-step graphics text version keys l a b n ws p =
       stored g k l opens (openState g graphics text version keys) (clearMemory keys) (l .panel)
-      (formed g (openState g graphics text version keys) (clear-fits g k graphics text version a b) (fitting-open g) (omega arith) n ws (length-flags (cells g)))
+      (formed g (openState g graphics text version keys) (clear-fits g k graphics text version a b) (fitting-open g) (omega arith) n ws (length-no-flags (cells g)))
       (length-clear keys) p
       (record { pending = refl; panel = refl; screen = whole-agrees (g .stride) (height g) _ _ })
 
@@ -72,5 +70,5 @@ module _ (g : Geometry) (k : Glass g) where
       let h = head-fits g s w in
       marks-step g k l q (resetState g s) (clearMemory (s .keys))
       (formed g (resetState g s) (clear-fits g k (s .head .graphics) (s .head .text) (s .head .version) (h .bases) (h .version))
-      (fitting-owing g (whole (g .stride) (height g)) (s .pending) (fitting g s w)) (w .counted) (w .words) (w .keys) (length-flags (cells g)))
+      (fitting-owing g (whole (g .stride) (height g)) (s .pending) (fitting g s w)) (w .counted) (w .words) (w .keys) (length-no-flags (cells g)))
       (length-clear (s .keys)) refl (whole (g .stride) (height g)) refl (whole-agrees (g .stride) (height g) _ _)

@@ -7,7 +7,7 @@ use Rattle.model.specs.Geometry.{Geometry}
 use Rattle.model.specs.Memory.{zeros}
 use Rattle.model.specs.Record.{decode}
 use Rattle.model.specs.Refusals.{refusal, ruled}
-use Rattle.model.specs.Calls.{Call, opening, reset, drawPoint, drawLine, drawBox, drawCircle, drawEllipse, checkPixel, paintBitmap, writeByte, flush, getRow, getColumn, setRow, setColumn, setPrintMode, takeDirtyArea, send, Lent, lent, Outcome, answered, refusals, numbers, refused, drawing, changed, done, outcome, print, newline, cls, setScreenMode, blinkCursor, clearCursor, drawingWith, cleared, turned, blinked, uncursored}
+use Rattle.model.specs.Calls.{Call, opening, reset, drawPoint, drawLine, drawBox, drawCircle, drawEllipse, checkPixel, paintBitmap, writeByte, flush, getRow, getColumn, setRow, setColumn, setPrintMode, takeDirtyArea, send, Lent, lent, Outcome, answered, refusals, numbers, refused, drawing, changed, done, outcome, print, newline, cls, setScreenMode, blinkCursor, clearCursor, drawingWith, cleared, withPage, blinked, cursorCleared}
 use Rattle.laws.specs.Tests.{by-test}
 
 -- the record alone; record and memory; all three
@@ -62,15 +62,15 @@ module _ (g : Geometry) where
   unfolding blinked drawingWith
   blinked-parts l = by-test (eqb (decode g (l .rec) .head .screen) 0) (λ e. rw e) (λ e. rw e)
 
-  uncursored-parts : (l : Lent) → uncursored g l ≡ lent (uncursored g (lent (l .rec) (l .memory) []) .rec) (uncursored g (lent (l .rec) (l .memory) []) .memory) (l .panel)
-  unfolding uncursored changed
-  uncursored-parts l =
+  cursorCleared-parts : (l : Lent) → cursorCleared g l ≡ lent (cursorCleared g (lent (l .rec) (l .memory) []) .rec) (cursorCleared g (lent (l .rec) (l .memory) []) .memory) (l .panel)
+  unfolding cursorCleared changed
+  cursorCleared-parts l =
       by-test (eqb (decode g (l .rec) .head .cursor) 0) (λ e. rw e)
       (λ e. by-test (eqb (decode g (l .rec) .head .screen) 0) (λ f. rw (e, f) (blinked-parts l)) (λ f. rw (e, f)))
 
   -- a call tests and uses nothing that it is not lent, and leaves it
   each : (c : Call) (l : Lent) → (refusals g c l ≡ refusals g c (lentTo (takes c) l)) × (done g c l ≡ answeredBack (takes c) l (done g c (lentTo (takes c) l)))
-  unfolding takes lentTo givenBack answeredBack answered refusals done drawingWith changed cleared turned
+  unfolding takes lentTo givenBack answeredBack answered refusals done drawingWith changed cleared withPage
   each (opening graphics text version keys) l = (refl, refl)
   each reset l = (refl, refl)
   each (drawPoint x y mode) l = (refl, refl)
@@ -92,7 +92,7 @@ module _ (g : Geometry) where
   each (setScreenMode n) l = (refl, refl)
   each (setPrintMode n) l = (refl, refl)
   each blinkCursor l = (refl, ap (answered 0 []) (blinked-parts l))
-  each clearCursor l = (refl, ap (answered 0 []) (uncursored-parts l))
+  each clearCursor l = (refl, ap (answered 0 []) (cursorCleared-parts l))
   each takeDirtyArea l = (refl, refl)
   each send l = (refl, refl)
 

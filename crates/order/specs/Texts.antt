@@ -16,9 +16,9 @@ use Rattle.model.specs.Memory.{zeros, screenOf, withScreen, withText}
 use Rattle.model.specs.Record.{State, WellFormed, decode, windows, windowTests}
 use Rattle.model.specs.Marks.{whole}
 use Rattle.model.specs.Text.{withRow, withColumn, atPlace, withScreenMode, clearedState, clearedMemory}
-use Rattle.model.specs.Print.{Page, scrolledTimes, pageOf, screenScrolls, scrollMark, turnedState, scrolledMemory, turnedMemory}
-use Rattle.model.specs.Calls.{Lent, cleared, turned}
-use Rattle.model.specs.Lists.{marks, turns}
+use Rattle.model.specs.Print.{Page, scrolledTimes, pageOf, screenScrolls, scrollMark, stateWithPage, scrolledMemory, memoryWithPage}
+use Rattle.model.specs.Calls.{Lent, cleared, withPage}
+use Rattle.model.specs.Lists.{marks, prints}
 use Rattle.laws.specs.Tests.{all-true, by-test, or-cases}
 use Rattle.laws.specs.Rects.{Fits}
 use Rattle.laws.specs.Memory.{length-window, length-withWindow, window-same, window-other}
@@ -160,9 +160,9 @@ module _ (g : Geometry) (k : Glass g) where
         (rw (eqb-true n 0 z) (rw (screen-stays t e) (λ x y hx hy o. refl))))
         (λ z. rw z (whole-agrees (g .stride) (height g) _ _))
 
-    pub turned-step : (p : Page) → Sheet (rows g) (columns g) 1 p → Step g l (turns g p l) (turned g p l)
-    unfolding turned turnedState turnedMemory withRow withColumn scrolledMemory
-    turned-step p s =
+    pub page-step : (p : Page) → Sheet (rows g) (columns g) 1 p → Step g l (prints g p l) (withPage g p l)
+    unfolding withPage stateWithPage memoryWithPage withRow withColumn scrolledMemory
+    page-step p s =
         let n = screenScrolls (old .head .screen) (p .scrolls) in
         rewritten-step g k none (scrollMark g n)
         (record { head = atPlace (p .row) (p .column) (old .head); pending = old .pending; keys = old .keys; flags = p .flags })

@@ -8,7 +8,7 @@ use lib.ListN.{length}
 use Rattle.model.specs.declared.Sent.{Sent}
 use Rattle.model.specs.Geometry.{base}
 use Rattle.model.specs.Refusals.{refusal, ruled}
-use Rattle.model.specs.Calls.{Call, drawPoint, drawLine, writeByte, send, Lent, lent, Outcome, answered, sentNumbers, refusals, numbers, drawing, done, refused, outcome}
+use Rattle.model.specs.Calls.{Call, drawPoint, drawLine, writeByte, send, Lent, lent, Outcome, answered, sentNumbers, refusals, numbers, drawingWith, done, refused, outcome}
 use Rattle.model.specs.Script.Read.{call}
 use Rattle.model.specs.Script.Run.{printed, spaced, sentWord, badWord, refusedWord, said, answer, leaves}
 use Rattle.script.specs.declared.Form.{Form}
@@ -88,11 +88,11 @@ beside p zero f f′ d d′ h e = e
 beside p (suc n) f f′ d d′ h e = h (suc n)
 
 point-beside : (x y md : ℕ) (r m p : List ℕ) → outcome base (drawPoint x y md) (lent r m p) ≡ withPanel p (outcome base (drawPoint x y md) (lent r m []))
-unfolding outcome refusals refused done answered drawing
+unfolding outcome refusals refused done answered drawingWith
 point-beside x y md r m p = beside p (refusal (refusals base (drawPoint x y md) (lent r m []))) _ _ _ _ (λ k. refl) refl
 
 line-beside : (x y z w md : ℕ) (r m p : List ℕ) → outcome base (drawLine x y z w md) (lent r m p) ≡ withPanel p (outcome base (drawLine x y z w md) (lent r m []))
-unfolding outcome refusals refused done answered drawing
+unfolding outcome refusals refused done answered drawingWith
 line-beside x y z w md r m p = beside p (refusal (refusals base (drawLine x y z w md) (lent r m []))) _ _ _ _ (λ k. refl) refl
 
 poke-beside : (a v : ℕ) (r m p : List ℕ) → outcome base (writeByte a v) (lent r m p) ≡ withPanel p (outcome base (writeByte a v) (lent r m []))

@@ -1,4 +1,4 @@
-use Rattle.caption.proofs.Printing.{ready-newline, few-scrolls, newline-keeps, row-in, column-in, known-after, length-after, was-turned, newline-turned}
+use Rattle.caption.proofs.Printing.{ready-newline, few-scrolls, newline-keeps, row-in, column-in, known-after, length-after, page-stored, newline-left}
 use Rattle.model.specs.Print.{newlineOn}
 use borrow.Author.Needs.{needs}
 use Rattle.caption.proofs.print.newline_done.Statement.{statement}
@@ -38,8 +38,8 @@ newline-requires c κs =
     let a = k .args in
     (ready-newline (a .rec .now) (a .memory .now) (a .h) (o .place-of .result) (k .pre .0) (k .pre .1 .0) (k .pre .1 .1) (o .place-of .ensures), few-scrolls (a .h) (o .place-of .ensures))
 
-turn-page-requires : tie.Need-turn-page-requires
-turn-page-requires c κs =
+store-page-requires : tie.Need-store-page-requires
+store-page-requires c κs =
     let w = c .before .before .before .before .before .before in
     let o = w .before .before .before in
     let r = o .before .before .before in
@@ -66,7 +66,7 @@ returns c =
     let r = o .before .before .before in
     let k = r .before in
     let a = k .args in
-    newline-turned (a .rec .now) (a .memory .now) (was-turned (a .rec .now) (a .memory .now) (a .h) (o .place-of .result) (k .pre .0) (k .pre .1 .0) (k .pre .1 .1) (o .place-of .ensures) (newlineOn 5 20) newline-keeps (r .slice-known .given) (w .newline .ensures) (u .turn-page .ensures))
+    newline-left (a .rec .now) (a .memory .now) (page-stored (a .rec .now) (a .memory .now) (a .h) (o .place-of .result) (k .pre .0) (k .pre .1 .0) (k .pre .1 .1) (o .place-of .ensures) (newlineOn 5 20) newline-keeps (r .slice-known .given) (w .newline .ensures) (u .store-page .ensures))
 
 pub newline-done-spec : {M : Type 1} → statement M
 newline-done-spec =
@@ -82,7 +82,7 @@ newline-done-spec =
     part-newline-start-2
     part-newline-end-2
     newline-requires
-    turn-page-requires
+    store-page-requires
     same-length
     same-length-2
     returns)

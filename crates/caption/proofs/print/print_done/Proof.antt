@@ -1,4 +1,4 @@
-use Rattle.caption.proofs.Printing.{ready-print, no-scrolls, print-keeps, row-in, column-in, known-after, length-after, was-turned, print-turned}
+use Rattle.caption.proofs.Printing.{ready-print, no-scrolls, print-keeps, row-in, column-in, known-after, length-after, page-stored, print-left}
 use Rattle.model.specs.Print.{printOn}
 use mathlib.Core.Bool.{not}
 use lib.Dec.{eqb}
@@ -40,8 +40,8 @@ print-requires c κs =
     let a = k .args in
     (ready-print (a .rec .now) (a .memory .now) (a .h) (o .place-of .result) (k .pre .0) (k .pre .1 .0) (k .pre .1 .1) (o .place-of .ensures), no-scrolls (a .h) (o .place-of .ensures))
 
-turn-page-requires : tie.Need-turn-page-requires
-turn-page-requires c κs =
+store-page-requires : tie.Need-store-page-requires
+store-page-requires c κs =
     let w = c .before .before .before .before .before .before in
     let o = w .before .before .before .before in
     let r = o .before .before .before .before in
@@ -68,7 +68,7 @@ returns c =
     let r = o .before .before .before .before in
     let k = r .before in
     let a = k .args in
-    print-turned (a .rec .now) (a .memory .now) (a .bytes .now) (a .h) (k .pre .0) (was-turned (a .rec .now) (a .memory .now) (a .h) (o .place-of .result) (k .pre .0) (k .pre .1 .0) (k .pre .1 .1) (o .place-of .ensures) (printOn 5 20 (not (eqb (a .h .print) 0)) (a .bytes .now)) (print-keeps (not (eqb (a .h .print) 0)) (a .bytes .now)) (r .slice-known .given) (w .print .ensures) (u .turn-page .ensures))
+    print-left (a .rec .now) (a .memory .now) (a .bytes .now) (a .h) (k .pre .0) (page-stored (a .rec .now) (a .memory .now) (a .h) (o .place-of .result) (k .pre .0) (k .pre .1 .0) (k .pre .1 .1) (o .place-of .ensures) (printOn 5 20 (not (eqb (a .h .print) 0)) (a .bytes .now)) (print-keeps (not (eqb (a .h .print) 0)) (a .bytes .now)) (r .slice-known .given) (w .print .ensures) (u .store-page .ensures))
 
 pub print-done-spec : {M : Type 1} → statement M
 print-done-spec =
@@ -84,7 +84,7 @@ print-done-spec =
     part-print-start-2
     part-print-end-2
     print-requires
-    turn-page-requires
+    store-page-requires
     same-length
     same-length-2
     returns)

@@ -1,7 +1,7 @@
 use Rattle.caption.proofs.Printing.{page-follows}
 use borrow.Author.Needs.{needs}
-use Rattle.caption.proofs.print.turn_page.Statement.{statement}
-use Rattle.caption.proofs.print.turn_page.Tie as tie
+use Rattle.caption.proofs.print.store_page.Statement.{statement}
+use Rattle.caption.proofs.print.store_page.Tie as tie
 
 screen-scrolls-requires : tie.Need-screen-scrolls-requires
 screen-scrolls-requires c κs = search needs
@@ -51,8 +51,8 @@ returns c =
     page-follows (a .rec .now) (a .memory .now) (a .h) (a .p) (k .pre .1 .0) (k .pre .0 .graphics) (n .screen-scrolls .ensures) (s .scroll-screen .ensures) (z .at-place .ensures)
     (y .scroll-marks .ensures .0) (y .scroll-marks .ensures .1) (x .mark-head .ensures)
 
-pub turn-page-spec : {M : Type 1} → statement M
-turn-page-spec =
+pub store-page-spec : {M : Type 1} → statement M
+store-page-spec =
     tie.close
     (tie.spec
     screen-scrolls-requires
