@@ -6,3 +6,4 @@ pub mod Showing
 pub mod Texts
 pub mod Clearing
 pub mod Whole
+pub mod Places
