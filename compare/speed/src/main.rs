@@ -70,7 +70,7 @@ fn flush(name: &str, text: &[u8], core: Option<Answering>) -> bool {
     reference.load(&buffers.record, &buffers.memory);
     reference.call(&call);
     let mut by_reference = || reference.flush_alone();
-    report_on(name, &mut by_reference, core, std::slice::from_ref(&call), Some(1.3), buffers)
+    report_on(name, &mut by_reference, core, std::slice::from_ref(&call), None, buffers)
 }
 
 fn report(
