@@ -1,7 +1,7 @@
 /* The 160 by 80 caption screen: the exported calls of libcaption.a (rt staticlib caption).
 
    Every call tests what it is lent and told. It answers 0 where it is done, or the number of a refusal, and then no lent byte has changed and all other
-   numbers of the result are 0: 1 LENT, 2 STATE, 3 WINDOW, 4 VALUE, 5 SOURCE, 6 RADIUS (docs/CALLS.md says which call gives which, in testing order).
+   numbers of the result are 0: 1 LENT, 2 STATE, 3 WINDOW, 4 VALUE, 5 SOURCE, 6 RADIUS, 7 GLYPH (docs/CALLS.md says which call gives which, in testing order).
 
    Trusted of the caller, and checked by no call: each pointer is not null, also at length 0, and valid for its length; a buffer that is lent without
    `const` overlaps no other buffer of the same call. */
