@@ -95,12 +95,21 @@ fn form_fits(
     }
 }
 
-// Fonts that hold every code, and no extra list: then any text fits, and the walk is spared.
+// The bytes of fonts that hold every code: digits up to F, 128 characters, 7,614 GB characters, 527 emoji.
+const WHOLE_ASCII8: usize = 568;
+
+const WHOLE_ASCII16: usize = 2048;
+
+const WHOLE_GB: usize = 243648;
+
+const WHOLE_EMOJI: usize = 16864;
+
+// Such fonts, and no entry of an extra list: then any text fits, and the walk is spared.
 fn fonts_whole(ascii8: &[u8], ascii16: &[u8], gb: &[u8], emoji: &[u8], list: &[u8]) -> bool
     ensures { λ r. ⌜ r ≡ wholeFonts (now (ascii8 .entry)) (now (ascii16 .entry)) (now (gb .entry)) (now (emoji .entry)) (now (list .entry)) ⌝ }
 {
-    let ascii = (568 <= ascii8.len()) & (2048 <= ascii16.len());
-    let pairs = (243648 <= gb.len()) & (16864 <= emoji.len());
+    let ascii = (WHOLE_ASCII8 <= ascii8.len()) & (WHOLE_ASCII16 <= ascii16.len());
+    let pairs = (WHOLE_GB <= gb.len()) & (WHOLE_EMOJI <= emoji.len());
     (ascii & pairs) & (list.len() < 6)
 }
 

@@ -17,11 +17,7 @@ pub fn copy_text(from: &[u8], onto: &mut [u8])
     requires { ⌜ length (now from) ≡ length (now onto) ⌝ }
     ensures { λ _. ⌜ now (onto .exit) ≡ now (from .entry) ⌝ }
 {
-    let mut i: usize = 0;
-    while i < from.len() {
-        onto[i] = from[i];
-        i += 1;
-    }
+    layout::put_bytes(onto, 0, from);
 }
 
 fn clear_text_screen(screen: &mut [u8], mode: u8)

@@ -9,7 +9,7 @@ use Rattle.model.specs.declared.Glyph.the-variants.{Emoji, Gb, Extra, He
 use Rattle.model.specs.declared.Spot.{Spot}
 use Rattle.model.specs.declared.Form.{Form}
 use Rattle.model.specs.declared.Form.the-variants.{Blank, Single, Pair, Code}
-use Rattle.model.specs.Geometry.{Geometry, rows, columns, cells, screenBytes}
+use Rattle.model.specs.Geometry.{Geometry, glyphHeight, rows, columns, cells, screenBytes}
 use Rattle.model.specs.Memory.{zeros, window, screenOf}
 use Rattle.model.specs.Record.{State}
 use Rattle.model.specs.Glyphs.{Fonts, Store, glyphOf, paint, column, lines, code}
@@ -57,7 +57,7 @@ walk st n text (suc k) s = cond (ltb (s .row) n) (record { spot = s; form = form
 
 -- the screen byte at the top of a row's column
 abbrev pub topOf : ℕ → ℕ → ℕ → ℕ
-topOf st row column = 16 * (st * row) + column
+topOf st row column = glyphHeight * (st * row) + column
 
 -- that of a pair's right half: at a row's end it falls on column 0 below
 abbrev pub rightOf : ℕ → Spot → ℕ
@@ -70,18 +70,18 @@ flagAt flags cell = getD flags cell false
 -- a pair's glyph; the second of two hexadecimal codes stands one byte after the first, also at a row's end
 unfoldable pub glyphStores : ℕ → List Bool → Fonts → Spot → ℕ → ℕ → Glyph → List Store
 glyphStores st flags f s lead trail (Emoji i) =
-    lines st (f .emoji) (topOf st (s .row) (s .column)) (rightOf st s) (32 * i) (flagAt flags (s .cell)) (flagAt flags (s .cell + 1)) 16
+    lines st (f .emoji) (topOf st (s .row) (s .column)) (rightOf st s) (32 * i) (flagAt flags (s .cell)) (flagAt flags (s .cell + 1)) glyphHeight
 glyphStores st flags f s lead trail (Gb i) =
-    lines st (f .gb) (topOf st (s .row) (s .column)) (rightOf st s) (32 * i) (flagAt flags (s .cell)) (flagAt flags (s .cell + 1)) 16
+    lines st (f .gb) (topOf st (s .row) (s .column)) (rightOf st s) (32 * i) (flagAt flags (s .cell)) (flagAt flags (s .cell + 1)) glyphHeight
 glyphStores st flags f s lead trail (Extra i) =
-    lines st (f .extraFont) (topOf st (s .row) (s .column)) (rightOf st s) i (flagAt flags (s .cell)) (flagAt flags (s .cell + 1)) 16
+    lines st (f .extraFont) (topOf st (s .row) (s .column)) (rightOf st s) i (flagAt flags (s .cell)) (flagAt flags (s .cell + 1)) glyphHeight
 glyphStores st flags f s lead trail Hexadecimal =
     code st (f .ascii8) (topOf st (s .row) (s .column)) lead ++ code st (f .ascii8) (topOf st (s .row) (s .column) + 1) trail
 
 -- what is shown at a spot, of byte b and the next one
 unfoldable pub formStores : ℕ → List Bool → ℕ → Fonts → Spot → ℕ → ℕ → Form → List Store
 formStores st flags version f s b trail Blank = []
-formStores st flags version f s b trail Single = column st (f .ascii16) (topOf st (s .row) (s .column)) (16 * b) (flagAt flags (s .cell)) 16
+formStores st flags version f s b trail Single = column st (f .ascii16) (topOf st (s .row) (s .column)) (16 * b) (flagAt flags (s .cell)) glyphHeight
 formStores st flags version f s b trail Pair = glyphStores st flags f s b trail (glyphOf version (f .extraList) b trail)
 formStores st flags version f s b trail Code = code st (f .ascii8) (topOf st (s .row) (s .column)) b
 
