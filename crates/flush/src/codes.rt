@@ -1,10 +1,9 @@
 // Where a pair's glyph stands: emoji, GB, extra list, else hexadecimal codes.
 use model::Found;
 use model::Glyph;
+use record::layout;
 ghost use mathlib.Core.Path.{_≡_};
 ghost use Prim.Native.Nat.{_+_, _-_, _*_, _≤_};
-ghost use lib.ListN.{length};
-ghost use Rattle.model.specs.Record.{two, four};
 ghost use Rattle.model.specs.Codes.{codes, emojiRows, inRow, indexIn, emojiIndex, gbRow, gbIndex, extraOffset};
 ghost use Rattle.model.specs.Glyphs.{glyphOf};
 ghost use Rattle.flush.specs.Choice.{extraGlyph, otherGlyph};
@@ -106,29 +105,6 @@ fn gb_index(lead: u8, trail: u8) -> Found
     Found::Nothing
 }
 
-// Two bytes as a number, least byte first.
-fn pair(low: u8, high: u8) -> usize
-    ensures { λ r. ⌜ (r ≡ low + 256 * high) × (r ≤ 65535) ⌝ }
-{
-    (low as usize) + 256 * (high as usize)
-}
-
-fn load_two(list: &[u8], at: usize) -> usize
-    requires { ⌜ at + 2 ≤ length (now list) ⌝ }
-    ensures { λ r. ⌜ (r ≡ two (now (list .entry)) at) × (r ≤ 65535) ⌝ }
-{
-    pair(list[at], list[at + 1])
-}
-
-fn load_four(list: &[u8], at: usize) -> usize
-    requires { ⌜ at + 4 ≤ length (now list) ⌝ }
-    ensures { λ r. ⌜ r ≡ four (now (list .entry)) at ⌝ }
-{
-    let low = load_two(list, at);
-    let high = load_two(list, at + 2);
-    low + 65536 * high
-}
-
 fn extra_offset(list: &[u8], code: usize) -> Found
     ensures { λ r. ⌜ r ≡ extraOffset (now (list .entry)) code ⌝ }
 {
@@ -136,8 +112,8 @@ fn extra_offset(list: &[u8], code: usize) -> Found
     let mut k: usize = 0;
     let mut at: usize = 0;
     while k < n {
-        if load_two(list, at) == code {
-            return Found::At(load_four(list, at + 2));
+        if (layout::load_two(list, at) as usize) == code {
+            return Found::At(layout::load_four(list, at + 2) as usize);
         }
         at += 6;
         k += 1;

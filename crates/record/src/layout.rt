@@ -28,19 +28,19 @@ fn pair(lo: u8, hi: u8) -> u16
     (lo as u16) + 256 * (hi as u16)
 }
 
-fn load_two(rec: &[u8], at: usize) -> u16
-    requires { ⌜ (length (now rec) ≡ 170) × (at + 2 ≤ 170) ⌝ }
-    ensures { λ r. ⌜ r ≡ two (now (rec .entry)) at ⌝ }
+pub fn load_two(bytes: &[u8], at: usize) -> u16
+    requires { ⌜ at + 2 ≤ length (now bytes) ⌝ }
+    ensures { λ r. ⌜ r ≡ two (now (bytes .entry)) at ⌝ }
 {
-    pair(rec[at], rec[at + 1])
+    pair(bytes[at], bytes[at + 1])
 }
 
-pub fn load_four(rec: &[u8], at: usize) -> u32
-    requires { ⌜ (length (now rec) ≡ 170) × (at + 4 ≤ 170) ⌝ }
-    ensures { λ r. ⌜ r ≡ four (now (rec .entry)) at ⌝ }
+pub fn load_four(bytes: &[u8], at: usize) -> u32
+    requires { ⌜ at + 4 ≤ length (now bytes) ⌝ }
+    ensures { λ r. ⌜ r ≡ four (now (bytes .entry)) at ⌝ }
 {
-    let lo = load_two(rec, at);
-    let hi = load_two(rec, at + 2);
+    let lo = load_two(bytes, at);
+    let hi = load_two(bytes, at + 2);
     (lo as u32) + 65536 * (hi as u32)
 }
 
