@@ -11,7 +11,7 @@ use crate::raster::RasterOp;
 use crate::raster::draw_mask;
 
 // The pixels of x's byte from x on.
-fn start_mask(x: usize) -> u8
+pub fn start_mask(x: usize) -> u8
     ensures { λ r. ⌜ r ≡ startMask x ⌝ }
 {
     let k = (x % 8) as u8;
@@ -19,7 +19,7 @@ fn start_mask(x: usize) -> u8
 }
 
 // The pixels of x's byte up to x.
-fn end_mask(x: usize) -> u8
+pub fn end_mask(x: usize) -> u8
     ensures { λ r. ⌜ r ≡ endMask x ⌝ }
 {
     let k = (x % 8) as u8;

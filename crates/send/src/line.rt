@@ -1,26 +1,13 @@
 // A line of the screen copied to the panel by bytes: whole bytes, with a mask at each edge.
 use model::Rect;
+use pixels::run::end_mask;
+use pixels::run::start_mask;
 ghost use mathlib.Core.Path.{_≡_};
 ghost use Prim.Native.Nat.{_<_};
 ghost use lib.ListN.{length, getD, set};
-ghost use Rattle.laws.specs.Masks.{startMask, endMask};
 ghost use Rattle.laws.specs.Bytes.{mixed};
 ghost use Rattle.model.specs.Sends.{copyLine};
 ghost use Rattle.send.specs.Line.{Line};
-
-// The mask of the pixels from x on, in the byte of x.
-fn start_mask(x: usize) -> u8
-    ensures { λ r. ⌜ r ≡ startMask x ⌝ }
-{
-    255 >> (x % 8)
-}
-
-// The mask of the pixels up to x, in the byte of x.
-fn end_mask(x: usize) -> u8
-    ensures { λ r. ⌜ r ≡ endMask x ⌝ }
-{
-    !(127 >> (x % 8))
-}
 
 // Copies the masked bits of byte `at`; its other bits stay.
 fn copy_masked(screen: &[u8], panel: &mut [u8], at: usize, mask: u8)
