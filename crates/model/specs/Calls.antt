@@ -1,6 +1,6 @@
 -- The exported calls: for each its refusals in testing order, and what it answers and leaves. Every exported contract cites `outcome`.
 use mathlib.Core.Bool.{Bool, true, cond, _&&_}
-use mathlib.Core.List.{List, [], _∷_}
+use mathlib.Core.List.{List, [], _∷_, _++_}
 use Prim.Native.Nat.{ℕ, zero, suc, _%_}
 use lib.Dec.{leb, ltb, eqb}
 use lib.IntN.{ℤ}
@@ -11,12 +11,12 @@ use Rattle.model.specs.declared.Area.{Area}
 use Rattle.model.specs.declared.Sent.{Sent}
 use Rattle.model.specs.Geometry.{Geometry, height, rows, columns, screenBytes, memoryBytes}
 use Rattle.model.specs.Rects.{Rect, none}
-use Rattle.model.specs.Memory.{zeros, window, screenOf, withScreen}
-use Rattle.model.specs.Record.{State, decode, encode, valid, windows, recordBytes, withHead, withPending}
+use Rattle.model.specs.Memory.{window, screenOf, withScreen}
+use Rattle.model.specs.Record.{State, decode, encode, valid, windows, recordBytes, panelOf, withHead, withPanel}
 use Rattle.model.specs.Refusals.{LENT, STATE, WINDOW, VALUE, SOURCE, RADIUS, GLYPH, ENDLESS, Test, test, refusal, ruled}
 use Rattle.model.specs.Marks.{Drawing, whole, drawnOn, marked, withDirty}
 use Rattle.model.specs.Open.{clearMemory, openState, resetState}
-use Rattle.model.specs.Points.{drawMode, point, checkPoint}
+use Rattle.model.specs.Points.{drawMode, point, isSet}
 use Rattle.model.specs.Lines.{line}
 use Rattle.model.specs.Boxes.{box}
 use Rattle.model.specs.Ellipses.{ellipse, circle, radiiFit, stepsFit}
@@ -44,7 +44,7 @@ pub data Call : Type 0 where
   drawCircle : ℕ → ℕ → ℕ → ℕ → ℕ → Call
   -- x, y, the two radii, fill, mode
   drawEllipse : ℕ → ℕ → ℕ → ℕ → ℕ → ℕ → Call
-  checkPixel : ℤ → ℤ → Call
+  checkPoint : ℤ → ℤ → Call
   -- address, x, y, width, height, mode
   paintBitmap : ℕ → ℤ → ℤ → ℕ → ℕ → ℕ → Call
   -- the text's bytes
@@ -93,14 +93,43 @@ areaNumbers a = a .left ∷ a .top ∷ a .right ∷ a .bottom ∷ []
 abbrev pub sentNumbers : Sent → List ℕ
 sentNumbers s = s .sent ∷ s .line ∷ s .left ∷ s .right ∷ []
 
--- ---- refusals
+-- ---- what a call is lent
 
--- LENT: the record has its length, and so have the other lent buffers
-abbrev pub lentTest : Geometry → List ℕ → Bool → Test
-lentTest g r others = test LENT (eqb (length r) (recordBytes g) && others)
+-- the record, to be written anew; the record alone; record and memory; with them the fonts, whose extra list is tested; with them the panel
+pub data Lending : Type 0 where
+  to-open : Lending
+  record-only : Lending
+  with-memory : Lending
+  with-fonts : Fonts → Lending
+  with-panel : Lending
 
-abbrev pub stateTest : Geometry → List ℕ → Test
-stateTest g r = test STATE (valid g r)
+abbrev pub takes : Call → Lending
+takes (opening graphics text version keys) = to-open
+takes reset = with-memory
+takes (drawPoint x y mode) = with-memory
+takes (drawLine x1 y1 x2 y2 mode) = with-memory
+takes (drawBox x1 y1 x2 y2 fill mode) = with-memory
+takes (drawCircle x y r fill mode) = with-memory
+takes (drawEllipse x y rx ry fill mode) = with-memory
+takes (checkPoint x y) = with-memory
+takes (paintBitmap a x y w n mode) = with-memory
+takes (print bs) = with-memory
+takes newline = with-memory
+takes cls = with-memory
+takes (writeByte a v) = with-memory
+takes (flush f) = with-fonts f
+takes getRow = record-only
+takes getColumn = record-only
+takes (setRow n) = record-only
+takes (setColumn n) = record-only
+takes (setScreenMode n) = with-memory
+takes (setPrintMode n) = record-only
+takes blinkCursor = with-memory
+takes clearCursor = with-memory
+takes takeDirtyArea = record-only
+takes send = with-panel
+
+-- ---- refusals: LENT, STATE, then the call's own tests
 
 abbrev pub memoryFits : Lent → Bool
 memoryFits l = eqb (length (l .memory)) memoryBytes
@@ -112,6 +141,29 @@ panelFits g l = eqb (length (l .panel)) (screenBytes g)
 abbrev pub listFits : Fonts → Bool
 listFits f = eqb (length (f .extraList) % 6) 0
 
+-- what is lent beside the record has its length
+abbrev pub lengthsFit : Geometry → Lending → Lent → Bool
+lengthsFit g to-open l = memoryFits l
+lengthsFit g record-only l = true
+lengthsFit g with-memory l = memoryFits l
+lengthsFit g (with-fonts f) l = memoryFits l && listFits f
+lengthsFit g with-panel l = memoryFits l && panelFits g l
+
+-- LENT: the record has its length, and so has what is lent beside it
+abbrev pub lentTest : Geometry → List ℕ → Bool → Test
+lentTest g r others = test LENT (eqb (length r) (recordBytes g) && others)
+
+abbrev pub stateTest : Geometry → List ℕ → Test
+stateTest g r = test STATE (valid g r)
+
+-- open doesn't read the old record
+abbrev pub stateTests : Geometry → Lending → Lent → List Test
+stateTests g to-open l = []
+stateTests g record-only l = stateTest g (l .rec) ∷ []
+stateTests g with-memory l = stateTest g (l .rec) ∷ []
+stateTests g (with-fonts f) l = stateTest g (l .rec) ∷ []
+stateTests g with-panel l = stateTest g (l .rec) ∷ []
+
 -- the fill flag and the draw mode are listed
 abbrev pub fillFits : ℕ → ℕ → Bool
 fillFits fill mode = leb fill 1 && leb mode 3
@@ -121,44 +173,42 @@ abbrev pub filled : ℕ → Bool
 filled n = eqb n 1
 
 -- RADIUS and ENDLESS come after the two early returns of an ellipse
-abbrev pub ellipseTests : Geometry → ℕ → ℕ → ℕ → ℕ → Lent → List Test
-ellipseTests g rx ry fill mode l =
-    lentTest g (l .rec) (memoryFits l) ∷ stateTest g (l .rec) ∷ test VALUE (fillFits fill mode) ∷
-    test RADIUS (radiiFit rx ry (filled fill) (drawMode mode)) ∷ test ENDLESS (stepsFit rx ry (filled fill) (drawMode mode)) ∷ []
+abbrev pub ellipseTests : ℕ → ℕ → ℕ → ℕ → List Test
+ellipseTests rx ry fill mode =
+    test VALUE (fillFits fill mode) ∷ test RADIUS (radiiFit rx ry (filled fill) (drawMode mode)) ∷
+    test ENDLESS (stepsFit rx ry (filled fill) (drawMode mode)) ∷ []
+
+abbrev pub ownTests : Geometry → Call → Lent → List Test
+ownTests g (opening graphics text version keys) l = test WINDOW (windows g graphics text) ∷ test VALUE (leb version 1) ∷ []
+ownTests g reset l = []
+ownTests g (drawPoint x y mode) l = test VALUE (leb mode 3) ∷ []
+ownTests g (drawLine x1 y1 x2 y2 mode) l = test VALUE (leb mode 3) ∷ []
+ownTests g (drawBox x1 y1 x2 y2 fill mode) l = test VALUE (fillFits fill mode) ∷ []
+ownTests g (drawCircle x y r fill mode) l = ellipseTests r r fill mode
+ownTests g (drawEllipse x y rx ry fill mode) l = ellipseTests rx ry fill mode
+ownTests g (checkPoint x y) l = []
+ownTests g (paintBitmap a x y w n mode) l = test VALUE (leb mode 4) ∷ test SOURCE (sourceFits a w n) ∷ []
+ownTests g (print bs) l = []
+ownTests g newline l = []
+ownTests g cls l = []
+ownTests g (writeByte a v) l = []
+ownTests g (flush f) l = test GLYPH (fontsFit (flushStores g f (decode g (l .rec)) (l .memory))) ∷ []
+ownTests g getRow l = []
+ownTests g getColumn l = []
+ownTests g (setRow n) l = test VALUE (ltb n (rows g)) ∷ []
+ownTests g (setColumn n) l = test VALUE (ltb n (columns g)) ∷ []
+ownTests g (setScreenMode n) l = test VALUE (leb n 1) ∷ []
+ownTests g (setPrintMode n) l = test VALUE (leb n 2) ∷ []
+ownTests g blinkCursor l = []
+ownTests g clearCursor l = []
+ownTests g takeDirtyArea l = []
+ownTests g send l = []
 
 unfoldable pub refusals : Geometry → Call → Lent → List Test
-refusals g (opening graphics text version keys) l =
-    lentTest g (l .rec) (memoryFits l) ∷ test WINDOW (windows g graphics text) ∷ test VALUE (leb version 1) ∷ []
-refusals g reset l = lentTest g (l .rec) (memoryFits l) ∷ stateTest g (l .rec) ∷ []
-refusals g (drawPoint x y mode) l = lentTest g (l .rec) (memoryFits l) ∷ stateTest g (l .rec) ∷ test VALUE (leb mode 3) ∷ []
-refusals g (drawLine x1 y1 x2 y2 mode) l = lentTest g (l .rec) (memoryFits l) ∷ stateTest g (l .rec) ∷ test VALUE (leb mode 3) ∷ []
-refusals g (drawBox x1 y1 x2 y2 fill mode) l =
-    lentTest g (l .rec) (memoryFits l) ∷ stateTest g (l .rec) ∷ test VALUE (fillFits fill mode) ∷ []
-refusals g (drawCircle x y r fill mode) l = ellipseTests g r r fill mode l
-refusals g (drawEllipse x y rx ry fill mode) l = ellipseTests g rx ry fill mode l
-refusals g (checkPixel x y) l = lentTest g (l .rec) (memoryFits l) ∷ stateTest g (l .rec) ∷ []
-refusals g (paintBitmap a x y w n mode) l =
-    lentTest g (l .rec) (memoryFits l) ∷ stateTest g (l .rec) ∷ test VALUE (leb mode 4) ∷ test SOURCE (sourceFits a w n) ∷ []
-refusals g (print bs) l = lentTest g (l .rec) (memoryFits l) ∷ stateTest g (l .rec) ∷ []
-refusals g newline l = lentTest g (l .rec) (memoryFits l) ∷ stateTest g (l .rec) ∷ []
-refusals g cls l = lentTest g (l .rec) (memoryFits l) ∷ stateTest g (l .rec) ∷ []
-refusals g (writeByte a v) l = lentTest g (l .rec) (memoryFits l) ∷ stateTest g (l .rec) ∷ []
-refusals g (flush f) l =
-    lentTest g (l .rec) (memoryFits l && listFits f) ∷ stateTest g (l .rec) ∷
-    test GLYPH (fontsFit (flushStores g f (decode g (l .rec)) (l .memory))) ∷ []
-refusals g getRow l = lentTest g (l .rec) true ∷ stateTest g (l .rec) ∷ []
-refusals g getColumn l = lentTest g (l .rec) true ∷ stateTest g (l .rec) ∷ []
-refusals g (setRow n) l = lentTest g (l .rec) true ∷ stateTest g (l .rec) ∷ test VALUE (ltb n (rows g)) ∷ []
-refusals g (setColumn n) l = lentTest g (l .rec) true ∷ stateTest g (l .rec) ∷ test VALUE (ltb n (columns g)) ∷ []
-refusals g (setScreenMode n) l = lentTest g (l .rec) (memoryFits l) ∷ stateTest g (l .rec) ∷ test VALUE (leb n 1) ∷ []
-refusals g (setPrintMode n) l = lentTest g (l .rec) true ∷ stateTest g (l .rec) ∷ test VALUE (leb n 2) ∷ []
-refusals g blinkCursor l = lentTest g (l .rec) (memoryFits l) ∷ stateTest g (l .rec) ∷ []
-refusals g clearCursor l = lentTest g (l .rec) (memoryFits l) ∷ stateTest g (l .rec) ∷ []
-refusals g takeDirtyArea l = lentTest g (l .rec) true ∷ stateTest g (l .rec) ∷ []
-refusals g send l = lentTest g (l .rec) (memoryFits l && panelFits g l) ∷ stateTest g (l .rec) ∷ []
+refusals g c l = lentTest g (l .rec) (lengthsFit g (takes c) l) ∷ (stateTests g (takes c) l ++ ownTests g c l)
 
 -- how many numbers stand beside the code in a call's result
-unfoldable pub numbers : Call → ℕ
+abbrev pub numbers : Call → ℕ
 numbers (opening graphics text version keys) = 0
 numbers reset = 0
 numbers (drawPoint x y mode) = 0
@@ -166,7 +216,7 @@ numbers (drawLine x1 y1 x2 y2 mode) = 0
 numbers (drawBox x1 y1 x2 y2 fill mode) = 0
 numbers (drawCircle x y r fill mode) = 0
 numbers (drawEllipse x y rx ry fill mode) = 0
-numbers (checkPixel x y) = 1
+numbers (checkPoint x y) = 1
 numbers (paintBitmap a x y w n mode) = 0
 numbers (print bs) = 0
 numbers newline = 0
@@ -191,22 +241,22 @@ unfoldable pub drawingWith : Geometry → (Head → Head) → Drawing → Lent �
 drawingWith g f d l =
     let s = decode g (l .rec) in
     let o = drawnOn (g .stride) (height g) d (screenOf g (s .head .graphics) (l .memory)) in
-    lent (encode (marked g (o .dirty) (o .owed) (withHead (f (s .head)) s))) (withScreen (s .head .graphics) (o .screen) (l .memory)) (l .panel)
+    lent (encode g (marked g (o .dirty) (o .owed) (withHead (f (s .head)) s))) (withScreen (s .head .graphics) (o .screen) (l .memory)) (l .panel)
 
 abbrev pub drawing : Geometry → Drawing → Lent → Lent
 drawing g d l = drawingWith g (λ h. h) d l
 
 -- the head alone changes
 unfoldable pub changed : Geometry → (Head → Head) → Lent → Lent
-changed g f l = let s = decode g (l .rec) in lent (encode (withHead (f (s .head)) s)) (l .memory) (l .panel)
+changed g f l = let s = decode g (l .rec) in lent (encode g (withHead (f (s .head)) s)) (l .memory) (l .panel)
 
 -- `cls`, with the screen mode n
 unfoldable pub cleared : Geometry → ℕ → Lent → Lent
-cleared g n l = let s = decode g (l .rec) in lent (encode (clearedState g n s)) (clearedMemory g (s .head) (l .memory)) (l .panel)
+cleared g n l = let s = decode g (l .rec) in lent (encode g (clearedState g n s)) (clearedMemory g (s .head) (l .memory)) (l .panel)
 
 -- the page p takes the place of the old one
 unfoldable pub withPage : Geometry → Page → Lent → Lent
-withPage g p l = let s = decode g (l .rec) in lent (encode (stateWithPage g p s)) (memoryWithPage g p (s .head) (l .memory)) (l .panel)
+withPage g p l = let s = decode g (l .rec) in lent (encode g (stateWithPage g p s)) (memoryWithPage g p (s .head) (l .memory)) (l .panel)
 
 -- in Graph a blink does nothing
 unfoldable pub blinked : Geometry → Lent → Lent
@@ -228,17 +278,17 @@ rectNumbers q = q .left ∷ q .top ∷ q .right ∷ q .bottom ∷ []
 
 unfoldable pub done : Geometry → Call → Lent → Outcome
 done g (opening graphics text version keys) l =
-    answered 0 [] (lent (encode (openState g graphics text version keys)) (clearMemory keys) (l .panel))
+    answered 0 [] (lent (encode g (openState g graphics text version keys)) (clearMemory keys) (l .panel))
 done g reset l =
     let s = decode g (l .rec) in
-    answered 0 [] (lent (encode (resetState g s)) (clearMemory (s .keys)) (l .panel))
+    answered 0 [] (lent (encode g (resetState g s)) (clearMemory (s .keys)) (l .panel))
 done g (drawPoint x y mode) l = answered 0 [] (drawing g (point (g .stride) (height g) x y (drawMode mode)) l)
 done g (drawLine x1 y1 x2 y2 mode) l = answered 0 [] (drawing g (line (g .stride) (height g) x1 y1 x2 y2 (drawMode mode)) l)
 done g (drawBox x1 y1 x2 y2 fill mode) l = answered 0 [] (drawing g (box (g .stride) (height g) x1 y1 x2 y2 (filled fill) (drawMode mode)) l)
 done g (drawCircle x y r fill mode) l = answered 0 [] (drawing g (circle (g .stride) (height g) x y r (filled fill) (drawMode mode)) l)
 done g (drawEllipse x y rx ry fill mode) l = answered 0 [] (drawing g (ellipse (g .stride) (height g) x y rx ry (filled fill) (drawMode mode)) l)
-done g (checkPixel x y) l =
-    answered 0 (flag (checkPoint (g .stride) (height g) (screenOf g (decode g (l .rec) .head .graphics) (l .memory)) x y) ∷ []) l
+done g (checkPoint x y) l =
+    answered 0 (flag (isSet (g .stride) (height g) (screenOf g (decode g (l .rec) .head .graphics) (l .memory)) x y) ∷ []) l
 done g (paintBitmap a x y w n mode) l =
     answered 0 [] (drawing g (bitmap (g .stride) (height g) (window a (sourceBytes w n) (l .memory)) x y w n (paintMode mode)) l)
 done g (print bs) l =
@@ -249,11 +299,11 @@ done g cls l = answered 0 [] (cleared g (decode g (l .rec) .head .screen) l)
 done g (writeByte a v) l =
     let s = decode g (l .rec) in
     let m = pokeMark g (s .keys) (s .head .graphics) a in
-    answered 0 [] (lent (encode (marked g m m s)) (poked (s .keys) a v (l .memory)) (l .panel))
+    answered 0 [] (lent (encode g (marked g m m s)) (poked (s .keys) a v (l .memory)) (l .panel))
 done g (flush f) l =
     let s = decode g (l .rec) in
     let m = whole (g .stride) (height g) in
-    answered 0 [] (lent (encode (marked g m m s)) (withScreen (s .head .graphics) (flushed g f s (l .memory)) (l .memory)) (l .panel))
+    answered 0 [] (lent (encode g (marked g m m s)) (withScreen (s .head .graphics) (flushed g f s (l .memory)) (l .memory)) (l .panel))
 done g getRow l = answered 0 (decode g (l .rec) .head .row ∷ []) l
 done g getColumn l = answered 0 (decode g (l .rec) .head .column ∷ []) l
 done g (setRow n) l = answered 0 [] (changed g (withRow n) l)
@@ -265,14 +315,18 @@ done g clearCursor l = answered 0 [] (cursorCleared g l)
 done g takeDirtyArea l = answered 0 (rectNumbers (decode g (l .rec) .head .dirty)) (changed g (withDirty none) l)
 done g send l =
     let s = decode g (l .rec) in
-    answered 0 (sendNumbers (s .pending))
-    (lent (encode (withPending (sendPending (s .pending)) s)) (l .memory)
-    (sendPanel (g .stride) (s .pending) (screenOf g (s .head .graphics) (l .memory)) (l .panel)))
+    let p = panelOf g s 0 in
+    answered 0 (sendNumbers p)
+    (lent (encode g (withPanel 0 (sendPending p) s)) (l .memory) (sendPanel (g .stride) p (screenOf g (s .head .graphics) (l .memory)) (l .panel)))
 
 -- ---- the outcome on every input: a refusal leaves all bytes, and its other numbers are 0
 
+abbrev pub nought : ℕ → List ℕ
+nought zero = []
+nought (suc n) = 0 ∷ nought n
+
 unfoldable pub refused : Call → Lent → ℕ → Outcome
-refused c l k = answered k (zeros (numbers c)) l
+refused c l k = answered k (nought (numbers c)) l
 
 unfoldable pub outcome : Geometry → Call → Lent → Outcome
 outcome g c l = ruled (refusal (refusals g c l)) (refused c l) (done g c l)

@@ -7,7 +7,7 @@ use lib.ListN.{length}
 use Rattle.model.specs.declared.Found.{Found}
 use Rattle.model.specs.declared.Found.the-variants.{At, Nothing}
 use Rattle.model.specs.Rects.{every}
-use Rattle.model.specs.Record.{two, four}
+use Rattle.model.specs.Bytes.{two, four}
 
 -- ---- emoji
 

@@ -1,15 +1,17 @@
--- The glass. Document 01's glass is `base`; definitions and laws take the geometry as a parameter.
+-- The glass and its panels. Document 01's glass is `base`; definitions and laws take the geometry as a parameter.
 use Prim.Native.Nat.{ℕ, _*_, _/_}
 
 -- A line is `stride` bytes. The lines fall into `bands` bands of `band` lines each, top to bottom: what is owed is kept by bands, and one band is the whole screen.
+-- `panels` panels are sent to, each by itself.
 pub record Geometry : Type 0 where
   pub stride : ℕ
   pub bands : ℕ
   pub band : ℕ
+  pub panels : ℕ
 
--- 160 by 80, one band
+-- 160 by 80, one band, one panel
 abbrev pub base : Geometry
-base = record { stride = 20; bands = 1; band = 80 }
+base = record { stride = 20; bands = 1; band = 80; panels = 1 }
 
 -- the screen in pixels, and in bytes
 abbrev pub width : Geometry → ℕ

@@ -1,10 +1,13 @@
--- Document 01 as definitions, in its order. Geometry, Bits, Pixels, Rects and Memory are its terms; the other files are its sections.
+-- Document 01 as definitions, in its order. Geometry, Bits, Pixels, Rects, Memory and Bytes are its terms; the other files are its sections.
 pub mod Geometry
 pub mod Bits
 pub mod Pixels
 pub mod Rects
 pub mod Memory
+pub mod Bytes
+pub mod Flags
 pub mod Record
+pub mod Glass
 pub mod Refusals
 pub mod Marks
 pub mod Open

@@ -4,12 +4,12 @@ use mathlib.Core.List.{List, [], _∷_}
 use mathlib.Core.Logic.{_≢_, _⊎_}
 use mathlib.Core.Path.{_≡_}
 use Prim.Native.Nat.{ℕ, zero, suc, _+_, _<_}
-use Rattle.model.specs.declared.Pending.{Pending}
 use lib.Dec.{eqb}
 use Rattle.model.specs.Geometry.{Geometry, width, height, rows, columns}
 use Rattle.model.specs.Pixels.{bit, seen}
 use Rattle.model.specs.Rects.{Rect, In, linesOf}
-use Rattle.model.specs.Record.{Bytes, Words, decode}
+use Rattle.model.specs.Record.{Pending, decode}
+use Rattle.model.specs.Bytes.{Bytes, Words}
 use Rattle.model.specs.Refusals.{refusal}
 use Rattle.model.specs.Marks.{Drawing, whole, owing, owes}
 use Rattle.model.specs.Open.{openPending}
@@ -21,7 +21,7 @@ use Rattle.model.specs.Bitmaps.{paintMode, sourceBytes, bitmap}
 use Rattle.model.specs.Memory.{window}
 use Rattle.model.specs.Poke.{pokeMark}
 use Rattle.model.specs.Sends.{sendPending}
-use Rattle.model.specs.Calls.{Call, opening, reset, drawPoint, drawLine, drawBox, drawCircle, drawEllipse, checkPixel, paintBitmap, writeByte, flush, getRow, getColumn, setRow, setColumn, setPrintMode, takeDirtyArea, send, Lent, Outcome, filled, refusals, outcome, print, newline, cls, setScreenMode, blinkCursor, clearCursor}
+use Rattle.model.specs.Calls.{Call, opening, reset, drawPoint, drawLine, drawBox, drawCircle, drawEllipse, checkPoint, paintBitmap, writeByte, flush, getRow, getColumn, setRow, setColumn, setPrintMode, takeDirtyArea, send, Lent, Outcome, filled, refusals, outcome, print, newline, cls, setScreenMode, blinkCursor, clearCursor}
 use Rattle.model.specs.Print.{Page, newlineOn, isInverse, printOn, pageOf, screenScrolls, scrollMark}
 use Rattle.model.specs.Cursor.{blinkDrawing}
 use lib.ListN.{length}
@@ -40,7 +40,7 @@ Typed (drawLine x1 y1 x2 y2 mode) = (x1 < 256) × (y1 < 256) × (x2 < 256) × (y
 Typed (drawBox x1 y1 x2 y2 fill mode) = (x1 < 256) × (y1 < 256) × (x2 < 256) × (y2 < 256) × (fill < 256) × (mode < 256)
 Typed (drawCircle x y r fill mode) = (x < 256) × (y < 256) × (r < 256) × (fill < 256) × (mode < 256)
 Typed (drawEllipse x y rx ry fill mode) = (x < 256) × (y < 256) × (rx < 256) × (ry < 256) × (fill < 256) × (mode < 256)
-Typed (checkPixel x y) = Unit {0}
+Typed (checkPoint x y) = Unit {0}
 Typed (paintBitmap a x y w n mode) = (a < 65536) × (w < 256) × (n < 256) × (mode < 256)
 Typed (print bs) = Bytes bs
 Typed newline = Unit {0}
@@ -87,7 +87,7 @@ draws g d = marks (owes (g .stride) (height g) (d .owed) (seen (g .stride) (heig
 
 -- a page that has scrolled in Graph
 abbrev pub prints : Geometry → Page → Lent → Effect
-prints g p l = marks (scrollMark g (screenScrolls (decode g (l .rec) .head .screen) (p .scrolls)))
+prints g p l = marks (scrollMark (g .stride) (height g) (screenScrolls (decode g (l .rec) .head .screen) (p .scrolls)))
 
 -- a blink in Text
 unfoldable pub blinks : Geometry → Lent → Effect
@@ -104,7 +104,7 @@ effect g (drawLine x1 y1 x2 y2 mode) l = draws g (line (g .stride) (height g) x1
 effect g (drawBox x1 y1 x2 y2 fill mode) l = draws g (box (g .stride) (height g) x1 y1 x2 y2 (filled fill) (drawMode mode))
 effect g (drawCircle x y r fill mode) l = draws g (circle (g .stride) (height g) x y r (filled fill) (drawMode mode))
 effect g (drawEllipse x y rx ry fill mode) l = draws g (ellipse (g .stride) (height g) x y rx ry (filled fill) (drawMode mode))
-effect g (checkPixel x y) l = nothing
+effect g (checkPoint x y) l = nothing
 effect g (paintBitmap a x y w n mode) l =
     draws g (bitmap (g .stride) (height g) (window a (sourceBytes w n) (l .memory)) x y w n (paintMode mode))
 effect g (print bs) l =

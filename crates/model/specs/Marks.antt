@@ -1,14 +1,13 @@
--- Marks: what a call adds to dirty, and what it owes.
+-- Marks: what a call adds to dirty, and what each panel is owed for it.
 use mathlib.Core.Bool.{Bool, true, cond, _&&_}
-use mathlib.Core.List.{List, [], _∷_}
+use mathlib.Core.List.{List, [], _∷_, map}
 use Prim.Native.Nat.{ℕ, _+_, _*_}
 use Rattle.model.specs.declared.Head.{Head}
-use Rattle.model.specs.declared.Pending.{Pending}
 use Rattle.model.specs.Geometry.{Geometry, width}
 use Rattle.model.specs.declared.Marks.{Marks}
 use Rattle.model.specs.Pixels.{PixelWrite, draw, seen}
 use Rattle.model.specs.Rects.{Rect, inside, join, cut}
-use Rattle.model.specs.Record.{State}
+use Rattle.model.specs.Record.{Pending, State, withHead, withPanels}
 
 abbrev pub whole : ℕ → ℕ → Rect
 whole st h = record { left = 0; top = 0; right = 8 * st; bottom = h }
@@ -51,10 +50,10 @@ within r (w ∷ ws) = inside r (w .x) (w .y) && within r ws
 unfoldable pub owes : ℕ → ℕ → Rect → List PixelWrite → Rect
 owes st h m ws = cond (within m ws) m (whole st h)
 
--- ---- a state marked
+-- ---- a state marked: dirty in the head, and what is owed to each panel
 
 unfoldable pub marked : Geometry → Rect → Rect → State → State
-marked g dirty owed s = record { head = updateDirty dirty (s .head); pending = owing g owed (s .pending); keys = s .keys; flags = s .flags }
+marked g dirty owed s = withHead (updateDirty dirty (s .head)) (withPanels (map (owing g owed) (s .panels)) s)
 
 -- A drawing: its pixel writes in their order, those off the screen too, which draw nothing; the dirty rectangle that it marks, empty where it marks
 -- nothing; and what it owes for that, lowered where document 01 lowers it.

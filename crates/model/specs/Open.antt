@@ -1,16 +1,15 @@
 -- Open and reset: what `new` and `reset` of the reference do.
 use mathlib.Core.Bool.{Bool, false, cond, _&&_}
-use mathlib.Core.List.{List}
+use mathlib.Core.List.{List, map}
 use Prim.Native.Nat.{ℕ, zero, suc, _/_, _%_}
 use lib.Dec.{ltb}
 use lib.ListN.{getD, set, replicate}
 use Rattle.model.specs.declared.Head.{Head}
-use Rattle.model.specs.declared.Pending.{Pending}
 use Rattle.model.specs.Geometry.{Geometry, height, cells, memoryBytes}
 use Rattle.model.specs.Bits.{bitAt}
 use Rattle.model.specs.Rects.{none}
 use Rattle.model.specs.Memory.{zeros}
-use Rattle.model.specs.Record.{State}
+use Rattle.model.specs.Record.{Pending, State, nothingPending}
 use Rattle.model.specs.Marks.{whole, owing}
 
 -- a is a key address: bit a mod 32 of word a div 32
@@ -43,10 +42,6 @@ clearHead graphics text version = record {
 abbrev pub clearFlags : Geometry → List Bool
 clearFlags g = replicate (cells g) false
 
--- nothing owed, nothing in hand, nothing sent
-unfoldable pub nothingPending : Geometry → Pending
-nothingPending g = record { owed = replicate (g .bands) none; hand = none; sent = 0 }
-
 -- nothing in hand, nothing sent, the whole screen owed
 unfoldable pub openPending : Geometry → Pending
 openPending g = owing g (whole (g .stride) (height g)) (nothingPending g)
@@ -54,16 +49,16 @@ openPending g = owing g (whole (g .stride) (height g)) (nothingPending g)
 unfoldable pub openState : Geometry → ℕ → ℕ → ℕ → List ℕ → State
 openState g graphics text version keys = record {
   head = clearHead graphics text version;
-  pending = openPending g;
+  panels = replicate (g .panels) (openPending g);
   keys = keys;
   flags = clearFlags g;
 }
 
--- bases, version, keys, the rectangle in hand and lines sent are kept; the whole screen is owed
+-- bases, version, keys, each panel's rectangle in hand and lines sent are kept; the whole screen is owed to each
 unfoldable pub resetState : Geometry → State → State
 resetState g s = record {
   head = clearHead (s .head .graphics) (s .head .text) (s .head .version);
-  pending = owing g (whole (g .stride) (height g)) (s .pending);
+  panels = map (owing g (whole (g .stride) (height g))) (s .panels);
   keys = s .keys;
   flags = clearFlags g;
 }

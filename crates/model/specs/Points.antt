@@ -37,7 +37,7 @@ unfoldable pub point : ℕ → ℕ → ℕ → ℕ → DrawMode → Drawing
 point st h x y d = record { writes = pointWrite x y d ∷ []; dirty = pointRect st h x y; owed = pointRect st h x y }
 
 -- whether the pixel is set: no off screen, for every signed pair
-unfoldable pub checkPoint : ℕ → ℕ → List ℕ → ℤ → ℤ → Bool
-checkPoint st h s (pos x) (pos y) = onScreen st h x y && bit st s x y
-checkPoint st h s (pos x) (negsuc y) = false
-checkPoint st h s (negsuc x) y = false
+unfoldable pub isSet : ℕ → ℕ → List ℕ → ℤ → ℤ → Bool
+isSet st h s (pos x) (pos y) = onScreen st h x y && bit st s x y
+isSet st h s (pos x) (negsuc y) = false
+isSet st h s (negsuc x) y = false

@@ -9,7 +9,7 @@ use Rattle.model.specs.declared.Rect.{Rect}
 use Rattle.model.specs.Geometry.{Geometry, height, rowBytes}
 use Rattle.model.specs.Rects.{none}
 use Rattle.model.specs.Memory.{screenOf, withScreen, textOf, withText}
-use Rattle.model.specs.Record.{State}
+use Rattle.model.specs.Record.{State, withHead, withFlags}
 use Rattle.model.specs.Marks.{whole, marked}
 use Rattle.model.specs.Text.{atPlace}
 
@@ -125,13 +125,13 @@ unfoldable pub screenScrolls : ℕ → ℕ → ℕ
 screenScrolls mode n = cond (eqb mode 1) n 0
 
 -- each scroll in Graph owes the whole screen, and marks nothing
-unfoldable pub scrollMark : Geometry → ℕ → Rect
-scrollMark g n = cond (eqb n 0) none (whole (g .stride) (height g))
+unfoldable pub scrollMark : ℕ → ℕ → ℕ → Rect
+scrollMark st h n = cond (eqb n 0) none (whole st h)
 
 unfoldable pub stateWithPage : Geometry → Page → State → State
 stateWithPage g p s =
-    marked g none (scrollMark g (screenScrolls (s .head .screen) (p .scrolls)))
-    (record { head = atPlace (p .row) (p .column) (s .head); pending = s .pending; keys = s .keys; flags = p .flags })
+    marked g none (scrollMark (g .stride) (height g) (screenScrolls (s .head .screen) (p .scrolls)))
+    (withHead (atPlace (p .row) (p .column) (s .head)) (withFlags (p .flags) s))
 
 unfoldable pub scrolledMemory : Geometry → ℕ → ℕ → List ℕ → List ℕ
 scrolledMemory g graphics n m = withScreen graphics (scrolledTimes n (rowBytes g) (screenOf g graphics m)) m

@@ -1,62 +1,64 @@
--- The record: its fields, the bytes of each, least byte first, and what STATE asks of them. No other file knows an offset.
-use mathlib.Core.Bool.{Bool, true, cond, _&&_, _||_}
-use mathlib.Core.List.{List, [], _∷_, _++_, map}
+-- The record: a list of parts, in the order in which they stand. Each part has its size, its reader, its writer and its STATE test; where a part begins, the
+-- record's length, `decode`, `encode` and `valid` follow from the list. No other file knows an offset.
+use mathlib.Core.Bool.{Bool, true, false, cond, _&&_, _||_, not}
+use mathlib.Core.List.{List, [], _∷_, _++_}
+use Prim.Native.Nat.{ℕ, zero, suc, _+_, _-_, _*_, _<_}
 use mathlib.Core.Path.{_≡_}
-use Prim.Native.Nat.{ℕ, zero, suc, _+_, _-_, _*_, _/_, _%_, _<_}
 use lib.Dec.{leb, ltb, eqb}
-use lib.ListN.{length, getD, take, drop}
+use lib.ListN.{length, getD, set, replicate}
 use Rattle.model.specs.declared.Head.{Head}
-use Rattle.model.specs.declared.Pending.{Pending}
 use Rattle.model.specs.Geometry.{Geometry, width, height, screenBytes, rows, columns, cells}
-use Rattle.model.specs.Rects.{Rect, every, fits}
+use Rattle.model.specs.Memory.{window}
+use Rattle.model.specs.Rects.{Rect, none, every, fits}
+use Rattle.model.specs.Bytes.{two, four, rectAt, rectsAt, wordsAt, twoBytes, fourBytes, rectBytes, rectsBytes, wordsBytes, Words}
+use Rattle.model.specs.Flags.{flagBytes, flagsIn, bytesOfFlags, flagsFit}
+
+-- what one panel has still to be sent: the owed area, a rectangle for each band, the rectangle in hand and the count of lines sent
+pub record Pending : Type 0 where
+  pub owed : List Rect
+  pub hand : Rect
+  pub sent : ℕ
 
 -- what the bytes of a record mean
 pub record State : Type 0 where
   pub head : Head
-  pub pending : Pending
+  -- one for each panel
+  pub panels : List Pending
   -- eight words of 32 bits
   pub keys : List ℕ
+  -- one for each text cell
   pub flags : List Bool
 
--- ---- where each part begins
+-- ---- the parts, and the order in which they stand
 
-abbrev pub dirtyAt : ℕ
-dirtyAt = 10
+pub data Part : Type 0 where
+  -- bases, row, column, modes, cursor, version, dirty
+  head : Part
+  -- owed, in hand and lines sent of a panel
+  panel : ℕ → Part
+  keys : Part
+  flags : Part
 
-abbrev pub pendingAt : ℕ
-pendingAt = 18
+-- n panels, the first of them k
+abbrev pub panelsFrom : ℕ → ℕ → List Part
+panelsFrom k zero = []
+panelsFrom k (suc n) = panel k ∷ panelsFrom (suc k) n
 
--- owed, in hand and lines sent
+abbrev pub layout : Geometry → List Part
+layout g = head ∷ panel 0 ∷ keys ∷ flags ∷ panelsFrom 1 (g .panels - 1)
+
+-- ---- sizes
+
 abbrev pub pendingBytes : Geometry → ℕ
 pendingBytes g = 8 * g .bands + 12
 
-abbrev pub keysAt : Geometry → ℕ
-keysAt g = pendingAt + pendingBytes g
+abbrev pub size : Geometry → Part → ℕ
+size g head = 18
+size g (panel k) = pendingBytes g
+size g keys = 32
+size g flags = flagBytes (cells g)
 
-abbrev pub flagsAt : Geometry → ℕ
-flagsAt g = keysAt g + 32
-
-abbrev pub recordBytes : Geometry → ℕ
-recordBytes g = flagsAt g + cells g
-
--- ---- bytes to fields
-
-abbrev pub two : List ℕ → ℕ → ℕ
-two r i = getD r i 0 + 256 * getD r (i + 1) 0
-
-abbrev pub four : List ℕ → ℕ → ℕ
-four r i = two r i + 65536 * two r (i + 2)
-
-abbrev pub rectAt : List ℕ → ℕ → Rect
-rectAt r i = record { left = two r i; top = two r (i + 2); right = two r (i + 4); bottom = two r (i + 6) }
-
-abbrev pub rectsAt : ℕ → List ℕ → ℕ → List Rect
-rectsAt zero r i = []
-rectsAt (suc n) r i = rectAt r i ∷ rectsAt n r (i + 8)
-
-abbrev pub wordsAt : ℕ → List ℕ → ℕ → List ℕ
-wordsAt zero r i = []
-wordsAt (suc n) r i = four r i ∷ wordsAt n r (i + 4)
+-- ---- readers: the bytes of a part to its fields
 
 abbrev pub headOf : List ℕ → Head
 headOf r = record {
@@ -68,7 +70,7 @@ headOf r = record {
   print = getD r 7 0;
   cursor = getD r 8 0;
   version = getD r 9 0;
-  dirty = rectAt r dirtyAt;
+  dirty = rectAt r 10;
 }
 
 -- the pending part that begins at byte i
@@ -79,38 +81,10 @@ pendingOf g r i = record {
   sent = four r (i + 8 * g .bands + 8);
 }
 
-abbrev pub flagOf : ℕ → Bool
-flagOf b = eqb b 1
+abbrev pub keysOf : List ℕ → List ℕ
+keysOf r = wordsAt 8 r 0
 
-unfoldable pub decode : Geometry → List ℕ → State
-decode g r = record {
-  head = headOf r;
-  pending = pendingOf g r pendingAt;
-  keys = wordsAt 8 r (keysAt g);
-  flags = map flagOf (take (cells g) (drop (flagsAt g) r));
-}
-
--- ---- fields to bytes
-
-abbrev pub twoBytes : ℕ → List ℕ
-twoBytes n = n % 256 ∷ n / 256 % 256 ∷ []
-
-abbrev pub fourBytes : ℕ → List ℕ
-fourBytes n = n % 256 ∷ n / 256 % 256 ∷ n / 65536 % 256 ∷ n / 16777216 % 256 ∷ []
-
-abbrev pub rectBytes : Rect → List ℕ
-rectBytes q = twoBytes (q .left) ++ twoBytes (q .top) ++ twoBytes (q .right) ++ twoBytes (q .bottom)
-
-abbrev pub rectsBytes : List Rect → List ℕ
-rectsBytes [] = []
-rectsBytes (q ∷ qs) = rectBytes q ++ rectsBytes qs
-
-abbrev pub wordsBytes : List ℕ → List ℕ
-wordsBytes [] = []
-wordsBytes (w ∷ ws) = fourBytes w ++ wordsBytes ws
-
-abbrev pub flagByte : Bool → ℕ
-flagByte f = cond f 1 0
+-- ---- writers: the fields of a part to its bytes
 
 abbrev pub bytesOfHead : Head → List ℕ
 bytesOfHead h =
@@ -121,10 +95,20 @@ bytesOfHead h =
 abbrev pub bytesOfPending : Pending → List ℕ
 bytesOfPending p = rectsBytes (p .owed) ++ (rectBytes (p .hand) ++ fourBytes (p .sent))
 
-unfoldable pub encode : State → List ℕ
-encode s = bytesOfHead (s .head) ++ (bytesOfPending (s .pending) ++ (wordsBytes (s .keys) ++ map flagByte (s .flags)))
+-- nothing owed, nothing in hand, nothing sent
+unfoldable pub nothingPending : Geometry → Pending
+nothingPending g = record { owed = replicate (g .bands) none; hand = none; sent = 0 }
 
--- ---- STATE
+abbrev pub panelOf : Geometry → State → ℕ → Pending
+panelOf g s k = getD (s .panels) k (nothingPending g)
+
+unfoldable pub bytesOf : Geometry → State → Part → List ℕ
+bytesOf g s head = bytesOfHead (s .head)
+bytesOf g s (panel k) = bytesOfPending (panelOf g s k)
+bytesOf g s keys = wordsBytes (s .keys)
+bytesOf g s flags = bytesOfFlags (s .flags)
+
+-- ---- tests: what STATE asks of the bytes of a part
 
 -- WINDOW: both windows end before the last byte of memory and share no byte
 abbrev pub windowTests : Geometry → ℕ → ℕ → List Bool
@@ -135,56 +119,130 @@ windowTests g graphics text =
 unfoldable pub windows : Geometry → ℕ → ℕ → Bool
 windows g graphics text = every (windowTests g graphics text)
 
+abbrev pub headTests : Geometry → Head → List Bool
+headTests g h =
+    windows g (h .graphics) (h .text) ∷
+    ltb (h .row) (rows g) ∷ ltb (h .column) (columns g) ∷
+    leb (h .screen) 1 ∷ leb (h .print) 2 ∷ leb (h .cursor) 2 ∷ leb (h .version) 1 ∷
+    fits 256 0 256 (h .dirty) ∷ []
+
+unfoldable pub headFits : Geometry → Head → Bool
+headFits g h = every (headTests g h)
+
 -- each rectangle lies in its band; the first band begins at line lo
 unfoldable pub bandsFit : ℕ → ℕ → ℕ → List Rect → Bool
 bandsFit w band lo [] = true
 bandsFit w band lo (q ∷ qs) = fits w lo (lo + band) q && bandsFit w band (lo + band) qs
 
-abbrev pub stateTests : Geometry → Head → Pending → List Bool
-stateTests g h p =
-    windows g (h .graphics) (h .text) ∷
-    ltb (h .row) (rows g) ∷ ltb (h .column) (columns g) ∷
-    leb (h .screen) 1 ∷ leb (h .print) 2 ∷ leb (h .cursor) 2 ∷ leb (h .version) 1 ∷
-    fits 256 0 256 (h .dirty) ∷
-    bandsFit (width g) (g .band) 0 (p .owed) ∷
-    fits (width g) 0 (height g) (p .hand) ∷ []
+unfoldable pub pendingFits : Geometry → Pending → Bool
+pendingFits g p = bandsFit (width g) (g .band) 0 (p .owed) && fits (width g) 0 (height g) (p .hand)
 
-unfoldable pub stateFits : Geometry → Head → Pending → Bool
-stateFits g h p = every (stateTests g h p)
+unfoldable pub partFits : Geometry → Part → List ℕ → Bool
+partFits g head c = headFits g (headOf c)
+partFits g (panel k) c = pendingFits g (pendingOf g c 0)
+partFits g keys c = true
+partFits g flags c = flagsFit (cells g) c
 
--- each flag is 0 or 1
-unfoldable pub flagsFit : List ℕ → Bool
-flagsFit [] = true
-flagsFit (f ∷ fs) = leb f 1 && flagsFit fs
+-- ---- what follows from a list of parts, whatever they are
+
+-- a number for each part, no number twice
+abbrev pub tag : Part → ℕ
+tag head = 0
+tag keys = 1
+tag flags = 2
+tag (panel k) = suc (suc (suc k))
+
+abbrev pub same : Part → Part → Bool
+same p q = eqb (tag p) (tag q)
+
+unfoldable pub has : Part → List Part → Bool
+has q [] = false
+has q (p ∷ ps) = same q p || has q ps
+
+-- no part stands twice
+unfoldable pub distinct : List Part → Bool
+distinct [] = true
+distinct (p ∷ ps) = not (has p ps) && distinct ps
+
+-- the bytes of all parts, one after another
+unfoldable pub written : (Part → List ℕ) → List Part → List ℕ
+written f [] = []
+written f (p ∷ ps) = f p ++ written f ps
+
+unfoldable pub total : (Part → ℕ) → List Part → ℕ
+total n [] = 0
+total n (p ∷ ps) = n p + total n ps
+
+-- where the part q begins
+unfoldable pub offset : (Part → ℕ) → Part → List Part → ℕ
+offset n q [] = 0
+offset n q (p ∷ ps) = cond (same q p) 0 (n p + offset n q ps)
+
+-- every part passes
+unfoldable pub all : (Part → Bool) → List Part → Bool
+all t [] = true
+all t (p ∷ ps) = t p && all t ps
+
+-- ---- the record
+
+abbrev pub recordBytes : Geometry → ℕ
+recordBytes g = total (size g) (layout g)
+
+abbrev pub at : Geometry → Part → ℕ
+at g p = offset (size g) p (layout g)
+
+-- the bytes of a part
+abbrev pub part : Geometry → Part → List ℕ → List ℕ
+part g p r = window (at g p) (size g p) r
+
+-- f k ∷ f (k + 1) ∷ .., n of them
+unfoldable pub listing : {A : Type 0} → (ℕ → A) → ℕ → ℕ → List A
+listing f k zero = []
+listing f k (suc n) = f k ∷ listing f (suc k) n
+
+unfoldable pub decode : Geometry → List ℕ → State
+decode g r = record {
+  head = headOf (part g head r);
+  panels = listing (λ k. pendingOf g (part g (panel k) r) 0) 0 (g .panels);
+  keys = keysOf (part g keys r);
+  flags = flagsIn (cells g) (part g flags r);
+}
+
+unfoldable pub encode : Geometry → State → List ℕ
+encode g s = written (bytesOf g s) (layout g)
 
 -- the bytes of a record pass STATE
 unfoldable pub valid : Geometry → List ℕ → Bool
-valid g r = stateFits g (headOf r) (pendingOf g r pendingAt) && flagsFit (drop (flagsAt g) r)
+valid g r = all (λ p. partFits g p (part g p r)) (layout g)
 
 -- ---- the state with one part changed
 
 abbrev pub withHead : Head → State → State
-withHead h s = record { head = h; pending = s .pending; keys = s .keys; flags = s .flags }
+withHead h s = record { head = h; panels = s .panels; keys = s .keys; flags = s .flags }
 
-abbrev pub withPending : Pending → State → State
-withPending p s = record { head = s .head; pending = p; keys = s .keys; flags = s .flags }
+abbrev pub withPanels : List Pending → State → State
+withPanels ps s = record { head = s .head; panels = ps; keys = s .keys; flags = s .flags }
+
+abbrev pub withPanel : ℕ → Pending → State → State
+withPanel k p s = withPanels (set (s .panels) k p) s
+
+abbrev pub withKeyWords : List ℕ → State → State
+withKeyWords ks s = record { head = s .head; panels = s .panels; keys = ks; flags = s .flags }
 
 abbrev pub withFlags : List Bool → State → State
-withFlags fs s = record { head = s .head; pending = s .pending; keys = s .keys; flags = fs }
+withFlags fs s = record { head = s .head; panels = s .panels; keys = s .keys; flags = fs }
 
--- every element is a byte
-unfoldable pub Bytes : List ℕ → Type 0
-Bytes r = (i : ℕ) → getD r i 0 < 256
+-- ---- a state that is what some record that passes STATE means
 
-abbrev pub Words : List ℕ → Type 0
-Words [] = Unit {0}
-Words (w ∷ ws) = (w < 4294967296) × Words ws
+pub record WellPending (g : Geometry) (p : Pending) : Type 0 where
+  pub passes : pendingFits g p ≡ true
+  pub bands : length (p .owed) ≡ g .bands
+  pub counted : p .sent < 4294967296
 
--- a state that is what some record that passes STATE means
 pub record WellFormed (g : Geometry) (s : State) : Type 0 where
-  pub passes : stateFits g (s .head) (s .pending) ≡ true
-  pub bands : length (s .pending .owed) ≡ g .bands
-  pub counted : s .pending .sent < 4294967296
+  pub head : headFits g (s .head) ≡ true
+  pub count : length (s .panels) ≡ g .panels
+  pub panels : (k : ℕ) → k < g .panels → WellPending g (panelOf g s k)
   pub words : length (s .keys) ≡ 8
   pub keys : Words (s .keys)
   pub flags : length (s .flags) ≡ cells g

@@ -3,7 +3,7 @@ use mathlib.Core.Bool.{cond}
 use mathlib.Core.List.{List, [], _∷_}
 use Prim.Native.Nat.{ℕ, _+_, _-_, min}
 use lib.Dec.{ltb}
-use Rattle.model.specs.declared.Pending.{Pending}
+use Rattle.model.specs.Record.{Pending}
 use Rattle.model.specs.Rects.{Rect, none, isEmpty}
 use Rattle.model.specs.Pixels.{copyRun}
 

@@ -6,7 +6,7 @@ use lib.Dec.{eqb}
 use Rattle.model.specs.declared.Head.{Head}
 use Rattle.model.specs.Geometry.{Geometry, height, cells, screenBytes}
 use Rattle.model.specs.Memory.{zeros, withScreen, withText}
-use Rattle.model.specs.Record.{State}
+use Rattle.model.specs.Record.{State, withHead, withFlags}
 use Rattle.model.specs.Marks.{whole, marked}
 use Rattle.model.specs.Open.{clearFlags}
 
@@ -89,7 +89,7 @@ withCursor n h = record {
 unfoldable pub clearedState : Geometry → ℕ → State → State
 clearedState g n s =
     marked g (whole (g .stride) (height g)) (whole (g .stride) (height g))
-    (record { head = atPlace 0 0 (withScreenMode n (s .head)); pending = s .pending; keys = s .keys; flags = clearFlags g })
+    (withHead (atPlace 0 0 (withScreenMode n (s .head))) (withFlags (clearFlags g) s))
 
 unfoldable pub clearedMemory : Geometry → Head → List ℕ → List ℕ
 clearedMemory g h m = withScreen (h .graphics) (zeros (screenBytes g)) (withText (h .text) (zeros (cells g)) m)

@@ -1,37 +1,37 @@
-// The 160 by 80 glass: its numbers stand here and nowhere else in the code.
+// The glass by value: its geometry, and what follows from it. A call chooses it by the record's length.
 
-// A line in bytes, and how many lines there are.
-pub const STRIDE: usize = 20;
+pub struct Glass {
+    // a line in bytes; the bands, and the lines of one; the panels
+    pub stride: usize,
+    pub bands: usize,
+    pub band: u16,
+    pub panels: usize,
+    // the screen in pixels and in bytes, the text cells
+    pub width: u16,
+    pub height: u16,
+    pub screen: usize,
+    pub rows: usize,
+    pub columns: usize,
+    pub cells: usize,
+    // the highest bases: each window ends before the last byte of memory
+    pub graphics: u16,
+    pub text: u16,
+    // the record: its bytes, those of a panel's part, and where keys, flags and the panels after the first begin
+    pub bytes: usize,
+    pub pending: usize,
+    pub keys: usize,
+    pub flags: usize,
+    pub others: usize,
+}
 
-pub const HEIGHT: usize = 80;
-
-pub const SCREEN_BYTES: usize = 1600;
-
-// A glyph's lines, and the screen bytes of a text row.
+// The lines of a glyph.
 pub const GLYPH_HEIGHT: u8 = 16;
 
-pub const ROW_BYTES: usize = 320;
-
-// One past the last pixel, across and down.
-pub const RIGHT: u16 = 160;
-
-pub const BOTTOM: u16 = 80;
-
-// The text cells.
-pub const TEXT_ROWS: usize = 5;
-
-pub const TEXT_COLUMNS: usize = 20;
-
+// Where a call has such an array of its own: the bytes of the text, and what a host lends.
 pub const TEXT_BYTES: usize = 100;
 
-// What a row and a column in the record stay below.
-pub const ROWS: u8 = 5;
+pub const RECORD_BYTES: usize = 170;
 
-pub const COLUMNS: u8 = 20;
-
-// The highest bases: each window ends before the last byte of memory.
-pub const LAST_GRAPHICS_BASE: u16 = 63935;
-
-pub const LAST_TEXT_BASE: u16 = 65435;
+pub const SCREEN_BYTES: usize = 1600;
 
 pub const MEMORY_BYTES: usize = 65536;

@@ -1,6 +1,7 @@
 // The types that code and definitions share. Every definition of document 01 stands in specs/; no function has a body here.
 
 pub mod glass;
+pub mod refusal;
 
 // left < right and top < bottom, right and bottom not included; the empty rectangle is four zeros.
 pub struct Rect {
@@ -23,17 +24,16 @@ pub struct Head {
     pub dirty: Rect,
 }
 
-// What one panel has still to be sent: the owed area, a rectangle for each band, the rectangle in hand and the count of lines sent.
-pub struct Pending {
-    pub owed: [Rect; 1],
-    pub hand: Rect,
-    pub sent: u32,
-}
-
 // What a drawing marks: the rectangle for dirty, and the one that it owes. Empty: nothing.
 pub struct Marks {
     pub dirty: Rect,
     pub owed: Rect,
+}
+
+// What is drawn on: a line in bytes, and how many lines.
+pub struct Canvas {
+    pub stride: usize,
+    pub height: usize,
 }
 
 pub enum DrawMode {

@@ -6,7 +6,7 @@ use lib.Dec.{ltb, eqb}
 use lib.ListN.{length}
 use Rattle.model.specs.Geometry.{base, screenBytes}
 use Rattle.model.specs.Memory.{zeros, screenOf}
-use Rattle.model.specs.Record.{decode, encode}
+use Rattle.model.specs.Record.{panelOf, decode, encode}
 use Rattle.model.specs.Open.{openState, clearMemory}
 use Rattle.model.specs.Calls.{Lent, lent, outcome}
 use Rattle.model.specs.Lists.{linesLeft, differing}
@@ -89,11 +89,11 @@ noKeys = 0 ∷ 0 ∷ 0 ∷ 0 ∷ 0 ∷ 0 ∷ 0 ∷ 0 ∷ []
 
 -- opened with V2, no keys and a zero panel
 unfoldable pub opened : Lent
-opened = lent (encode (openState base graphicsBase textBase 1 noKeys)) (clearMemory noKeys) (zeros (screenBytes base))
+opened = lent (encode base (openState base graphicsBase textBase 1 noKeys)) (clearMemory noKeys) (zeros (screenBytes base))
 
 -- (end d l): differing pixels, then L
 unfoldable pub ending : Lent → List ℕ
-ending l = printed endWord (differing base (screenOf base graphicsBase (l .memory)) (l .panel) ∷ linesLeft (decode base (l .rec) .pending) ∷ [])
+ending l = printed endWord (differing base (screenOf base graphicsBase (l .memory)) (l .panel) ∷ linesLeft (panelOf base (decode base (l .rec)) 0) ∷ [])
 
 -- the lines from line n on
 unfoldable pub runFrom : ℕ → List Line → Lent → List ℕ
