@@ -12,7 +12,7 @@ use Rattle.model.specs.declared.Marks.{Marks}
 use Rattle.model.specs.declared.DrawMode.{DrawMode}
 use Rattle.model.specs.Pixels.{Screen, PixelWrite, draw, seen}
 use Rattle.model.specs.Rects.{every, lowered, fits}
-use Rattle.model.specs.Record.{Bytes}
+use Rattle.model.specs.Bytes.{Bytes}
 use Rattle.model.specs.Marks.{drawn, drawnOn, within, owes}
 use Rattle.model.specs.Lines.{isUnknown, spanRect, pixelRun, clamp, horizontal, vertical}
 use Rattle.model.specs.Boxes.{rows, filledBox, outline, boxOf, box}

@@ -12,7 +12,7 @@ use lib.Seq.{ext-getD, getD-set-same, getD-set-other, set-out}
 use borrow.Author.Tests.{eqb-true}
 use Rattle.model.specs.Bits.{bitAt}
 use Rattle.model.specs.Pixels.{bit, put, place}
-use Rattle.model.specs.Record.{Bytes}
+use Rattle.model.specs.Bytes.{Bytes}
 use Rattle.laws.specs.Tests.{by-lt, by-eq}
 use Rattle.laws.specs.Tables.{every, every-at, every₂-at, withBit-lt}
 

@@ -9,7 +9,7 @@ use lib.Dec.{leb, eqb}
 use Rattle.model.specs.declared.Found.{Found}
 use Rattle.model.specs.declared.Found.the-variants.{At, Nothing}
 use Rattle.model.specs.declared.Glyph.{Glyph}
-use Rattle.model.specs.Record.{two, four}
+use Rattle.model.specs.Bytes.{two, four}
 use Rattle.model.specs.Codes.{CodeRow, codes, emojiRows, inRow, indexIn, emojiIndex, gbIndex, extraFrom}
 use Rattle.model.specs.Glyphs.{orElse}
 use Rattle.laws.specs.Tests.{all-true}

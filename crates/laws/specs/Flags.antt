@@ -1,39 +1,91 @@
--- The flags of the text cells: stored over those of a record that passes, they are its state's flags, and the record still passes.
-use mathlib.Core.Path.{_≡_, refl, ap, _∙_, sym}
-use mathlib.Core.Bool.{Bool, true, false}
+-- The flags of the text cells in their bytes: there and back, one written, all scrolled, none set. Laws, code and definitions beside these know no form of a flag.
+use mathlib.Core.Path.{_≡_, refl, sym, ap, _∙_}
+use mathlib.Core.Bool.{Bool, true, false, _&&_, and-assoc, and-true as and-last}
 use mathlib.Core.List.{List, [], _∷_, _++_, map, map-append}
-use Prim.Native.Nat.{ℕ, zero, suc}
-use lib.ListN.{length, set, drop, replicate, length-map, length-replicate}
-use Rattle.model.specs.Geometry.{Geometry, cells}
-use Rattle.model.specs.Memory.{withWindow, zeros}
-use Rattle.model.specs.Record.{State, decode, encode, flagOf, flagByte, flagsFit, withFlags, flagsAt, WellFormed}
+use Prim.Native.Nat.{ℕ, zero, suc, _+_, _-_, _<_, _≤_}
+use native.Mathlib.Numerals.{add-one}
+use native.Mathlib.Omega.{arith}
+use borrow.Author.Tests.{leb-true}
+use lib.Dec.{leb, eqb}
+use lib.ListN.{length, getD, set, drop, replicate, length-map, length-replicate, List·getD-map, List·getD-eq-default}
+use lib.Seq.{take-all, drop-cons}
+use Rattle.model.specs.Memory.{zeros}
+use Rattle.model.specs.Bytes.{Bytes}
+use Rattle.model.specs.Flags.{flagBytes, flagOf, flagByte, flagsIn, bytesOfFlags, flagsFit}
+use Rattle.model.specs.Flush.{flagAt}
 use Rattle.model.specs.Print.{scrolled}
-use Rattle.laws.specs.Layout.{flags-again}
-use Rattle.laws.specs.Record.{Passing, Small, encode-decode, decode-encode}
-use Rattle.laws.specs.States.{well-formed, encode-passing}
-use Rattle.laws.specs.Stores.{flags-zero, put-flags}
+use Rattle.laws.specs.Tests.{and-true}
+use Rattle.laws.specs.ListLaws.{map-replicate}
+use Rattle.laws.specs.Layout.{bytes-cons, bytes-nil}
 
--- other flags in a well formed state
-pub flags-formed : (g : Geometry) (fs : List Bool) (s : State) → WellFormed g s → length fs ≡ cells g → WellFormed g (withFlags fs s)
-flags-formed g fs s w n = record { passes = w .passes; bands = w .bands; counted = w .counted; words = w .words; keys = w .keys; flags = n }
+-- ---- there and back
 
-module _ (g : Geometry) (k : Small g) (fs : List Bool) (r : List ℕ) (p : Passing g r) (n : length fs ≡ cells g) where
-  flags-stored : withWindow (flagsAt g) (map flagByte fs) r ≡ encode (withFlags fs (decode g r))
-  unfolding encode
-  flags-stored =
-      let s = decode g r in
-      let w = well-formed g r p in
-      ap (withWindow (flagsAt g) (map flagByte fs)) (sym (encode-decode g r p))
-      ∙ put-flags g (s .head) (s .pending) (s .keys) fs (map flagByte (s .flags)) (w .bands) (w .words) n (length-map (s .flags) flagByte ∙ w .flags)
+flag-again : (f : ℕ) → f ≤ 1 → flagByte (flagOf f) ≡ f
+flag-again zero h = refl
+flag-again (suc zero) h = refl
+flag-again (suc (suc f)) h = absurd (omega arith)
 
-  pub flags-passing : {s : List ℕ} → s ≡ withWindow (flagsAt g) (map flagByte fs) r → Passing g s
-  flags-passing e = rw (e ∙ flags-stored) (encode-passing g k (withFlags fs (decode g r)) (flags-formed g fs (decode g r) (well-formed g r p) n))
+pub flags-read : (n : ℕ) (c : List ℕ) → length c ≡ flagBytes n → flagsFit n c ≡ true → bytesOfFlags (flagsIn n c) ≡ c
+unfolding flagsIn bytesOfFlags flagsFit
+flags-read zero [] l e = refl
+flags-read zero (b ∷ c) l e = absurd (omega arith)
+flags-read (suc n) [] l e = absurd (omega arith)
+flags-read (suc n) (b ∷ c) l e =
+    let p = and-true (leb b 1) (flagsFit n c) e in
+    λ i. flag-again b (leb-true b 1 (p .0)) i ∷ flags-read n c (omega arith) (p .1) i
 
-  pub flags-read : {s : List ℕ} → s ≡ withWindow (flagsAt g) (map flagByte fs) r → decode g s ≡ withFlags fs (decode g r)
-  flags-read e =
-      ap (decode g) (e ∙ flags-stored) ∙ decode-encode g (withFlags fs (decode g r)) (flags-formed g fs (decode g r) (well-formed g r p) n) k
+flag-back : (f : Bool) → flagOf (flagByte f) ≡ f
+flag-back true = refl
+flag-back false = refl
 
--- ---- flags as bytes: one written, all scrolled, none set
+flags-back : (fs : List Bool) → map flagOf (map flagByte fs) ≡ fs
+flags-back [] = refl
+flags-back (f ∷ fs) = λ i. flag-back f i ∷ flags-back fs i
+
+pub length-flags : (fs : List Bool) → length (bytesOfFlags fs) ≡ flagBytes (length fs)
+unfolding bytesOfFlags
+length-flags fs = length-map fs flagByte
+
+pub flags-written : (n : ℕ) (fs : List Bool) → length fs ≡ n → flagsIn n (bytesOfFlags fs) ≡ fs
+unfolding flagsIn bytesOfFlags
+flags-written n fs e = ap (map flagOf) (take-all n (map flagByte fs) (rw (length-map fs flagByte) (omega arith))) ∙ flags-back fs
+
+pub length-flagsIn : (n : ℕ) (c : List ℕ) → length c ≡ flagBytes n → length (flagsIn n c) ≡ n
+unfolding flagsIn
+length-flagsIn n c e = ap (λ (l : List ℕ). length (map flagOf l)) (take-all n c (omega arith)) ∙ length-map c flagOf ∙ e
+
+pub flags-fit : (fs : List Bool) → flagsFit (length fs) (bytesOfFlags fs) ≡ true
+unfolding flagsFit bytesOfFlags
+flags-fit [] = refl
+flags-fit (true ∷ fs) = flags-fit fs
+flags-fit (false ∷ fs) = flags-fit fs
+
+pub flags-bytes : (fs : List Bool) → Bytes (bytesOfFlags fs)
+unfolding bytesOfFlags
+flags-bytes [] = bytes-nil
+flags-bytes (true ∷ fs) = bytes-cons 1 _ (omega arith) (flags-bytes fs)
+flags-bytes (false ∷ fs) = bytes-cons 0 _ (omega arith) (flags-bytes fs)
+
+-- ---- none set
+
+pub no-flags : (n : ℕ) → zeros (flagBytes n) ≡ bytesOfFlags (replicate n false)
+unfolding zeros bytesOfFlags
+no-flags zero = refl
+no-flags (suc n) = ap (λ (l : List ℕ). 0 ∷ l) (no-flags n)
+
+pub length-no-flags : (n : ℕ) → length (replicate n false) ≡ n
+length-no-flags n = length-replicate n false
+
+-- ---- one read
+
+pub flag-read : (c : List ℕ) (i : ℕ) → eqb (getD c i 0) 1 ≡ flagAt (flagsIn (length c) c) i
+unfolding flagsIn
+flag-read c i = sym (List·getD-map flagOf c i 0) ∙ ap (λ (l : List ℕ). flagAt (map flagOf l) i) (sym (take-all (length c) c (omega arith)))
+
+pub flag-past : (n : ℕ) (c : List ℕ) (i : ℕ) → length c ≡ flagBytes n → n ≤ i → false ≡ flagAt (flagsIn n c) i
+flag-past n c i e h = sym (List·getD-eq-default (flagsIn n c) false (rw (length-flagsIn n c e) h))
+
+-- ---- one written, and all scrolled
 
 map-set : {A B : Type 0} (f : A → B) (l : List A) (i : ℕ) (a : A) → map f (set l i a) ≡ set (map f l) i (f a)
 map-set f [] i a = refl
@@ -45,23 +97,30 @@ map-drop f zero l = refl
 map-drop f (suc n) [] = refl
 map-drop f (suc n) (x ∷ l) = map-drop f n l
 
-map-replicate : {A B : Type 0} (f : A → B) (n : ℕ) (a : A) → map f (replicate n a) ≡ replicate n (f a)
-map-replicate f zero a = refl
-map-replicate f (suc n) a = ap (λ m. f a ∷ m) (map-replicate f n a)
-
 map-scrolled : {A B : Type 0} (f : A → B) (n : ℕ) (a : A) (l : List A) → map f (scrolled n a l) ≡ scrolled n (f a) (map f l)
 unfolding scrolled
 map-scrolled f n a l = map-append f (drop n l) (replicate n a) ∙ (λ i. map-drop f n l i ++ map-replicate f n a i)
 
-pub flag-written : (l : List ℕ) (i : ℕ) (v : Bool) {b : ℕ} → flagsFit l ≡ true → b ≡ flagByte v → set l i b ≡ map flagByte (set (map flagOf l) i v)
-flag-written l i v e q = ap (set l i) q ∙ ap (λ (x : List ℕ). set x i (flagByte v)) (sym (flags-again l e)) ∙ sym (map-set flagByte (map flagOf l) i v)
+module _ (n : ℕ) (c : List ℕ) (l : length c ≡ flagBytes n) (e : flagsFit n c ≡ true) where
+  pub flag-written : (i : ℕ) (v : Bool) {b : ℕ} → b ≡ flagByte v → set c i b ≡ bytesOfFlags (set (flagsIn n c) i v)
+  unfolding bytesOfFlags
+  flag-written i v q = ap (set c i) q ∙ ap (λ (x : List ℕ). set x i (flagByte v)) (sym (flags-read n c l e)) ∙ sym (map-set flagByte (flagsIn n c) i v)
 
-pub flags-scrolled : (l : List ℕ) (n : ℕ) {m : List ℕ} → flagsFit l ≡ true → m ≡ scrolled n 0 l → m ≡ map flagByte (scrolled n false (map flagOf l))
-flags-scrolled l n e q = q ∙ ap (scrolled n 0) (sym (flags-again l e)) ∙ sym (map-scrolled flagByte n false (map flagOf l))
+  pub flags-scrolled : (k : ℕ) {m : List ℕ} → m ≡ scrolled k 0 c → m ≡ bytesOfFlags (scrolled k false (flagsIn n c))
+  unfolding bytesOfFlags
+  flags-scrolled k q = q ∙ ap (scrolled k 0) (sym (flags-read n c l e)) ∙ sym (map-scrolled flagByte k false (flagsIn n c))
 
--- no flags at all
-pub no-flags : (n : ℕ) → zeros n ≡ map flagByte (replicate n false)
-no-flags n = sym (flags-zero n)
+-- ---- the test, byte after byte
 
-pub length-no-flags : (n : ℕ) → length (replicate n false) ≡ n
-length-no-flags n = length-replicate n false
+pub flags-turn : (ok : Bool) (c : List ℕ) (i : ℕ) → i < length c
+    → ((ok && leb (getD c i 0) 1) && flagsFit (length c - (i + 1)) (drop (i + 1) c)) ≡ (ok && flagsFit (length c - i) (drop i c))
+unfolding flagsFit
+flags-turn ok c i h =
+    let k : length c - i ≡ suc (length c - suc i) = omega arith in
+    ap (λ (j : ℕ). (ok && leb (getD c i 0) 1) && flagsFit (length c - j) (drop j c)) (add-one i)
+    ∙ and-assoc ok (leb (getD c i 0) 1) (flagsFit (length c - suc i) (drop (suc i) c))
+    ∙ (λ j. ok && flagsFit (sym k j) (sym (drop-cons c i 0 h) j))
+
+pub flags-end : (ok : Bool) (c : List ℕ) (i : ℕ) → length c ≤ i → (ok && flagsFit (length c - i) (drop i c)) ≡ ok
+unfolding flagsFit
+flags-end ok c i h = let z : length c - i ≡ 0 = omega arith in ap (λ (j : ℕ). ok && flagsFit j (drop i c)) z ∙ and-last ok

@@ -9,7 +9,7 @@ use borrow.Author.Tests.{lt-ltb, le-ltb}
 use lib.Dec.{eqb}
 use lib.ListN.{length, getD, set, length-set}
 use Rattle.model.specs.Bits.{bitAt}
-use Rattle.model.specs.Record.{four, wordsAt}
+use Rattle.model.specs.Bytes.{four, wordsAt}
 use Rattle.model.specs.Geometry.{memoryBytes}
 use Rattle.model.specs.Memory.{zeros}
 use Rattle.model.specs.Open.{isKey, withKeys, clearMemory}

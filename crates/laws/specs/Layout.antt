@@ -1,18 +1,14 @@
--- Numbers, rectangles, words and flags as bytes: what is read and written again, and what is written and read again.
+-- Numbers, rectangles and words as bytes: what is read and written again, and what is written and read again.
 use mathlib.Core.Path.{_≡_, refl, sym, ap, _∙_}
-use mathlib.Core.List.{List, [], _∷_, _++_, append-assoc, append-nil, map}
-use mathlib.Core.Bool.{Bool, true, false}
+use mathlib.Core.List.{List, [], _∷_, _++_, append-assoc, append-nil}
 use Prim.Native.Nat.{ℕ, zero, suc, _+_, _*_, _/_, _%_, _<_, _≤_}
 use native.Mathlib.Nat.{add-zero, div-div-eq-div-mul}
 use native.Mathlib.Omega.{arith}
-use lib.Dec.{leb}
 use lib.ListN.{length, getD, take, drop, length-drop}
 use native.Mathlib.Numerals.{add-one}
 use lib.Seq.{take-suc, drop-cons, drop-drop, getD-drop}
-use borrow.Author.Tests.{leb-true}
 use Rattle.model.specs.declared.Rect.{Rect}
-use Rattle.model.specs.Record.{two, four, rectAt, rectsAt, wordsAt, fourBytes, rectBytes, rectsBytes, wordsBytes, flagOf, flagByte, flagsFit, Bytes, Words}
-use Rattle.laws.specs.Tests.{and-true}
+use Rattle.model.specs.Bytes.{two, four, rectAt, rectsAt, wordsAt, fourBytes, rectBytes, rectsBytes, wordsBytes, Bytes, Words}
 use Rattle.laws.specs.Rects.{rect-equal}
 
 -- ---- bytes
@@ -29,6 +25,13 @@ pub bytes-cons : (x : ℕ) (l : List ℕ) → x < 256 → Bytes l → Bytes (x �
 unfolding Bytes
 bytes-cons x l h b zero = h
 bytes-cons x l h b (suc i) = b i
+
+pub bytes-take : (n : ℕ) (l : List ℕ) → Bytes l → Bytes (take n l)
+unfolding Bytes
+bytes-take zero l b i = omega arith
+bytes-take (suc n) [] b i = b i
+bytes-take (suc n) (x ∷ l) b zero = b 0
+bytes-take (suc n) (x ∷ l) b (suc i) = bytes-take n l (λ j. b (suc j)) i
 
 -- ---- a place read is the start of what is left from there
 
@@ -121,18 +124,6 @@ words-again (suc n) r i b h =
     ∙ ap (λ (m : List ℕ). fourBytes (four r i) ++ m) (words-again n r (i + 4) b (omega arith))
     ∙ four-again r i b (omega arith)
 
-flag-again : (f : ℕ) → f ≤ 1 → flagByte (flagOf f) ≡ f
-flag-again zero h = refl
-flag-again (suc zero) h = refl
-flag-again (suc (suc f)) h = absurd (omega arith)
-
-pub flags-again : (l : List ℕ) → flagsFit l ≡ true → map flagByte (map flagOf l) ≡ l
-unfolding flagsFit
-flags-again [] e = refl
-flags-again (f ∷ l) e =
-    let p = and-true (leb f 1) (flagsFit l) e in
-    λ i. flag-again f (leb-true f 1 (p .0)) i ∷ flags-again l (p .1) i
-
 -- ---- written, then read: the fields again
 
 pub two-back : (n : ℕ) → n < 65536 → n % 256 + 256 * (n / 256 % 256) ≡ n
@@ -157,6 +148,16 @@ rect-back q l b = rect-equal (two-back (q .left) (b .left)) (two-back (q .top) (
 abbrev pub AllShort : List Rect → Type 0
 AllShort [] = Unit {0}
 AllShort (q ∷ qs) = Short q × AllShort qs
+
+-- what is read from bytes is short
+pub two-short : (r : List ℕ) (i : ℕ) → Bytes r → two r i < 65536
+unfolding Bytes
+two-short r i b = let l = b i in let h = b (i + 1) in omega arith
+
+pub rects-short : (n : ℕ) (r : List ℕ) (i : ℕ) → Bytes r → AllShort (rectsAt n r i)
+rects-short zero r i b = tt
+rects-short (suc n) r i b =
+    (record { left = two-short r i b; top = two-short r (i + 2) b; right = two-short r (i + 4) b; bottom = two-short r (i + 6) b }, rects-short n r (i + 8) b)
 
 rects-from : (n : ℕ) (r : List ℕ) (i j : ℕ) → rectsAt n r (i + j) ≡ rectsAt n (drop i r) j
 rects-from zero r i j = refl
@@ -194,25 +195,15 @@ words-back (w ∷ ws) l b =
     ap (λ (m : List ℕ). four m 0 ∷ wordsAt (length ws) m 4) a
     ∙ (λ k. four-back w (b .0) k ∷ (words-at (length ws) (fourBytes w ++ (wordsBytes ws ++ l)) 4 ∙ words-back ws l (b .1)) k)
 
-flag-back : (f : Bool) → flagOf (flagByte f) ≡ f
-flag-back true = refl
-flag-back false = refl
-
-pub flags-back : (fs : List Bool) → map flagOf (map flagByte fs) ≡ fs
-flags-back [] = refl
-flags-back (f ∷ fs) = λ i. flag-back f i ∷ flags-back fs i
-
-pub flags-fit : (fs : List Bool) → flagsFit (map flagByte fs) ≡ true
-unfolding flagsFit
-flags-fit [] = refl
-flags-fit (true ∷ fs) = flags-fit fs
-flags-fit (false ∷ fs) = flags-fit fs
-
 -- ---- how long
 
 pub length-rects : (qs : List Rect) → length (rectsBytes qs) ≡ 8 * length qs
 length-rects [] = refl
 length-rects (q ∷ qs) = omega (arith, length-rects qs)
+
+pub length-rectsAt : (n : ℕ) (r : List ℕ) (a : ℕ) → length (rectsAt n r a) ≡ n
+length-rectsAt zero r a = refl
+length-rectsAt (suc n) r a = ap suc (length-rectsAt n r (a + 8))
 
 pub length-words : (ws : List ℕ) → length (wordsBytes ws) ≡ 4 * length ws
 length-words [] = refl

@@ -14,7 +14,7 @@ use lib.Seq.{getD-set-same, getD-set-other}
 use borrow.Author.Tests.{le-leb, lt-leb, lt-ltb, le-ltb}
 use Rattle.model.specs.Bits.{bitAt}
 use Rattle.model.specs.Pixels.{place, bit, put, PixelWrite, writePixel, draw, copyRun}
-use Rattle.model.specs.Record.{Bytes}
+use Rattle.model.specs.Bytes.{Bytes}
 use Rattle.laws.specs.Tests.{by-lt, by-eq}
 use Rattle.laws.specs.Tables.{every, every-at, every₂-at}
 use Rattle.laws.specs.Bytes.{same-bool, bitAt-and, Masked, bytes-set, bytes-put, screens-equal}

@@ -16,10 +16,10 @@ use Rattle.model.specs.declared.DrawMode.{DrawMode}
 use Rattle.model.specs.declared.DrawMode.the-variants.{Clear, Or, Xor, Unknown}
 use Rattle.model.specs.Bits.{bitAt, withBit}
 use Rattle.model.specs.Pixels.{Screen, place, bit, put, onScreen, writePixel, draw, seen}
-use Rattle.model.specs.Record.{Bytes}
+use Rattle.model.specs.Bytes.{Bytes}
 use Rattle.model.specs.Rects.{none, fits, lowered}
 use Rattle.model.specs.Marks.{drawn, drawnOn, within, owes}
-use Rattle.model.specs.Points.{pointOp, pixelRect, pointWrite, pointRect, point, checkPoint}
+use Rattle.model.specs.Points.{pointOp, pixelRect, pointWrite, pointRect, point, isSet}
 use Rattle.laws.specs.Tests.{if-cases, by-test, by-lt, and-true}
 use Rattle.laws.specs.Pixels.{place-lt}
 use Rattle.laws.specs.Tables.{every, every-at, or-is, and-is, flip-is, see-is}
@@ -154,8 +154,8 @@ axis-in n (pos x) h = by-lt x n (λ l. rw (lt-ltb x n l)) (λ l. absurd (let k :
 axis-in n (negsuc x) h = absurd (omega arith)
 
 pub check-on : (st h : ℕ) (s : List ℕ) (x y : ℤ) {c l : ℕ} {b : Bool} → c ≡ axisOf x (8 * st) → l ≡ axisOf y h → c < 8 * st → l < h
-    → b ≡ bit st s c l → b ≡ checkPoint st h s x y
-unfolding checkPoint onScreen
+    → b ≡ bit st s c l → b ≡ isSet st h s x y
+unfolding isSet onScreen
 check-on st h s x y {c} {l} {b} p q hc hl e =
     let u : x ≡ pos c = axis-in (8 * st) x (rw (← p) hc) ∙ ap pos (sym p) in
     let v : y ≡ pos l = axis-in h y (rw (← q) hl) ∙ ap pos (sym q) in
@@ -166,14 +166,14 @@ off-axis : (n : ℕ) (x : ℕ) → n ≤ axisOf (pos x) n → ltb x n ≡ false
 unfolding axisOf
 off-axis n x h = by-lt x n (λ l. absurd (let k : n ≤ x = rw (lt-ltb x n l) at h in omega arith)) (λ l. le-ltb x n l)
 
-pub check-beside : (st h : ℕ) (s : List ℕ) (x y : ℤ) {c : ℕ} → c ≡ axisOf x (8 * st) → 8 * st ≤ c → false ≡ checkPoint st h s x y
-unfolding checkPoint onScreen
+pub check-beside : (st h : ℕ) (s : List ℕ) (x y : ℤ) {c : ℕ} → c ≡ axisOf x (8 * st) → 8 * st ≤ c → false ≡ isSet st h s x y
+unfolding isSet onScreen
 check-beside st h s (pos x) (pos y) p l = rw (off-axis (8 * st) x (rw p at l))
 check-beside st h s (pos x) (negsuc y) p l = refl
 check-beside st h s (negsuc x) y p l = refl
 
-pub check-below : (st h : ℕ) (s : List ℕ) (x y : ℤ) {c : ℕ} → c ≡ axisOf y h → h ≤ c → false ≡ checkPoint st h s x y
-unfolding checkPoint onScreen
+pub check-below : (st h : ℕ) (s : List ℕ) (x y : ℤ) {c : ℕ} → c ≡ axisOf y h → h ≤ c → false ≡ isSet st h s x y
+unfolding isSet onScreen
 check-below st h s (pos x) (pos y) p l = by-test (ltb x (8 * st)) (λ e. rw (e, off-axis h y (rw p at l))) (λ e. rw e)
 check-below st h s (pos x) (negsuc y) p l = refl
 check-below st h s (negsuc x) y p l = refl

@@ -1,48 +1,126 @@
--- The record there and back: a record that passes STATE is what its fields encode to, and a state that is well formed is what its bytes decode to.
+-- The record there and back, over any geometry: each part by its own law, the whole by the laws of lists of parts.
 use mathlib.Core.Path.{_≡_, refl, sym, ap, _∙_}
-use mathlib.Core.List.{List, [], _∷_, _++_, append-assoc, map}
-use mathlib.Core.Bool.{Bool, true}
-use Prim.Native.Nat.{ℕ, _+_, _-_, _*_, _<_, _≤_}
+use mathlib.Core.List.{List, [], _∷_, _++_, append-assoc, append-nil}
+use mathlib.Core.Bool.{Bool, true, false}
+use Prim.Native.Nat.{ℕ, zero, suc, _+_, _-_, _*_, _<_, _≤_}
 use native.Mathlib.Omega.{arith}
-use lib.ListN.{length, getD, take, drop, length-drop, length-map}
-use lib.Seq.{drop-drop, drop-at, take-all}
+use native.Mathlib.Nat.{add-zero, zero-add}
+use lib.Dec.{eqb}
+use lib.ListN.{length, getD, drop, length-append, length-replicate, drop-of-length-le}
+use lib.Seq.{drop-drop, drop-at, getD-set-same, getD-set-other, ext-getD}
+use borrow.Author.Tests.{ne-eqb, eq-eqb}
 use Rattle.model.specs.declared.Rect.{Rect}
 use Rattle.model.specs.declared.Head.{Head}
-use Rattle.model.specs.declared.Pending.{Pending}
-use Rattle.model.specs.Geometry.{Geometry, width, height, rows, columns, cells, screenBytes}
-use Rattle.model.specs.Rects.{fits}
-use Rattle.model.specs.Record.{State, decode, encode, headOf, pendingOf, bytesOfHead, bytesOfPending, rectAt, rectsAt, wordsAt, four, rectBytes, rectsBytes, wordsBytes, fourBytes, flagOf, flagByte, flagsFit, bandsFit, windows, windowTests, stateTests, stateFits, valid, Bytes, WellFormed, pendingAt, pendingBytes, keysAt, flagsAt, recordBytes}
-use Rattle.laws.specs.Tests.{tests, and-true, all-true, either}
+use Rattle.model.specs.Geometry.{Geometry, width, height, cells, screenBytes}
+use Rattle.model.specs.Memory.{window, withWindow}
+use Rattle.model.specs.Rects.{none, fits}
+use Rattle.model.specs.Bytes.{four, rectAt, rectsAt, wordsAt, rectBytes, rectsBytes, wordsBytes, fourBytes, Bytes}
+use Rattle.model.specs.Flags.{flagsIn, bytesOfFlags}
+use Rattle.model.specs.Record.{Part, head, panel, keys, flags, tag, same, has, written, total, offset, panelsFrom, layout, size, at, part, recordBytes, pendingBytes, Pending, State, decode, encode, listing, headOf, pendingOf, bytesOfHead, bytesOfPending, bytesOf, panelOf, nothingPending, bandsFit, windows, windowTests, headTests, headFits, pendingFits, partFits, valid, withHead, withPanel, withKeyWords, withFlags, WellPending, WellFormed}
+use Rattle.model.specs.Glass.{IsGlass}
+use Rattle.laws.specs.Tests.{tests, by-test, by-lt, by-eq, clash, and-true, all-true, either, or-right}
 use Rattle.laws.specs.Rects.{passes-fits}
-use Rattle.laws.specs.Layout.{Short, AllShort, four-from, rect-from, rects-at, words-at, elements, elements-drop, low, high, rect-again, four-again, rects-again, words-again, flags-again, two-back, four-back, rect-back, rects-back, words-back, flags-back, length-rects, length-words}
+use Rattle.laws.specs.Memory.{length-window}
+use Rattle.laws.specs.ListLaws.{getD-past}
+use Rattle.laws.specs.PartLists.{same-part, written-same, all-at, part-written, part-stored, parts-written}
+use Rattle.laws.specs.Flags.{flags-read, flags-written, length-flags, length-flagsIn}
+use Rattle.laws.specs.Layout.{Short, AllShort, bytes-drop, bytes-take, four-from, rect-from, elements, elements-drop, low, high, rect-again, four-again, rects-again, words-again, two-back, four-back, rect-back, rects-back, words-back, length-rects, length-rectsAt, length-words}
 
--- a record that a call accepts
-pub record Passing (g : Geometry) (r : List ℕ) : Type 0 where
-  pub sized : length r ≡ recordBytes g
-  pub bytes : Bytes r
-  pub passes : valid g r ≡ true
+-- ---- which parts there are
 
--- ---- decode, then encode
+has-right : (q : Part) (ps qs : List Part) → has q qs ≡ true → has q (ps ++ qs) ≡ true
+unfolding has
+has-right q [] qs h = h
+has-right q (p ∷ ps) qs h = or-right (same q p) (has-right q ps qs h)
 
--- keys and flags are all that follows the pending part
-tail : (g : Geometry) (r : List ℕ) → Passing g r
-    → wordsBytes (wordsAt 8 r (keysAt g)) ++ map flagByte (map flagOf (take (cells g) (drop (flagsAt g) r))) ≡ drop (keysAt g) r
-unfolding valid
-tail g r p =
-    let f = and-true (stateFits g (headOf r) (pendingOf g r pendingAt)) (flagsFit (drop (flagsAt g) r)) (p .passes) .1 in
-    let n : length (drop (flagsAt g) r) ≤ cells g = simp length-drop (omega (arith, p .sized)) in
-    ap (λ (l : List ℕ). wordsBytes (wordsAt 8 r (keysAt g)) ++ map flagByte (map flagOf l)) (take-all (cells g) (drop (flagsAt g) r) n)
-    ∙ ap (λ (l : List ℕ). wordsBytes (wordsAt 8 r (keysAt g)) ++ l) (flags-again (drop (flagsAt g) r) f)
-    ∙ words-again 8 r (keysAt g) (p .bytes) (omega (arith, p .sized))
+has-from : (i k n : ℕ) → k ≤ i → i < k + n → has (panel i) (panelsFrom k n) ≡ true
+unfolding has
+has-from i k zero l u = absurd (omega arith)
+has-from i k (suc n) l u =
+    by-test (same (panel i) (panel k))
+    (λ e. rw e)
+    (λ e. or-right (same (panel i) (panel k)) (has-from i (suc k) n (next e) (omega arith)))
+  where
+    next : same (panel i) (panel k) ≡ false → suc k ≤ i
+    next e = omega (arith, tests)
 
--- another head and another pending part, over the same keys and flags
-pub encode-parts : (g : Geometry) (h : Head) (p : Pending) (r : List ℕ) → Passing g r
-    → encode (record { head = h; pending = p; keys = decode g r .keys; flags = decode g r .flags }) ≡ bytesOfHead h ++ (bytesOfPending p ++ drop (keysAt g) r)
-unfolding encode decode
-encode-parts g h p r k = ap (λ (l : List ℕ). bytesOfHead h ++ (bytesOfPending p ++ l)) (tail g r k)
+from-has : (i k n : ℕ) → has (panel i) (panelsFrom k n) ≡ true → i < k + n
+unfolding has
+from-has i k zero h = clash false h refl
+from-has i k (suc n) h =
+    by-test (same (panel i) (panel k))
+    (λ e. omega (arith, tests))
+    (λ e. let r = from-has i (suc k) n (rw e at h) in omega arith)
 
-head-again : (r : List ℕ) → ((i : ℕ) → getD r i 0 < 256) → bytesOfHead (headOf r) ≡ elements 18 0 r
-head-again r b = simp (low, high, b)
+module _ (g : Geometry) where
+  pub has-head : has head (layout g) ≡ true
+  unfolding has
+  has-head = refl
+
+  pub has-keys : has keys (layout g) ≡ true
+  unfolding has
+  has-keys = refl
+
+  pub has-flags : has flags (layout g) ≡ true
+  unfolding has
+  has-flags = refl
+
+  pub has-panel : (k : ℕ) → k < g .panels → has (panel k) (layout g) ≡ true
+  unfolding has
+  has-panel zero h = refl
+  has-panel (suc k) h =
+      has-right (panel (suc k)) (head ∷ panel 0 ∷ keys ∷ flags ∷ []) (panelsFrom 1 (g .panels - 1)) (has-from (suc k) 1 (g .panels - 1) (omega arith) (omega arith))
+
+  pub panel-has : (k : ℕ) → 1 ≤ g .panels → has (panel k) (layout g) ≡ true → k < g .panels
+  unfolding has
+  panel-has zero l h = l
+  panel-has (suc k) l h =
+      let t = tag (panel (suc k)) in
+      let r = from-has (suc k) 1 (g .panels - 1) (rw (ne-eqb t 0 (λ e. omega arith), ne-eqb t 3 (λ e. omega arith), ne-eqb t 1 (λ e. omega arith), ne-eqb t 2 (λ e. omega arith)) at h) in
+      omega arith
+
+-- ---- the bytes of a part in a record
+
+offset-fits : (n : Part → ℕ) (q : Part) (ps : List Part) → has q ps ≡ true → offset n q ps + n q ≤ total n ps
+unfolding has offset total
+offset-fits n q [] h = clash false h refl
+offset-fits n q (p ∷ ps) h =
+    by-test (same q p)
+    (λ e. rw e (let s = ap n (same-part q p e) in omega arith))
+    (λ e. rw e (let r = offset-fits n q ps (rw e at h) in omega arith))
+
+-- a part ends within its record
+pub part-in : (g : Geometry) (q : Part) → has q (layout g) ≡ true → at g q + size g q ≤ recordBytes g
+part-in g q h = offset-fits (size g) q (layout g) h
+
+pub length-part : (g : Geometry) (q : Part) (r : List ℕ) → has q (layout g) ≡ true → length r ≡ recordBytes g → length (part g q r) ≡ size g q
+length-part g q r h l = length-window (at g q) (size g q) r (rw l (part-in g q h))
+
+pub bytes-part : (g : Geometry) (q : Part) (r : List ℕ) → Bytes r → Bytes (part g q r)
+unfolding window
+bytes-part g q r b = bytes-take (size g q) (drop (at g q) r) (bytes-drop (at g q) r b)
+
+-- ---- each part there and back: its bytes c, read and written again
+
+exact : (n : ℕ) (a c : List ℕ) → a ++ drop n c ≡ c → length c ≡ n → a ≡ c
+exact n a c e l = sym (append-nil a) ∙ ap (λ (x : List ℕ). a ++ x) (sym (drop-of-length-le c {i = n} (omega arith))) ∙ e
+
+head-elements : (c : List ℕ) → ((i : ℕ) → getD c i 0 < 256) → bytesOfHead (headOf c) ≡ elements 18 0 c
+head-elements c b = simp (low, high, b)
+
+head-again : (c : List ℕ) → Bytes c → length c ≡ 18 → bytesOfHead (headOf c) ≡ c
+unfolding Bytes
+head-again c b l = exact 18 (bytesOfHead (headOf c)) c (ap (λ (x : List ℕ). x ++ drop 18 c) (head-elements c b) ∙ elements-drop 18 0 c (omega arith)) l
+
+rects-whole : (n : ℕ) (c : List ℕ) → Bytes c → length c ≡ 8 * n → rectsBytes (rectsAt n c 0) ≡ c
+rects-whole n c b l =
+    exact (8 * n) (rectsBytes (rectsAt n c 0)) c
+    (ap (λ (k : ℕ). rectsBytes (rectsAt n c 0) ++ drop k c) (sym (zero-add (8 * n))) ∙ rects-again n c 0 b (omega arith)) l
+
+words-whole : (n : ℕ) (c : List ℕ) → Bytes c → length c ≡ 4 * n → wordsBytes (wordsAt n c 0) ≡ c
+words-whole n c b l =
+    exact (4 * n) (wordsBytes (wordsAt n c 0)) c
+    (ap (λ (k : ℕ). wordsBytes (wordsAt n c 0) ++ drop k c) (sym (zero-add (4 * n))) ∙ words-again n c 0 b (omega arith)) l
 
 pub pending-again : (g : Geometry) (r : List ℕ) (i : ℕ) → Bytes r → i + pendingBytes g ≤ length r
     → bytesOfPending (pendingOf g r i) ++ drop (i + pendingBytes g) r ≡ drop i r
@@ -58,25 +136,104 @@ pending-again g r i b h =
     ∙ rect-again r j b (omega arith))
     ∙ rects-again n r i b (omega arith)
 
--- the head that stands there, stored again
-pub head-stored : (g : Geometry) (r : List ℕ) → Passing g r → bytesOfHead (headOf r) ++ drop pendingAt r ≡ r
-unfolding Bytes
-head-stored g r p = ap (λ (l : List ℕ). l ++ drop pendingAt r) (head-again r (p .bytes)) ∙ elements-drop 18 0 r (omega (arith, p .sized))
+pub pending-whole : (g : Geometry) (c : List ℕ) → Bytes c → length c ≡ pendingBytes g → bytesOfPending (pendingOf g c 0) ≡ c
+pending-whole g c b l =
+    exact (pendingBytes g) (bytesOfPending (pendingOf g c 0)) c
+    (ap (λ (k : ℕ). bytesOfPending (pendingOf g c 0) ++ drop k c) (sym (zero-add (pendingBytes g))) ∙ pending-again g c 0 b (omega arith)) l
 
-pub encode-decode : (g : Geometry) (r : List ℕ) → Passing g r → encode (decode g r) ≡ r
-unfolding decode Bytes
-encode-decode g r p =
-    encode-parts g (headOf r) (pendingOf g r pendingAt) r p
-    ∙ ap (λ (l : List ℕ). l ++ (bytesOfPending (pendingOf g r pendingAt) ++ drop (keysAt g) r)) (head-again r (p .bytes))
-    ∙ ap (λ (l : List ℕ). elements 18 0 r ++ l) (pending-again g r pendingAt (p .bytes) (omega (arith, p .sized)))
-    ∙ elements-drop 18 0 r (omega (arith, p .sized))
+pub getD-listing : {A : Type 0} (f : ℕ → A) (k n i : ℕ) (d : A) → i < n → getD (listing f k n) i d ≡ f (k + i)
+unfolding listing
+getD-listing f k zero i d h = absurd (omega arith)
+getD-listing f k (suc n) zero d h = ap f (sym (add-zero k))
+getD-listing f k (suc n) (suc i) d h = let e : suc k + i ≡ k + suc i = omega arith in getD-listing f (suc k) n i d (omega arith) ∙ ap f e
+
+pub length-listing : {A : Type 0} (f : ℕ → A) (k n : ℕ) → length (listing f k n) ≡ n
+unfolding listing
+length-listing f k zero = refl
+length-listing f k (suc n) = ap suc (length-listing f (suc k) n)
+
+-- ---- decode, then encode
+
+-- a record that a call accepts
+pub record Passing (g : Geometry) (r : List ℕ) : Type 0 where
+  pub glass : IsGlass g
+  pub sized : length r ≡ recordBytes g
+  pub bytes : Bytes r
+  pub passes : valid g r ≡ true
+
+pub panel-decoded : (g : Geometry) (r : List ℕ) (i : ℕ) → i < g .panels → panelOf g (decode g r) i ≡ pendingOf g (part g (panel i) r) 0
+unfolding decode
+panel-decoded g r i h = getD-listing (λ j. pendingOf g (part g (panel j) r) 0) 0 (g .panels) i (nothingPending g) h ∙ ap (λ (j : ℕ). pendingOf g (part g (panel j) r) 0) (zero-add i)
+
+module _ (g : Geometry) (r : List ℕ) (k : Passing g r) where
+  pub part-passes : (p : Part) → has p (layout g) ≡ true → partFits g p (part g p r) ≡ true
+  unfolding valid
+  part-passes p h = all-at (λ q. partFits g q (part g q r)) (layout g) p (k .passes) h
+
+  -- what is read of a part is written as its bytes
+  pub part-again : (p : Part) → has p (layout g) ≡ true → bytesOf g (decode g r) p ≡ part g p r
+  unfolding bytesOf decode partFits
+  part-again head h = head-again (part g head r) (bytes-part g head r (k .bytes)) (length-part g head r h (k .sized))
+  part-again (panel i) h =
+      ap bytesOfPending (panel-decoded g r i (panel-has g i (k .glass .one) h))
+      ∙ pending-whole g (part g (panel i) r) (bytes-part g (panel i) r (k .bytes)) (length-part g (panel i) r h (k .sized))
+  part-again keys h = words-whole 8 (part g keys r) (bytes-part g keys r (k .bytes)) (length-part g keys r h (k .sized))
+  part-again flags h = flags-read (cells g) (part g flags r) (length-part g flags r h (k .sized)) (part-passes flags h)
+
+  pub encode-decode : encode g (decode g r) ≡ r
+  unfolding encode
+  encode-decode = written-same (bytesOf g (decode g r)) (λ p. part g p r) (layout g) part-again ∙ parts-written (size g) r (layout g) (k .glass .apart) (k .sized)
 
 -- ---- encode, then decode
 
--- a glass whose coordinates are bytes
-pub record Small (g : Geometry) : Type 0 where
-  pub wide : width g ≤ 256
-  pub high : height g ≤ 256
+-- the parts of a state have their sizes
+pub record Sized (g : Geometry) (s : State) : Type 0 where
+  pub owed : (k : ℕ) → length (panelOf g s k .owed) ≡ g .bands
+  pub keys : length (s .keys) ≡ 8
+  pub flags : length (s .flags) ≡ cells g
+
+pub length-pending : (g : Geometry) (p : Pending) → length (p .owed) ≡ g .bands → length (bytesOfPending p) ≡ pendingBytes g
+length-pending g p e =
+    omega (arith, length-append (rectsBytes (p .owed)) (rectBytes (p .hand) ++ fourBytes (p .sent)), length-rects (p .owed), ap (λ (n : ℕ). 8 * n) e)
+
+pub sizes : (g : Geometry) (s : State) → Sized g s → (p : Part) → length (bytesOf g s p) ≡ size g p
+unfolding bytesOf
+sizes g s z head = refl
+sizes g s z (panel k) = length-pending g (panelOf g s k) (z .owed k)
+sizes g s z keys = length-words (s .keys) ∙ ap (λ (n : ℕ). 4 * n) (z .keys)
+sizes g s z flags = length-flags (s .flags) ∙ z .flags
+
+pub count-decode : (g : Geometry) (r : List ℕ) → length (decode g r .panels) ≡ g .panels
+unfolding decode
+count-decode g r = length-listing (λ k. pendingOf g (part g (panel k) r) 0) 0 (g .panels)
+
+-- the bytes of a part of an encoded state
+pub part-encode : (g : Geometry) (s : State) → Sized g s → (p : Part) → has p (layout g) ≡ true → part g p (encode g s) ≡ bytesOf g s p
+unfolding encode
+part-encode g s z p h = part-written (size g) (bytesOf g s) p (layout g) (sizes g s z) h
+
+-- the panels that there are have their bands, and so has every number past them
+pub all-owed : (g : Geometry) (s : State) → length (s .panels) ≡ g .panels → ((k : ℕ) → k < g .panels → length (panelOf g s k .owed) ≡ g .bands)
+    → (k : ℕ) → length (panelOf g s k .owed) ≡ g .bands
+unfolding nothingPending
+all-owed g s n e k =
+    by-lt k (g .panels) (e k)
+    (λ l. ap (λ (p : Pending). length (p .owed)) (getD-past (s .panels) k (nothingPending g) (omega arith)) ∙ length-replicate (g .bands) none)
+
+pub sized-decode : (g : Geometry) (r : List ℕ) → length r ≡ recordBytes g → Sized g (decode g r)
+unfolding decode
+sized-decode g r l = record {
+  owed = all-owed g (decode g r) (count-decode g r) (λ k h. ap (λ (p : Pending). length (p .owed)) (panel-decoded g r k h) ∙ length-rectsAt (g .bands) (part g (panel k) r) 0);
+  keys = refl;
+  flags = length-flagsIn (cells g) (part g flags r) (length-part g flags r (has-flags g) l);
+}
+
+pub well-sized : (g : Geometry) (s : State) → WellFormed g s → Sized g s
+well-sized g s f = record {
+  owed = all-owed g s (f .count) (λ k h. f .panels k h .bands);
+  keys = f .words;
+  flags = f .flags;
+}
 
 pub fits-short : (w lo hi : ℕ) (q : Rect) → w < 65536 → hi < 65536 → fits w lo hi q ≡ true → Short q
 fits-short w lo hi q hw hh e =
@@ -101,39 +258,18 @@ bands-short w band lo (q ∷ qs) hw h e =
     let p = and-true (fits w lo (lo + band) q) (bandsFit w band (lo + band) qs) e in
     (fits-short w lo (lo + band) q hw (omega arith) (p .0), bands-short w band (lo + band) qs hw (omega arith) (p .1))
 
--- what a state that passes tells of its numbers
-pub record Numbers (g : Geometry) (s : State) : Type 0 where
-  pub graphics : s .head .graphics ≤ 65535 - screenBytes g
-  pub text : s .head .text ≤ 65535 - cells g
-  pub row : s .head .row < rows g
-  pub column : s .head .column < columns g
-  pub screen : s .head .screen ≤ 1
-  pub print : s .head .print ≤ 2
-  pub cursor : s .head .cursor ≤ 2
-  pub version : s .head .version ≤ 1
-  pub dirty : fits 256 0 256 (s .head .dirty) ≡ true
-  pub owed : bandsFit (width g) (g .band) 0 (s .pending .owed) ≡ true
-  pub hand : fits (width g) 0 (height g) (s .pending .hand) ≡ true
+-- what a head that passes tells of its numbers
+pub record Numbers (g : Geometry) (h : Head) : Type 0 where
+  pub graphics : h .graphics ≤ 65535 - screenBytes g
+  pub text : h .text ≤ 65535 - cells g
+  pub dirty : fits 256 0 256 (h .dirty) ≡ true
 
-pub numbers : (g : Geometry) (h : Head) (p : Pending) (ks : List ℕ) (fs : List Bool) → stateFits g h p ≡ true
-    → Numbers g (record { head = h; pending = p; keys = ks; flags = fs })
-unfolding stateFits windows
-numbers g h p ks fs e =
-    let t = all-true (stateTests g h p) e in
+pub numbers : (g : Geometry) (h : Head) → headFits g h ≡ true → Numbers g h
+unfolding headFits windows
+numbers g h e =
+    let t = all-true (headTests g h) e in
     let w = all-true (windowTests g (h .graphics) (h .text)) (t .0) in
-    record {
-      graphics = omega (arith, tests);
-      text = omega (arith, tests);
-      row = omega (arith, tests);
-      column = omega (arith, tests);
-      screen = omega (arith, tests);
-      print = omega (arith, tests);
-      cursor = omega (arith, tests);
-      version = omega (arith, tests);
-      dirty = t .1 .1 .1 .1 .1 .1 .1 .0;
-      owed = t .1 .1 .1 .1 .1 .1 .1 .1 .0;
-      hand = t .1 .1 .1 .1 .1 .1 .1 .1 .1 .0;
-    }
+    record { graphics = omega (arith, tests); text = omega (arith, tests); dirty = t .1 .1 .1 .1 .1 .1 .1 .0 }
 
 pub head-equal : {a b : Head} → a .graphics ≡ b .graphics → a .text ≡ b .text → a .row ≡ b .row → a .column ≡ b .column
     → a .screen ≡ b .screen → a .print ≡ b .print → a .cursor ≡ b .cursor → a .version ≡ b .version → a .dirty ≡ b .dirty → a ≡ b
@@ -149,85 +285,120 @@ head-equal e1 e2 e3 e4 e5 e6 e7 e8 e9 = λ i. record {
   dirty = e9 i;
 }
 
--- where the parts of the encoded bytes begin
-module _ (g : Geometry) (s : State) (f : WellFormed g s) where
-  last : List ℕ
-  last = wordsBytes (s .keys) ++ map flagByte (s .flags)
+-- each part back: its fields, written and read again
 
-  from-hand : List ℕ
-  from-hand = (rectBytes (s .pending .hand) ++ fourBytes (s .pending .sent)) ++ last
+head-back : (g : Geometry) (h : Head) → headFits g h ≡ true → headOf (bytesOfHead h) ≡ h
+head-back g h e =
+    let n = numbers g h e in
+    head-equal (two-back (h .graphics) (omega (arith, n))) (two-back (h .text) (omega (arith, n))) refl refl refl refl refl refl
+    (rect-back (h .dirty) [] (fits-short 256 0 256 (h .dirty) (omega arith) (omega arith) (n .dirty)))
 
-  at-pending : drop pendingAt (encode s) ≡ rectsBytes (s .pending .owed) ++ from-hand
-  unfolding encode last from-hand
-  at-pending = append-assoc (rectsBytes (s .pending .owed)) (rectBytes (s .pending .hand) ++ fourBytes (s .pending .sent)) last
+rects-again-read : (n : ℕ) (qs : List Rect) → length qs ≡ n → AllShort qs → rectsAt n (rectsBytes qs) 0 ≡ qs
+rects-again-read n qs e b =
+    ap (λ (k : ℕ). rectsAt k (rectsBytes qs) 0) (sym e) ∙ ap (λ (l : List ℕ). rectsAt (length qs) l 0) (sym (append-nil (rectsBytes qs)))
+    ∙ rects-back qs [] b
 
-  at-hand : drop (pendingAt + 8 * g .bands) (encode s) ≡ from-hand
-  at-hand =
-      sym (drop-drop (8 * g .bands) pendingAt (encode s)) ∙ ap (drop (8 * g .bands)) at-pending
-      ∙ drop-at (rectsBytes (s .pending .owed)) from-hand (8 * g .bands) (length-rects (s .pending .owed) ∙ ap (λ (n : ℕ). 8 * n) (f .bands))
-
-  at-sent : drop (pendingAt + 8 * g .bands + 8) (encode s) ≡ fourBytes (s .pending .sent) ++ last
-  unfolding from-hand
-  at-sent = sym (drop-drop 8 (pendingAt + 8 * g .bands) (encode s)) ∙ ap (drop 8) at-hand
-
-  at-keys : drop (keysAt g) (encode s) ≡ last
-  unfolding from-hand
-  at-keys =
-      let e : keysAt g ≡ pendingAt + 8 * g .bands + 12 = omega arith in
-      ap (λ (k : ℕ). drop k (encode s)) e ∙ sym (drop-drop 12 (pendingAt + 8 * g .bands) (encode s)) ∙ ap (drop 12) at-hand
-
-  pub at-flags : drop (flagsAt g) (encode s) ≡ map flagByte (s .flags)
-  unfolding last
-  at-flags =
-      sym (drop-drop 32 (keysAt g) (encode s)) ∙ ap (drop 32) at-keys
-      ∙ drop-at (wordsBytes (s .keys)) (map flagByte (s .flags)) 32 (length-words (s .keys) ∙ ap (λ (n : ℕ). 4 * n) (f .words))
-
-  module _ (k : Small g) where
-    n : Numbers g s
-    n = numbers g (s .head) (s .pending) (s .keys) (s .flags) (f .passes)
-
-    head-back : headOf (encode s) ≡ s .head
-    unfolding encode
-    head-back =
-        head-equal (two-back (s .head .graphics) (omega (arith, n))) (two-back (s .head .text) (omega (arith, n))) refl refl refl refl refl refl
-        (rect-back (s .head .dirty) [] (fits-short 256 0 256 (s .head .dirty) (omega arith) (omega arith) (n .dirty)))
-
-    owed-back : rectsAt (g .bands) (encode s) pendingAt ≡ s .pending .owed
-    owed-back =
-        rects-at (g .bands) (encode s) pendingAt ∙ ap (λ (l : List ℕ). rectsAt (g .bands) l 0) at-pending
-        ∙ ap (λ (b : ℕ). rectsAt b (rectsBytes (s .pending .owed) ++ from-hand) 0) (sym (f .bands))
-        ∙ rects-back (s .pending .owed) from-hand
-        (bands-short (width g) (g .band) 0 (s .pending .owed) (omega (arith, k)) (rw (f .bands) (omega (arith, k))) (n .owed))
-
-    hand-back : rectAt (encode s) (pendingAt + 8 * g .bands) ≡ s .pending .hand
-    unfolding from-hand
-    hand-back =
-        rect-from (encode s) (pendingAt + 8 * g .bands) ∙ ap (λ (l : List ℕ). rectAt l 0) at-hand
-        ∙ rect-back (s .pending .hand) (fourBytes (s .pending .sent) ++ last)
-        (fits-short (width g) 0 (height g) (s .pending .hand) (omega (arith, k)) (omega (arith, k)) (n .hand))
-
-    sent-back : four (encode s) (pendingAt + 8 * g .bands + 8) ≡ s .pending .sent
-    sent-back =
-        four-from (encode s) (pendingAt + 8 * g .bands + 8) ∙ ap (λ (l : List ℕ). four l 0) at-sent ∙ four-back (s .pending .sent) (f .counted)
-
-    keys-back : wordsAt 8 (encode s) (keysAt g) ≡ s .keys
-    unfolding last
-    keys-back =
-        words-at 8 (encode s) (keysAt g) ∙ ap (λ (l : List ℕ). wordsAt 8 l 0) at-keys
-        ∙ ap (λ (c : ℕ). wordsAt c (wordsBytes (s .keys) ++ map flagByte (s .flags)) 0) (sym (f .words))
-        ∙ words-back (s .keys) (map flagByte (s .flags)) (f .keys)
-
-    cells-back : map flagOf (take (cells g) (drop (flagsAt g) (encode s))) ≡ s .flags
-    cells-back =
-        ap (λ (l : List ℕ). map flagOf (take (cells g) l)) at-flags
-        ∙ ap (map flagOf) (take-all (cells g) (map flagByte (s .flags)) (simp length-map (omega (arith, f .flags))))
-        ∙ flags-back (s .flags)
-
-    pub decode-encode : decode g (encode s) ≡ s
-    unfolding decode
-    decode-encode = λ i. record {
-      head = head-back i;
-      pending = record { owed = owed-back i; hand = hand-back i; sent = sent-back i };
-      keys = keys-back i;
-      flags = cells-back i;
+pub pending-back : (g : Geometry) (p : Pending) → IsGlass g → WellPending g p → pendingOf g (bytesOfPending p) 0 ≡ p
+unfolding pendingFits
+pending-back g p k f =
+    let n = g .bands in
+    let rest = rectBytes (p .hand) ++ fourBytes (p .sent) in
+    let t = and-true (bandsFit (width g) (g .band) 0 (p .owed)) (fits (width g) 0 (height g) (p .hand)) (f .passes) in
+    let z : 0 + 8 * n ≡ 8 * n = zero-add (8 * n) in
+    let here : drop (0 + 8 * n) (bytesOfPending p) ≡ rest =
+    ap (λ (i : ℕ). drop i (bytesOfPending p)) z ∙ drop-at (rectsBytes (p .owed)) rest (8 * n) (length-rects (p .owed) ∙ ap (λ (i : ℕ). 8 * i) (f .bands)) in
+    let there : drop (0 + 8 * n + 8) (bytesOfPending p) ≡ fourBytes (p .sent) = sym (drop-drop 8 (0 + 8 * n) (bytesOfPending p)) ∙ ap (drop 8) here in
+    λ i. record {
+      owed = (ap (λ (j : ℕ). rectsAt j (bytesOfPending p) 0) (sym (f .bands))
+          ∙ rects-back (p .owed) rest (bands-short (width g) (g .band) 0 (p .owed) (omega (arith, k)) (rw (f .bands) (omega (arith, k))) (t .0))) i;
+      hand = (rect-from (bytesOfPending p) (0 + 8 * n) ∙ ap (λ (l : List ℕ). rectAt l 0) here
+          ∙ rect-back (p .hand) (fourBytes (p .sent)) (fits-short (width g) 0 (height g) (p .hand) (omega (arith, k)) (omega (arith, k)) (t .1))) i;
+      sent = (four-from (bytesOfPending p) (0 + 8 * n + 8) ∙ ap (λ (l : List ℕ). four l 0) there ∙ four-back (p .sent) (f .counted)) i;
     }
+
+listing-is : {A : Type 0} (f : ℕ → A) (n : ℕ) (l : List A) (d : A) → length l ≡ n → ((i : ℕ) → i < n → f i ≡ getD l i d) → listing f 0 n ≡ l
+listing-is f n l d e h =
+    ext-getD d (listing f 0 n) l (length-listing f 0 n ∙ sym e)
+    (λ i b. let c : i < n = omega (arith, length-listing f 0 n) in getD-listing f 0 n i d c ∙ ap f (zero-add i) ∙ h i c)
+
+pub decode-encode : (g : Geometry) (s : State) → IsGlass g → WellFormed g s → decode g (encode g s) ≡ s
+unfolding decode bytesOf
+decode-encode g s k f =
+    let z = well-sized g s f in
+    let b = part-encode g s z in
+    λ i. record {
+      head = (ap headOf (b head (has-head g)) ∙ head-back g (s .head) (f .head)) i;
+      panels = listing-is (λ j. pendingOf g (part g (panel j) (encode g s)) 0) (g .panels) (s .panels) (nothingPending g) (f .count)
+          (λ j h. ap (λ (c : List ℕ). pendingOf g c 0) (b (panel j) (has-panel g j h)) ∙ pending-back g (panelOf g s j) k (f .panels j h)) i;
+      keys = (ap (λ (c : List ℕ). wordsAt 8 c 0) (b keys (has-keys g))
+          ∙ ap (λ (n : ℕ). wordsAt n (wordsBytes (s .keys)) 0) (sym (f .words)) ∙ ap (λ (l : List ℕ). wordsAt (length (s .keys)) l 0) (sym (append-nil (wordsBytes (s .keys))))
+          ∙ words-back (s .keys) [] (f .keys)) i;
+      flags = (ap (flagsIn (cells g)) (b flags (has-flags g)) ∙ flags-written (cells g) (s .flags) (f .flags)) i;
+    }
+
+-- ---- a store of one part: the bytes of the state with that part changed, and no other
+
+-- t is s but for the part q
+abbrev pub But : Geometry → Part → State → State → Type 0
+But g q s t = (p : Part) → same q p ≡ false → bytesOf g s p ≡ bytesOf g t p
+
+pub put-part : (g : Geometry) (q : Part) (s t : State) → IsGlass g → has q (layout g) ≡ true → Sized g s → length (bytesOf g t q) ≡ size g q → But g q s t
+    → withWindow (at g q) (bytesOf g t q) (encode g s) ≡ encode g t
+unfolding encode
+put-part g q s t l h z n k = part-stored (size g) (bytesOf g s) (bytesOf g t) q (layout g) (sizes g s z) n k h (l .apart)
+
+pub put-head : (g : Geometry) (h : Head) (s : State) → IsGlass g → Sized g s → withWindow 0 (bytesOfHead h) (encode g s) ≡ encode g (withHead h s)
+unfolding bytesOf offset
+put-head g h s l z = put-part g head s (withHead h s) l (has-head g) z refl but
+  where
+    but : But g head s (withHead h s)
+    but head e = clash true refl e
+    but (panel k) e = refl
+    but keys e = refl
+    but flags e = refl
+
+pub put-keys : (g : Geometry) (ks : List ℕ) (s : State) → IsGlass g → Sized g s → length ks ≡ 8 → withWindow (at g keys) (wordsBytes ks) (encode g s) ≡ encode g (withKeyWords ks s)
+unfolding bytesOf
+put-keys g ks s l z n = put-part g keys s (withKeyWords ks s) l (has-keys g) z (length-words ks ∙ ap (λ (k : ℕ). 4 * k) n) but
+  where
+    but : But g keys s (withKeyWords ks s)
+    but head e = refl
+    but (panel k) e = refl
+    but keys e = clash true refl e
+    but flags e = refl
+
+pub put-flags : (g : Geometry) (fs : List Bool) (s : State) → IsGlass g → Sized g s → length fs ≡ cells g → withWindow (at g flags) (bytesOfFlags fs) (encode g s) ≡ encode g (withFlags fs s)
+unfolding bytesOf
+put-flags g fs s l z n = put-part g flags s (withFlags fs s) l (has-flags g) z (length-flags fs ∙ n) but
+  where
+    but : But g flags s (withFlags fs s)
+    but head e = refl
+    but (panel k) e = refl
+    but keys e = refl
+    but flags e = clash true refl e
+
+pub put-panel : (g : Geometry) (k : ℕ) (p : Pending) (s : State) → IsGlass g → Sized g s → k < g .panels → length (s .panels) ≡ g .panels → length (p .owed) ≡ g .bands
+    → withWindow (at g (panel k)) (bytesOfPending p) (encode g s) ≡ encode g (withPanel k p s)
+unfolding bytesOf
+put-panel g k p s l z h c n =
+    ap (λ (q : Pending). withWindow (at g (panel k)) (bytesOfPending q) (encode g s)) (sym here)
+    ∙ put-part g (panel k) s (withPanel k p s) l (has-panel g k h) z (length-pending g (panelOf g (withPanel k p s) k) (ap (λ (q : Pending). length (q .owed)) here ∙ n)) but
+  where
+    here : panelOf g (withPanel k p s) k ≡ p
+    here = getD-set-same (s .panels) k p (nothingPending g) (omega arith)
+
+    but : But g (panel k) s (withPanel k p s)
+    but head e = refl
+    but (panel i) e = ap bytesOfPending (sym (getD-set-other (s .panels) k i p (nothingPending g) (λ q. absurd (clash (eqb (tag (panel k)) (tag (panel i))) (eq-eqb (tag (panel k)) (tag (panel i)) (omega arith)) e))))
+    but keys e = refl
+    but flags e = refl
+
+pub sized-panel : (g : Geometry) (k : ℕ) (p : Pending) (s : State) → Sized g s → k < length (s .panels) → length (p .owed) ≡ g .bands → Sized g (withPanel k p s)
+sized-panel g k p s z h n = record {
+  owed = λ i.
+      by-eq i k
+      (λ e. rw (e, getD-set-same (s .panels) k p (nothingPending g) h) n)
+      (λ e. rw (getD-set-other (s .panels) k i p (nothingPending g) e) (z .owed i));
+  keys = z .keys;
+  flags = z .flags;
+}

@@ -11,7 +11,7 @@ use Rattle.model.specs.Bits.{bitAt}
 use Rattle.model.specs.declared.DrawMode.{DrawMode}
 use Rattle.model.specs.declared.DrawMode.the-variants.{Clear, Or, Xor, Unknown}
 use Rattle.model.specs.Pixels.{Screen, PixelWrite, writePixel, draw, seen}
-use Rattle.model.specs.Record.{Bytes}
+use Rattle.model.specs.Bytes.{Bytes}
 use Rattle.model.specs.Points.{pointOp, pointWrite}
 use Rattle.model.specs.Lines.{isUnknown, runOp, pixelRun}
 use Rattle.laws.specs.Tests.{clash, by-lt}

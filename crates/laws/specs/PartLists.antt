@@ -1,0 +1,146 @@
+-- A list of parts, whatever they are: the bytes of each stand at its offset, a store there changes that part alone, and a record is made of its parts.
+use mathlib.Core.Path.{_≡_, refl, sym, ap, _∙_}
+use mathlib.Core.Bool.{Bool, true, false, _||_, not}
+use mathlib.Core.List.{List, [], _∷_, _++_, append-assoc}
+use Prim.Native.Nat.{ℕ, zero, suc, _+_}
+use native.Mathlib.Omega.{arith}
+use lib.ListN.{length, take, drop, length-drop, take-append-drop}
+use lib.Seq.{take-at, drop-at, drop-append-add, take-append-add, drop-drop}
+use borrow.Author.Tests.{eqb-true, eq-eqb}
+use Rattle.model.specs.Memory.{window, withWindow}
+use Rattle.model.specs.Record.{Part, head, panel, keys, flags, tag, same, has, distinct, written, total, offset, all}
+use Rattle.laws.specs.Tests.{by-test, clash, and-true, or-right}
+use Rattle.laws.specs.Memory.{append-window}
+
+-- ---- parts with one number are one part
+
+untag : ℕ → Part
+untag zero = head
+untag (suc zero) = keys
+untag (suc (suc zero)) = flags
+untag (suc (suc (suc k))) = panel k
+
+untag-tag : (p : Part) → untag (tag p) ≡ p
+unfolding untag
+untag-tag head = refl
+untag-tag keys = refl
+untag-tag flags = refl
+untag-tag (panel k) = refl
+
+pub same-part : (p q : Part) → same p q ≡ true → p ≡ q
+same-part p q e = sym (untag-tag p) ∙ ap untag (eqb-true (tag p) (tag q) e) ∙ untag-tag q
+
+pub same-self : (p : Part) → same p p ≡ true
+same-self p = eq-eqb (tag p) (tag p) refl
+
+-- ---- membership
+
+not-true : (b : Bool) → not b ≡ true → b ≡ false
+not-true true e = sym e
+not-true false e = refl
+
+-- a part of what follows is not the first
+pub other : (p q : Part) (ps : List Part) → has p ps ≡ false → has q ps ≡ true → same q p ≡ false
+other p q ps n h =
+    by-test (same q p)
+    (λ e. clash (has p ps) (ap (λ (x : Part). has x ps) (sym (same-part q p e)) ∙ h) n)
+    (λ e. e)
+
+-- ---- what the parts give is the same where they are
+
+pub written-same : (f f′ : Part → List ℕ) (ps : List Part) → ((p : Part) → has p ps ≡ true → f p ≡ f′ p) → written f ps ≡ written f′ ps
+unfolding written has
+written-same f f′ [] e = refl
+written-same f f′ (p ∷ ps) e =
+    λ i. e p (or-first (has p ps) (same-self p)) i ++ written-same f f′ ps (λ q h. e q (or-right (same q p) h)) i
+  where
+    or-first : {s : Bool} (t : Bool) → s ≡ true → (s || t) ≡ true
+    or-first t k = λ i. k i || t
+
+pub all-at : (t : Part → Bool) (ps : List Part) (p : Part) → all t ps ≡ true → has p ps ≡ true → t p ≡ true
+unfolding all has
+all-at t [] p e h = clash false h refl
+all-at t (q ∷ ps) p e h =
+    let k = and-true (t q) (all t ps) e in
+    by-test (same p q)
+    (λ s. ap t (same-part p q s) ∙ k .0)
+    (λ s. all-at t ps p (k .1) (rw s at h))
+
+-- ---- windows
+
+window-first : (n : ℕ) (a l : List ℕ) → length a ≡ n → window 0 n (a ++ l) ≡ a
+unfolding window
+window-first n a l e = take-at a l n e
+
+window-next : (n i k : ℕ) (a l : List ℕ) → length a ≡ n → window (n + i) k (a ++ l) ≡ window i k l
+unfolding window
+window-next n i k a l e = ap (λ (m : ℕ). take k (drop (m + i) (a ++ l))) (sym e) ∙ ap (take k) (drop-append-add a l i)
+
+window-drop : (n i k : ℕ) (r : List ℕ) → window (n + i) k r ≡ window i k (drop n r)
+unfolding window
+window-drop n i k r = ap (take k) (sym (drop-drop i n r))
+
+put-next : (n i : ℕ) (a b l : List ℕ) → length a ≡ n → withWindow (n + i) b (a ++ l) ≡ a ++ withWindow i b l
+unfolding withWindow
+put-next n i a b l e =
+    ap (λ (m : ℕ). take (m + i) (a ++ l) ++ (b ++ drop (m + i + length b) (a ++ l))) (sym e)
+    ∙ ap (λ (x : List ℕ). x ++ (b ++ drop (length a + i + length b) (a ++ l))) (take-append-add a l i)
+    ∙ ap (λ (m : ℕ). (a ++ take i l) ++ (b ++ drop m (a ++ l))) s
+    ∙ ap (λ (x : List ℕ). (a ++ take i l) ++ (b ++ x)) (drop-append-add a l (i + length b))
+    ∙ append-assoc a (take i l) (b ++ drop (i + length b) l)
+  where
+    s : length a + i + length b ≡ length a + (i + length b)
+    s = omega arith
+
+module _ (n : Part → ℕ) where
+  -- the bytes of a part stand at its offset
+  pub part-written : (f : Part → List ℕ) (q : Part) (ps : List Part) → ((p : Part) → length (f p) ≡ n p) → has q ps ≡ true
+      → window (offset n q ps) (n q) (written f ps) ≡ f q
+  unfolding written has offset
+  part-written f q [] s h = clash false h refl
+  part-written f q (p ∷ ps) s h =
+      by-test (same q p)
+      (λ e. rw e (ap (λ (x : Part). window 0 (n x) (f p ++ written f ps)) (same-part q p e) ∙ window-first (n p) (f p) (written f ps) (s p) ∙ ap f (sym (same-part q p e))))
+      (λ e. rw e (window-next (n p) (offset n q ps) (n q) (f p) (written f ps) (s p) ∙ part-written f q ps s (rw e at h)))
+
+  -- a store of the bytes of one part leaves the others
+  pub part-stored : (f f′ : Part → List ℕ) (q : Part) (ps : List Part) → ((p : Part) → length (f p) ≡ n p) → length (f′ q) ≡ n q
+      → ((p : Part) → same q p ≡ false → f p ≡ f′ p) → has q ps ≡ true → distinct ps ≡ true
+      → withWindow (offset n q ps) (f′ q) (written f ps) ≡ written f′ ps
+  unfolding written has offset distinct
+  part-stored f f′ q [] s l k h d = clash false h refl
+  part-stored f f′ q (p ∷ ps) s l k h d =
+      let a = and-true (not (has p ps)) (distinct ps) d in
+      let rest = written f ps in
+      by-test (same q p)
+      (λ e. rw e (
+      ap (λ (x : Part). withWindow 0 (f′ x) (f p ++ rest)) (same-part q p e)
+      ∙ append-window [] (f′ p) (f p ++ rest) 0 refl
+      ∙ ap (λ (x : List ℕ). f′ p ++ x) (drop-at (f p) rest (length (f′ p)) (s p ∙ sym (ap (λ (x : Part). n x) (same-part q p e)) ∙ sym l ∙ ap (λ (x : Part). length (f′ x)) (same-part q p e)))
+      ∙ ap (λ (x : List ℕ). f′ p ++ x) (written-same f f′ ps (λ x m. k x (differs x p q ps e (not-true (has p ps) (a .0)) m)))))
+      (λ e. rw e (
+      put-next (n p) (offset n q ps) (f p) (f′ q) rest (s p)
+      ∙ (λ i. k p e i ++ part-stored f f′ q ps s l k (rw e at h) (a .1) i)))
+    where
+      differs : (x p q : Part) (ps : List Part) → same q p ≡ true → has p ps ≡ false → has x ps ≡ true → same q x ≡ false
+      differs x p q ps e m h =
+          by-test (same q x)
+          (λ t. clash (has p ps) (ap (λ (y : Part). has y ps) (sym (same-part q p e) ∙ same-part q x t) ∙ h) m)
+          (λ t. t)
+
+  -- a record is its parts, one after another
+  pub parts-written : (r : List ℕ) (ps : List Part) → distinct ps ≡ true → length r ≡ total n ps
+      → written (λ p. window (offset n p ps) (n p) r) ps ≡ r
+  unfolding written offset distinct total window
+  parts-written [] [] d l = refl
+  parts-written (x ∷ r) [] d l = absurd (omega arith)
+  parts-written r (p ∷ ps) d l =
+      let a = and-true (not (has p ps)) (distinct ps) d in
+      let long : length (drop (n p) r) ≡ total n ps = simp length-drop (omega arith) in
+      (λ i. first i ++ written-same (λ q. window (offset n q (p ∷ ps)) (n q) r) (λ q. window (offset n q ps) (n q) (drop (n p) r)) ps
+      (λ q h. rw (other p q ps (not-true (has p ps) (a .0)) h) (window-drop (n p) (offset n q ps) (n q) r)) i)
+      ∙ ap (λ (x : List ℕ). take (n p) r ++ x) (parts-written (drop (n p) r) ps (a .1) long)
+      ∙ take-append-drop (n p) r
+    where
+      first : window (offset n p (p ∷ ps)) (n p) r ≡ take (n p) r
+      first = rw (same-self p)

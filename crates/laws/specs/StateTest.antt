@@ -1,0 +1,168 @@
+-- STATE as the code tests it, part after part in an order of its own: it is `valid`.
+use mathlib.Core.Path.{_≡_, refl, sym, ap, _∙_}
+use mathlib.Core.Bool.{Bool, true, false, _&&_, _||_, and-assoc}
+use mathlib.Core.List.{List, [], _∷_}
+use Prim.Native.Nat.{ℕ, zero, suc, _+_, _-_, _*_, _<_, _≤_}
+use native.Mathlib.Omega.{arith}
+use native.Mathlib.Numerals.{add-one}
+use lib.Dec.{leb, ltb}
+use lib.ListN.{length, take, drop}
+use Rattle.model.specs.declared.Rect.{Rect}
+use Rattle.model.specs.declared.Head.{Head}
+use Rattle.model.specs.declared.glass.Glass.{Glass}
+use Rattle.model.specs.Geometry.{Geometry, width, height, cells}
+use Rattle.model.specs.Glass.{geometry, IsGlass, Suits}
+use Rattle.model.specs.Memory.{window}
+use Rattle.model.specs.Rects.{fits}
+use Rattle.model.specs.Bytes.{rectAt, rectsAt}
+use Rattle.model.specs.Flags.{flagBytes, flagsFit}
+use Rattle.model.specs.Record.{Part, head, panel, keys, flags, recordBytes, same, has, all, layout, at, part, headOf, pendingOf, windows, headFits, bandsFit, pendingFits, partFits, valid}
+use Rattle.laws.specs.Tests.{by-eq, or-left, or-right, and-true}
+use Rattle.laws.specs.PartLists.{same-self, all-at}
+use Rattle.laws.specs.Record.{has-head, has-panel, panel-has, has-flags, part-in, length-part}
+use Rattle.laws.specs.Windows.{head-part, pending-part}
+
+-- two tests that pass together are one
+pub same-truth : (s t : Bool) → (s ≡ true → t ≡ true) → (t ≡ true → s ≡ true) → s ≡ t
+same-truth true t f g = sym (f refl)
+same-truth false true f g = g refl
+same-truth false false f g = refl
+
+and-yes : (s t : Bool) → s ≡ true → t ≡ true → (s && t) ≡ true
+and-yes s t e f = λ i. e i && f i
+
+and-last : (s : Bool) → (s && true) ≡ s
+and-last true = refl
+and-last false = refl
+
+all-of : (t : Part → Bool) (ps : List Part) → ((p : Part) → has p ps ≡ true → t p ≡ true) → all t ps ≡ true
+unfolding all has
+all-of t [] f = refl
+all-of t (p ∷ ps) f = and-yes (t p) (all t ps) (f p (or-left (has p ps) (same-self p))) (all-of t ps (λ q h. f q (or-right (same q p) h)))
+
+-- ---- the panels' parts, from k on, n of them
+
+unfoldable pub panelsFit : Geometry → List ℕ → ℕ → ℕ → Bool
+panelsFit g r k zero = true
+panelsFit g r k (suc n) = pendingFits g (pendingOf g r (at g (panel k))) && panelsFit g r (suc k) n
+
+panels-each : (g : Geometry) (r : List ℕ) (k n i : ℕ) → panelsFit g r k n ≡ true → k ≤ i → i < k + n → pendingFits g (pendingOf g r (at g (panel i))) ≡ true
+unfolding panelsFit
+panels-each g r k zero i e l u = absurd (omega arith)
+panels-each g r k (suc n) i e l u =
+    let p = and-true (pendingFits g (pendingOf g r (at g (panel k)))) (panelsFit g r (suc k) n) e in
+    by-eq i k
+    (λ z. ap (λ (j : ℕ). pendingFits g (pendingOf g r (at g (panel j)))) z ∙ p .0)
+    (λ z. panels-each g r (suc k) n i (p .1) (omega arith) (omega arith))
+
+each-panels : (g : Geometry) (r : List ℕ) (k n : ℕ) → ((i : ℕ) → k ≤ i → i < k + n → pendingFits g (pendingOf g r (at g (panel i))) ≡ true) → panelsFit g r k n ≡ true
+unfolding panelsFit
+each-panels g r k zero f = refl
+each-panels g r k (suc n) f =
+    and-yes (pendingFits g (pendingOf g r (at g (panel k)))) (panelsFit g r (suc k) n) (f k (omega arith) (omega arith)) (each-panels g r (suc k) n (λ i l u. f i (omega arith) (omega arith)))
+
+-- ---- the whole
+
+pub valid-is : (g : Geometry) (r : List ℕ) {a b c : Bool} → IsGlass g → a ≡ headFits g (headOf r) → b ≡ panelsFit g r 0 (g .panels)
+    → c ≡ flagsFit (cells g) (part g flags r) → ((a && b) && c) ≡ valid g r
+unfolding valid partFits
+valid-is g r {a} {b} {c} l fa fb fc = same-truth ((a && b) && c) (valid g r) there back
+  where
+    there : ((a && b) && c) ≡ true → all (λ p. partFits g p (part g p r)) (layout g) ≡ true
+    there h = all-of (λ p. partFits g p (part g p r)) (layout g) each
+      where
+        two : ((a && b) ≡ true) × (c ≡ true)
+        two = and-true (a && b) c h
+
+        one : (a ≡ true) × (b ≡ true)
+        one = and-true a b (two .0)
+
+        each : (p : Part) → has p (layout g) ≡ true → partFits g p (part g p r) ≡ true
+        each head m = ap (headFits g) (head-part g r) ∙ sym fa ∙ one .0
+        each (panel k) m = ap (pendingFits g) (pending-part g r k) ∙ panels-each g r 0 (g .panels) k (sym fb ∙ one .1) (omega arith) (let u = panel-has g k (l .one) m in omega arith)
+        each keys m = refl
+        each flags m = sym fc ∙ two .1
+
+    back : all (λ p. partFits g p (part g p r)) (layout g) ≡ true → ((a && b) && c) ≡ true
+    back h =
+        and-yes _ c (and-yes a b
+        (fa ∙ ap (headFits g) (sym (head-part g r)) ∙ at-part head (has-head g))
+        (fb ∙ each-panels g r 0 (g .panels) (λ i o u. ap (pendingFits g) (sym (pending-part g r i)) ∙ at-part (panel i) (has-panel g i (omega arith)))))
+        (fc ∙ at-part flags (has-flags g))
+      where
+        at-part : (p : Part) → has p (layout g) ≡ true → partFits g p (part g p r) ≡ true
+        at-part p m = all-at (λ q. partFits g q (part g q r)) (layout g) p h m
+
+-- ---- as the code goes, with the glass by value
+
+pub windows-is : (v : Glass) (graphics text : ℕ) → Suits v
+    → ((leb graphics (v .graphics) && leb text (v .text)) && (leb (graphics + v .screen) text || leb (text + v .cells) graphics)) ≡ windows (geometry v) graphics text
+unfolding windows
+windows-is v graphics text z =
+    λ i. (leb graphics (z .is-graphics i) && leb text (z .is-text i)) && (leb (graphics + z .is-screen i) text || leb (text + z .is-cells i) graphics)
+
+pub head-is : (v : Glass) (h : Head) {w d : Bool} → Suits v → w ≡ windows (geometry v) (h .graphics) (h .text) → d ≡ fits 256 0 256 (h .dirty)
+    → (((((((w && ltb (h .row) (v .rows)) && ltb (h .column) (v .columns)) && leb (h .screen) 1) && leb (h .print) 2) && leb (h .cursor) 2) && leb (h .version) 1) && d)
+    ≡ headFits (geometry v) h
+unfolding headFits
+head-is v h z e f =
+    λ i. ((((((e i && ltb (h .row) (z .is-rows i)) && ltb (h .column) (z .is-columns i)) && leb (h .screen) 1) && leb (h .print) 2) && leb (h .cursor) 2) && leb (h .version) 1) && f i
+
+pub pending-is : (v : Glass) (r : List ℕ) (k a : ℕ) {b t : Bool} {q : Rect} → Suits v → a ≡ at (geometry v) (panel k) → b ≡ bandsFit (v .width) (v .band) 0 (rectsAt (v .bands) r a)
+    → q ≡ rectAt r (a + 8 * v .bands) → t ≡ fits (v .width) 0 (v .height) q → (b && t) ≡ pendingFits (geometry v) (pendingOf (geometry v) r (at (geometry v) (panel k)))
+unfolding pendingFits
+pending-is v r k a z e f g h =
+    λ i. (f ∙ (λ j. bandsFit (z .is-width j) (v .band) 0 (rectsAt (v .bands) r (e j)))) i
+    && (h ∙ ap (fits (v .width) 0 (v .height)) (g ∙ ap (λ (x : ℕ). rectAt r (x + 8 * v .bands)) e)
+    ∙ (λ j. fits (z .is-width j) 0 (z .is-height j) (rectAt r (at (geometry v) (panel k) + 8 * v .bands)))) i
+
+-- where the loop over panels stands
+pub record Fitting (v : Glass) (r : List ℕ) (panels : ℕ) (ok : Bool) (k : ℕ) : Type 0 where
+  pub counted : panels ≡ v .panels
+  pub some : k ≤ panels
+  pub same : (ok && panelsFit (geometry v) r k (panels - k)) ≡ panelsFit (geometry v) r 0 (v .panels)
+
+pub fit-starts : (v : Glass) (r : List ℕ) → Fitting v r (v .panels) true 0
+fit-starts v r = record { counted = refl; some = omega arith; same = let e : v .panels - 0 ≡ v .panels = omega arith in ap (panelsFit (geometry v) r 0) e }
+
+pub fit-goes : {v : Glass} {r : List ℕ} {panels : ℕ} {ok : Bool} {k : ℕ} {t : Bool} → Fitting v r panels ok k → k < panels
+    → t ≡ pendingFits (geometry v) (pendingOf (geometry v) r (at (geometry v) (panel k))) → Fitting v r panels (ok && t) (k + 1)
+unfolding panelsFit
+fit-goes {v} {r} {panels} {ok} {k} {t} i h e =
+    let c : panels - k ≡ suc (panels - (k + 1)) = omega arith in
+    let n = panels - (k + 1) in
+    let g = geometry v in
+    record {
+      counted = i .counted;
+      some = omega arith;
+      same =
+          ap (λ (x : ℕ). (ok && t) && panelsFit g r x n) (add-one k)
+          ∙ and-assoc ok t (panelsFit g r (suc k) n)
+          ∙ ap (λ (x : Bool). ok && (x && panelsFit g r (suc k) n)) e
+          ∙ ap (λ (x : ℕ). ok && panelsFit g r k x) (sym c)
+          ∙ i .same;
+    }
+
+pub fit-ends : {v : Glass} {r : List ℕ} {panels : ℕ} {ok : Bool} {k : ℕ} → Fitting v r panels ok k → panels ≤ k → ok ≡ panelsFit (geometry v) r 0 (v .panels)
+unfolding panelsFit
+fit-ends {v} {r} {panels} {ok} {k} i h =
+    let z : panels - k ≡ 0 = omega (arith, i) in
+    sym (ap (λ (n : ℕ). ok && panelsFit (geometry v) r k n) z ∙ and-last ok) ∙ i .same
+
+-- the flags lie in the record
+pub flags-room : (v : Glass) → Suits v → (v .flags ≤ v .others) × (v .others ≤ recordBytes (geometry v))
+flags-room v z = let f = part-in (geometry v) flags (has-flags (geometry v)) in (omega (arith, z), omega (arith, z))
+
+-- and their lent part is theirs
+pub flags-part : (v : Glass) (r : List ℕ) → Suits v → take (v .others - v .flags) (drop (v .flags) r) ≡ part (geometry v) flags r
+unfolding window
+flags-part v r z =
+    let n : v .others - v .flags ≡ flagBytes (cells (geometry v)) = omega (arith, z .is-others, z .is-flags) in
+    λ i. take (n i) (drop (z .is-flags i) r)
+
+pub is-valid : (v : Glass) (r : List ℕ) {h : Head} {a b c : Bool} → Suits v → length r ≡ recordBytes (geometry v) → h ≡ headOf r → a ≡ headFits (geometry v) h → b ≡ panelsFit (geometry v) r 0 (v .panels)
+    → c ≡ flagsFit (length (take (v .others - v .flags) (drop (v .flags) r))) (take (v .others - v .flags) (drop (v .flags) r)) → ((a && b) && c) ≡ valid (geometry v) r
+is-valid v r z l h a b c =
+    let g = geometry v in
+    let p = flags-part v r z in
+    valid-is g r (z .glass) (a ∙ ap (headFits g) h) b (c ∙ (λ i. flagsFit (length (p i)) (p i)) ∙ ap (λ (n : ℕ). flagsFit n (part g flags r)) (length-part g flags r (has-flags g) l))
