@@ -26,6 +26,11 @@ unfolding Bytes
 bytes-cons x l h b zero = h
 bytes-cons x l h b (suc i) = b i
 
+pub bytes-append : (a b : List ℕ) → Bytes a → Bytes b → Bytes (a ++ b)
+unfolding Bytes
+bytes-append [] b p q = q
+bytes-append (x ∷ a) b p q = bytes-cons x (a ++ b) (p 0) (bytes-append a b (λ i. p (suc i)) q)
+
 pub bytes-take : (n : ℕ) (l : List ℕ) → Bytes l → Bytes (take n l)
 unfolding Bytes
 bytes-take zero l b i = omega arith

@@ -14,11 +14,16 @@ pub mod ListLaws
 pub mod PartLists
 pub mod Flags
 pub mod Record
+pub mod States
 pub mod Windows
 pub mod Loops
 pub mod Owed
 pub mod Panels
 pub mod StateTest
+pub mod RecordTable
+pub mod Updates
+pub mod Sending
+pub mod Opening
 pub mod Scrolls
 pub mod Pages
 pub mod Prints

@@ -158,7 +158,7 @@ pub is-others-at : (v : Glass) (k : ℕ) → Suits v → k < v .panels → (k �
 is-others-at v zero z h n = absurd (n refl)
 is-others-at v (suc k) z h n =
     let e : suc k - 1 ≡ k = omega arith in
-        ap (λ (x : ℕ). v .others + x * v .pending) e ∙ (λ i. z .is-others i + k * z .is-pending i) ∙ sym (others-at (geometry v) k h)
+    ap (λ (x : ℕ). v .others + x * v .pending) e ∙ (λ i. z .is-others i + k * z .is-pending i) ∙ sym (others-at (geometry v) k h)
 
 -- a panel's part ends within the record, which is short
 pub panel-room : (v : Glass) (k : ℕ) → Suits v → k < v .panels → at (geometry v) (panel k) + pendingBytes (geometry v) ≤ recordBytes (geometry v)
@@ -209,4 +209,3 @@ unfolding markFrom
 mark-ends {v} {m} {r₀} {r} {panels} {k} i h =
     let z : panels - k ≡ 0 = omega (arith, i) in
     ap (λ (n : ℕ). markFrom (geometry v) m k n r) (sym z) ∙ i .same
-

@@ -1,15 +1,17 @@
 -- A list of parts, whatever they are: the bytes of each stand at its offset, a store there changes that part alone, and a record is made of its parts.
 use mathlib.Core.Path.{_≡_, refl, sym, ap, _∙_}
-use mathlib.Core.Bool.{Bool, true, false, _||_, not}
+use mathlib.Core.Bool.{Bool, true, false, _&&_, not}
 use mathlib.Core.List.{List, [], _∷_, _++_, append-assoc}
 use Prim.Native.Nat.{ℕ, zero, suc, _+_}
 use native.Mathlib.Omega.{arith}
-use lib.ListN.{length, take, drop, length-drop, take-append-drop}
+use lib.ListN.{length, take, drop, length-drop, length-append, take-append-drop}
 use lib.Seq.{take-at, drop-at, drop-append-add, take-append-add, drop-drop}
 use borrow.Author.Tests.{eqb-true, eq-eqb}
 use Rattle.model.specs.Memory.{window, withWindow}
+use Rattle.model.specs.Bytes.{Bytes}
 use Rattle.model.specs.Record.{Part, head, panel, keys, flags, tag, same, has, distinct, written, total, offset, all}
-use Rattle.laws.specs.Tests.{by-test, clash, and-true, or-right}
+use Rattle.laws.specs.Tests.{by-test, clash, and-true, or-left, or-right}
+use Rattle.laws.specs.Layout.{bytes-nil, bytes-append}
 use Rattle.laws.specs.Memory.{append-window}
 
 -- ---- parts with one number are one part
@@ -52,10 +54,7 @@ pub written-same : (f f′ : Part → List ℕ) (ps : List Part) → ((p : Part)
 unfolding written has
 written-same f f′ [] e = refl
 written-same f f′ (p ∷ ps) e =
-    λ i. e p (or-first (has p ps) (same-self p)) i ++ written-same f f′ ps (λ q h. e q (or-right (same q p) h)) i
-  where
-    or-first : {s : Bool} (t : Bool) → s ≡ true → (s || t) ≡ true
-    or-first t k = λ i. k i || t
+    λ i. e p (or-left (has p ps) (same-self p)) i ++ written-same f f′ ps (λ q h. e q (or-right (same q p) h)) i
 
 pub all-at : (t : Part → Bool) (ps : List Part) (p : Part) → all t ps ≡ true → has p ps ≡ true → t p ≡ true
 unfolding all has
@@ -65,6 +64,21 @@ all-at t (q ∷ ps) p e h =
     by-test (same p q)
     (λ s. ap t (same-part p q s) ∙ k .0)
     (λ s. all-at t ps p (k .1) (rw s at h))
+
+pub all-of : (t : Part → Bool) (ps : List Part) → ((p : Part) → has p ps ≡ true → t p ≡ true) → all t ps ≡ true
+unfolding all has
+all-of t [] f = refl
+all-of t (p ∷ ps) f = λ i. f p (or-left (has p ps) (same-self p)) i && all-of t ps (λ q h. f q (or-right (same q p) h)) i
+
+pub length-written : (n : Part → ℕ) (f : Part → List ℕ) (ps : List Part) → ((p : Part) → length (f p) ≡ n p) → length (written f ps) ≡ total n ps
+unfolding written total
+length-written n f [] e = refl
+length-written n f (p ∷ ps) e = omega (arith, length-append (f p) (written f ps), e p, length-written n f ps e)
+
+pub bytes-written : (f : Part → List ℕ) (ps : List Part) → ((p : Part) → Bytes (f p)) → Bytes (written f ps)
+unfolding written
+bytes-written f [] b = bytes-nil
+bytes-written f (p ∷ ps) b = bytes-append (f p) (written f ps) (b p) (bytes-written f ps b)
 
 -- ---- windows
 

@@ -11,7 +11,7 @@ use lib.Seq.{drop-drop, drop-at, getD-set-same, getD-set-other, ext-getD}
 use borrow.Author.Tests.{ne-eqb, eq-eqb}
 use Rattle.model.specs.declared.Rect.{Rect}
 use Rattle.model.specs.declared.Head.{Head}
-use Rattle.model.specs.Geometry.{Geometry, width, height, cells, screenBytes}
+use Rattle.model.specs.Geometry.{Geometry, width, height, rows, columns, cells, screenBytes}
 use Rattle.model.specs.Memory.{window, withWindow}
 use Rattle.model.specs.Rects.{none, fits}
 use Rattle.model.specs.Bytes.{four, rectAt, rectsAt, wordsAt, rectBytes, rectsBytes, wordsBytes, fourBytes, Bytes}
@@ -262,6 +262,12 @@ bands-short w band lo (q ∷ qs) hw h e =
 pub record Numbers (g : Geometry) (h : Head) : Type 0 where
   pub graphics : h .graphics ≤ 65535 - screenBytes g
   pub text : h .text ≤ 65535 - cells g
+  pub row : h .row < rows g
+  pub column : h .column < columns g
+  pub screen : h .screen ≤ 1
+  pub print : h .print ≤ 2
+  pub cursor : h .cursor ≤ 2
+  pub version : h .version ≤ 1
   pub dirty : fits 256 0 256 (h .dirty) ≡ true
 
 pub numbers : (g : Geometry) (h : Head) → headFits g h ≡ true → Numbers g h
@@ -269,7 +275,17 @@ unfolding headFits windows
 numbers g h e =
     let t = all-true (headTests g h) e in
     let w = all-true (windowTests g (h .graphics) (h .text)) (t .0) in
-    record { graphics = omega (arith, tests); text = omega (arith, tests); dirty = t .1 .1 .1 .1 .1 .1 .1 .0 }
+    record {
+      graphics = omega (arith, tests);
+      text = omega (arith, tests);
+      row = omega (arith, tests);
+      column = omega (arith, tests);
+      screen = omega (arith, tests);
+      print = omega (arith, tests);
+      cursor = omega (arith, tests);
+      version = omega (arith, tests);
+      dirty = t .1 .1 .1 .1 .1 .1 .1 .0;
+    }
 
 pub head-equal : {a b : Head} → a .graphics ≡ b .graphics → a .text ≡ b .text → a .row ≡ b .row → a .column ≡ b .column
     → a .screen ≡ b .screen → a .print ≡ b .print → a .cursor ≡ b .cursor → a .version ≡ b .version → a .dirty ≡ b .dirty → a ≡ b
@@ -287,7 +303,7 @@ head-equal e1 e2 e3 e4 e5 e6 e7 e8 e9 = λ i. record {
 
 -- each part back: its fields, written and read again
 
-head-back : (g : Geometry) (h : Head) → headFits g h ≡ true → headOf (bytesOfHead h) ≡ h
+pub head-back : (g : Geometry) (h : Head) → headFits g h ≡ true → headOf (bytesOfHead h) ≡ h
 head-back g h e =
     let n = numbers g h e in
     head-equal (two-back (h .graphics) (omega (arith, n))) (two-back (h .text) (omega (arith, n))) refl refl refl refl refl refl

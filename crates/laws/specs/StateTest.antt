@@ -1,7 +1,7 @@
 -- STATE as the code tests it, part after part in an order of its own: it is `valid`.
 use mathlib.Core.Path.{_≡_, refl, sym, ap, _∙_}
 use mathlib.Core.Bool.{Bool, true, false, _&&_, _||_, and-assoc}
-use mathlib.Core.List.{List, [], _∷_}
+use mathlib.Core.List.{List}
 use Prim.Native.Nat.{ℕ, zero, suc, _+_, _-_, _*_, _<_, _≤_}
 use native.Mathlib.Omega.{arith}
 use native.Mathlib.Numerals.{add-one}
@@ -17,8 +17,8 @@ use Rattle.model.specs.Rects.{fits}
 use Rattle.model.specs.Bytes.{rectAt, rectsAt}
 use Rattle.model.specs.Flags.{flagBytes, flagsFit}
 use Rattle.model.specs.Record.{Part, head, panel, keys, flags, recordBytes, same, has, all, layout, at, part, headOf, pendingOf, windows, headFits, bandsFit, pendingFits, partFits, valid}
-use Rattle.laws.specs.Tests.{by-eq, or-left, or-right, and-true}
-use Rattle.laws.specs.PartLists.{same-self, all-at}
+use Rattle.laws.specs.Tests.{by-eq, and-true}
+use Rattle.laws.specs.PartLists.{all-of, all-at}
 use Rattle.laws.specs.Record.{has-head, has-panel, panel-has, has-flags, part-in, length-part}
 use Rattle.laws.specs.Windows.{head-part, pending-part}
 
@@ -34,11 +34,6 @@ and-yes s t e f = λ i. e i && f i
 and-last : (s : Bool) → (s && true) ≡ s
 and-last true = refl
 and-last false = refl
-
-all-of : (t : Part → Bool) (ps : List Part) → ((p : Part) → has p ps ≡ true → t p ≡ true) → all t ps ≡ true
-unfolding all has
-all-of t [] f = refl
-all-of t (p ∷ ps) f = and-yes (t p) (all t ps) (f p (or-left (has p ps) (same-self p))) (all-of t ps (λ q h. f q (or-right (same q p) h)))
 
 -- ---- the panels' parts, from k on, n of them
 

@@ -1,0 +1,186 @@
+-- A send on the bytes of a panel's part: what is owed moves into hand, the hand loses a line, the count gains one.
+use mathlib.Core.Path.{_≡_, refl, sym, ap, _∙_}
+use mathlib.Core.Bool.{Bool, true, false}
+use mathlib.Core.List.{List, [], _∷_, _++_, append-assoc}
+use Prim.Native.Nat.{ℕ, _+_, _*_, _<_, _≤_, min}
+use native.Mathlib.Omega.{arith}
+use lib.ListN.{length, getD, length-append}
+use lib.Seq.{set-getD}
+use Rattle.model.specs.declared.Rect.{Rect}
+use Rattle.model.specs.declared.glass.Glass.{Glass}
+use Rattle.model.specs.Geometry.{Geometry, width, height}
+use Rattle.model.specs.Glass.{geometry, IsGlass}
+use Rattle.model.specs.Memory.{withWindow}
+use Rattle.model.specs.Rects.{none, isEmpty, fits}
+use Rattle.model.specs.Bytes.{rectAt, rectsAt, rectBytes, rectsBytes, four, fourBytes, Bytes}
+use Rattle.model.specs.Record.{panel, at, part, Pending, decode, encode, pendingOf, panelOf, nothingPending, bandsFit, pendingFits, partFits, withPanel, withPanels}
+use Rattle.model.specs.Sends.{firstOwed, restOwed, takeOwed, nextLine, lineSent, sendPending}
+use Rattle.laws.specs.Tests.{by-test, if-cases, either, and-true, clash}
+use Rattle.laws.specs.Rects.{passes-fits}
+use Rattle.laws.specs.Memory.{window-extend}
+use Rattle.laws.specs.Layout.{length-rects, length-rectsAt, rects-again}
+use Rattle.laws.specs.Bands.{length-restOwed}
+use Rattle.laws.specs.Record.{encode-decode, panel-decoded, part-passes, has-panel, put-panel, sized-decode, count-decode}
+use Rattle.laws.specs.Windows.{pending-part}
+use Rattle.laws.specs.Owed.{Took, rested, window-again}
+use Rattle.laws.specs.Panels.{Known, panel-room}
+
+-- ---- taken in hand
+
+-- the hand, and the bytes with what is still owed
+pub record InHand (g : Geometry) (a : ℕ) (r : List ℕ) (q : Rect) (r′ : List ℕ) : Type 0 where
+  pub hand : q ≡ takeOwed (pendingOf g r a) .hand
+  pub owed : r′ ≡ withWindow a (rectsBytes (takeOwed (pendingOf g r a) .owed)) r
+
+pub hand-full : (g : Geometry) (a : ℕ) (r : List ℕ) {q : Rect} {t : Bool} → ((i : ℕ) → getD r i 0 < 256) → a + 8 * g .bands ≤ length r
+    → q ≡ rectAt r (a + 8 * g .bands) → t ≡ isEmpty q → t ≡ false → InHand g a r q r
+unfolding takeOwed Bytes
+hand-full g a r b h e f k =
+    let y : isEmpty (rectAt r (a + 8 * g .bands)) ≡ false = ap isEmpty (sym e) ∙ sym f ∙ k in
+    record {
+      hand = rw y e;
+      owed = rw y (sym (window-again a (8 * g .bands) (rectsBytes (rectsAt (g .bands) r a)) r
+          (length-rects (rectsAt (g .bands) r a) ∙ ap (λ (n : ℕ). 8 * n) (length-rectsAt (g .bands) r a)) (rects-again (g .bands) r a b h)));
+    }
+
+pub hand-taken : (g : Geometry) (a : ℕ) (r : List ℕ) {q p : Rect} {t : Bool} {r′ : List ℕ} → q ≡ rectAt r (a + 8 * g .bands) → t ≡ isEmpty q → t ≡ true
+    → Took (g .bands) a r p r′ → InHand g a r p r′
+unfolding takeOwed rested
+hand-taken g a r e f k w =
+    let y : isEmpty (rectAt r (a + 8 * g .bands)) ≡ true = ap isEmpty (sym e) ∙ sym f ∙ k in
+    record { hand = rw y (w .first); owed = rw y (w .rest) }
+
+-- ---- nothing to send
+
+rest-none : (rs : List Rect) → isEmpty (firstOwed rs) ≡ true → restOwed rs ≡ rs
+unfolding firstOwed restOwed
+rest-none [] e = refl
+rest-none (r ∷ rs) e =
+    by-test (isEmpty r)
+    (λ t. rw t (ap (λ (l : List Rect). r ∷ l) (rest-none rs (rw t at e))))
+    (λ t. rw t (clash (isEmpty r) (rw t at e) t))
+
+take-none : (p : Pending) → isEmpty (takeOwed p .hand) ≡ true → takeOwed p .owed ≡ p .owed
+unfolding takeOwed
+take-none p e =
+    by-test (isEmpty (p .hand))
+    (λ t. rw t (rest-none (p .owed) (rw t at e)))
+    (λ t. rw t refl)
+
+length-taken : (p : Pending) → length (takeOwed p .owed) ≡ length (p .owed)
+unfolding takeOwed
+length-taken p = by-test (isEmpty (p .hand)) (λ t. rw t (length-restOwed (p .owed))) (λ t. rw t refl)
+
+taken-sent : (p : Pending) → takeOwed p .sent ≡ p .sent
+unfolding takeOwed
+taken-sent p = by-test (isEmpty (p .hand)) (λ t. rw t refl) (λ t. rw t refl)
+
+send-idle : (p : Pending) → isEmpty (takeOwed p .hand) ≡ true → sendPending p ≡ p
+unfolding sendPending
+send-idle p e = rw e
+
+send-line : (p : Pending) → isEmpty (takeOwed p .hand) ≡ false
+    → record { owed = takeOwed p .owed; hand = nextLine (takeOwed p .hand); sent = min (p .sent + 1) 4294967295 } ≡ sendPending p
+unfolding sendPending lineSent
+send-line p e = rw e (λ i. record { owed = takeOwed p .owed; hand = nextLine (takeOwed p .hand); sent = min (sym (taken-sent p) i + 1) 4294967295 })
+
+-- three windows, one after another
+three : (a n : ℕ) (x y z d : List ℕ) → length x ≡ 8 * n → length y ≡ 8 → a ≤ length d
+    → withWindow (a + 8 * n + 8) z (withWindow (a + 8 * n) y (withWindow a x d)) ≡ withWindow a (x ++ (y ++ z)) d
+three a n x y z d e f h =
+    let l : a + 8 * n + 8 ≡ a + (8 * n + 8) = omega arith in
+    ap (withWindow (a + 8 * n + 8) z) (window-extend a (8 * n) x y d e h)
+    ∙ ap (λ (k : ℕ). withWindow k z (withWindow a (x ++ y) d)) l
+    ∙ window-extend a (8 * n + 8) (x ++ y) z d (omega (arith, length-append x y)) h
+    ∙ ap (λ (u : List ℕ). withWindow a u d) (append-assoc x y z)
+
+-- ---- the line in hand has a line after it
+
+first-top : (w band lo : ℕ) (rs : List Rect) → bandsFit w band lo rs ≡ true → lo + length rs * band ≤ 65535 → firstOwed rs .top < 65535
+unfolding bandsFit firstOwed
+first-top w band lo [] e h = omega arith
+first-top w band lo (r ∷ rs) e h =
+    let p = and-true (fits w lo (lo + band) r) (bandsFit w band (lo + band) rs) e in
+    if-cases (λ (q : Rect). q .top < 65535) (isEmpty r)
+    (λ t. first-top w band (lo + band) rs (p .1) (omega arith))
+    (λ t. either (passes-fits w lo (lo + band) r (p .0)) (λ z. rw z (omega arith)) (λ z. omega (arith, z)))
+
+hand-top : (g : Geometry) (p : Pending) → IsGlass g → pendingFits g p ≡ true → length (p .owed) ≡ g .bands → takeOwed p .hand .top < 65535
+unfolding takeOwed pendingFits
+hand-top g p z e n =
+    let t = and-true (bandsFit (width g) (g .band) 0 (p .owed)) (fits (width g) 0 (height g) (p .hand)) e in
+    by-test (isEmpty (p .hand))
+    (λ y. rw y (first-top (width g) (g .band) 0 (p .owed) (t .0) (rw n (omega (arith, z .high)))))
+    (λ y. rw y (either (passes-fits (width g) 0 (height g) (p .hand) (t .1)) (λ x. rw x (omega arith)) (λ x. omega (arith, x, z .high))))
+
+-- ---- as the code goes, with the glass by value
+
+module _ {v : Glass} {r : List ℕ} (k : ℕ) (w : Known v r) (h : k < v .panels) where
+  -- the panel's part where it stands
+  pub panel-here : panelOf (geometry v) (decode (geometry v) r) k ≡ pendingOf (geometry v) r (at (geometry v) (panel k))
+  panel-here = panel-decoded (geometry v) r k h ∙ pending-part (geometry v) r k
+
+  pub line-follows : {a : ℕ} {q : Rect} {r′ : List ℕ} → a ≡ at (geometry v) (panel k) → InHand (geometry v) a r q r′ → q .top < 65535
+  unfolding partFits
+  line-follows {a} e i =
+      let g = geometry v in
+      let p = pendingOf g r (at g (panel k)) in
+      rw (i .hand ∙ ap (λ (x : ℕ). takeOwed (pendingOf g r x) .hand) e)
+      (hand-top g p (w .suits .glass) (ap (pendingFits g) (sym (pending-part g r k)) ∙ part-passes g r (w .passing) (panel k) (has-panel g k h)) (length-rectsAt (g .bands) r (at g (panel k))))
+
+  -- idle: the record stays
+  pub idle : {a : ℕ} {q : Rect} {r′ : List ℕ} {t : Bool} → a ≡ at (geometry v) (panel k) → InHand (geometry v) a r q r′ → t ≡ isEmpty q → t ≡ true
+      → r′ ≡ encode (geometry v) (withPanel k (sendPending (panelOf (geometry v) (decode (geometry v) r) k)) (decode (geometry v) r))
+  unfolding Bytes
+  idle {a} {q} {r′} e i f y =
+      let g = geometry v in
+      let s = decode g r in
+      let p = panelOf g s k in
+      let c = at g (panel k) in
+      let room = panel-room v k (w .suits) h in
+      let hand : q ≡ takeOwed p .hand = i .hand ∙ ap (λ (x : ℕ). takeOwed (pendingOf g r x) .hand) e ∙ ap (λ (x : Pending). takeOwed x .hand) (sym panel-here) in
+      let none : isEmpty (takeOwed p .hand) ≡ true = ap isEmpty (sym hand) ∙ sym f ∙ y in
+      let n : length (rectsBytes (rectsAt (g .bands) r c)) ≡ 8 * g .bands = length-rects (rectsAt (g .bands) r c) ∙ ap (λ (x : ℕ). 8 * x) (length-rectsAt (g .bands) r c) in
+      i .owed ∙ ap (λ (x : ℕ). withWindow x (rectsBytes (takeOwed (pendingOf g r x) .owed)) r) e
+      ∙ ap (λ (x : Pending). withWindow c (rectsBytes (takeOwed x .owed)) r) (sym panel-here)
+      ∙ ap (λ (x : List Rect). withWindow c (rectsBytes x) r) (take-none p none ∙ ap (λ (x : Pending). x .owed) panel-here)
+      ∙ window-again c (8 * g .bands) (rectsBytes (rectsAt (g .bands) r c)) r n (rects-again (g .bands) r c (w .passing .bytes) (omega (arith, w .passing .sized)))
+      ∙ sym (encode-decode g r (w .passing))
+      ∙ ap (λ (l : List Pending). encode g (withPanels l s)) (sym (set-getD (s .panels) k (nothingPending g)))
+      ∙ ap (λ (x : Pending). encode g (withPanel k x s)) (sym (send-idle p none))
+
+  -- a line sent
+  pub sends : {a : ℕ} {q n : Rect} {c : ℕ} {r′ s t : List ℕ} {u : Bool} → a ≡ at (geometry v) (panel k) → InHand (geometry v) a r q r′ → u ≡ isEmpty q → u ≡ false
+      → n ≡ nextLine q → s ≡ withWindow (a + 8 * v .bands) (rectBytes n) r′ → c ≡ min (four r (a + 8 * v .bands + 8) + 1) 4294967295
+      → t ≡ withWindow (a + 8 * v .bands + 8) (fourBytes c) s
+      → t ≡ encode (geometry v) (withPanel k (sendPending (panelOf (geometry v) (decode (geometry v) r) k)) (decode (geometry v) r))
+  sends {a} {q} {n} {c} e i f y m s j t =
+      let g = geometry v in
+      let st = decode g r in
+      let p = panelOf g st k in
+      let d = at g (panel k) in
+      let room = panel-room v k (w .suits) h in
+      let hand : q ≡ takeOwed p .hand = i .hand ∙ ap (λ (x : ℕ). takeOwed (pendingOf g r x) .hand) e ∙ ap (λ (x : Pending). takeOwed x .hand) (sym panel-here) in
+      let some : isEmpty (takeOwed p .hand) ≡ false = ap isEmpty (sym hand) ∙ sym f ∙ y in
+      let owed = takeOwed p .owed in
+      let count : length owed ≡ g .bands = length-taken p ∙ ap (λ (x : Pending). length (x .owed)) panel-here ∙ length-rectsAt (g .bands) r d in
+      let sent : c ≡ min (p .sent + 1) 4294967295 = j ∙ ap (λ (x : ℕ). min (four r (x + 8 * v .bands + 8) + 1) 4294967295) e ∙ ap (λ (x : Pending). min (x .sent + 1) 4294967295) (sym panel-here) in
+      let first : _ ≡ withWindow d (rectsBytes owed) r = i .owed ∙ ap (λ (x : ℕ). withWindow x (rectsBytes (takeOwed (pendingOf g r x) .owed)) r) e
+      ∙ ap (λ (x : Pending). withWindow d (rectsBytes (takeOwed x .owed)) r) (sym panel-here) in
+      t ∙ ap (withWindow (a + 8 * v .bands + 8) (fourBytes c)) (s ∙ ap (withWindow (a + 8 * v .bands) (rectBytes n)) first)
+      ∙ ap (λ (x : ℕ). withWindow (x + 8 * v .bands + 8) (fourBytes c) (withWindow (x + 8 * v .bands) (rectBytes n) (withWindow d (rectsBytes owed) r))) e
+      ∙ three d (v .bands) (rectsBytes owed) (rectBytes n) (fourBytes c) r (length-rects owed ∙ ap (λ (x : ℕ). 8 * x) count) refl (omega (arith, w .passing .sized))
+      ∙ ap (withWindow d (rectsBytes owed ++ (rectBytes n ++ fourBytes c))) (sym (encode-decode g r (w .passing)))
+      ∙ put-panel g k (record { owed = owed; hand = n; sent = c }) st (w .suits .glass) (sized-decode g r (w .passing .sized)) h (count-decode g r) count
+      ∙ (λ x. encode g (withPanel k (record { owed = owed; hand = (m ∙ ap nextLine hand) x; sent = sent x }) st))
+      ∙ ap (λ (x : Pending). encode g (withPanel k x st)) (send-line p some)
+
+-- the rectangle whose top line is sent, and the record
+pub record SentOn (v : Glass) (k : ℕ) (r : List ℕ) (q : Rect) (r′ : List ℕ) : Type 0 where
+  pub line : q ≡ takeOwed (panelOf (geometry v) (decode (geometry v) r) k) .hand
+  pub left : r′ ≡ encode (geometry v) (withPanel k (sendPending (panelOf (geometry v) (decode (geometry v) r) k)) (decode (geometry v) r))
+
+pub line-sent : {v : Glass} {r : List ℕ} (k : ℕ) → Known v r → k < v .panels → {a : ℕ} {q : Rect} {r′ : List ℕ} → a ≡ at (geometry v) (panel k)
+    → InHand (geometry v) a r q r′ → q ≡ takeOwed (panelOf (geometry v) (decode (geometry v) r) k) .hand
+line-sent {v} {r} k w h e i =
+    i .hand ∙ ap (λ (x : ℕ). takeOwed (pendingOf (geometry v) r x) .hand) e ∙ ap (λ (x : Pending). takeOwed x .hand) (sym (panel-here k w h))

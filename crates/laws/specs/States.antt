@@ -1,0 +1,103 @@
+-- A record that passes STATE means a well formed state, and the bytes of a well formed state pass.
+use mathlib.Core.Path.{_≡_, refl, sym, ap, _∙_}
+use mathlib.Core.List.{List, [], _∷_, _++_}
+use mathlib.Core.Bool.{true}
+use Prim.Native.Nat.{ℕ, zero, suc, _+_, _*_, _%_, _/_, _<_}
+use native.Mathlib.Omega.{arith}
+use Rattle.model.specs.declared.Rect.{Rect}
+use Rattle.model.specs.declared.Head.{Head}
+use Rattle.model.specs.Geometry.{Geometry, cells}
+use Rattle.model.specs.Bytes.{wordsAt, four, rectBytes, rectsBytes, wordsBytes, fourBytes, Bytes, Words}
+use Rattle.model.specs.Flags.{flagsFit}
+use Rattle.model.specs.Record.{Part, head, panel, keys, flags, has, layout, size, part, Pending, State, decode, encode, bytesOfHead, bytesOfPending, bytesOf, panelOf, headFits, pendingFits, partFits, valid, WellFormed}
+use Rattle.model.specs.Glass.{IsGlass}
+use Rattle.laws.specs.Layout.{bytes-cons, bytes-nil, bytes-append, length-rectsAt}
+use Rattle.laws.specs.PartLists.{length-written, bytes-written, all-of}
+use Rattle.laws.specs.Flags.{length-flagsIn, flags-fit, flags-bytes}
+use Rattle.laws.specs.Record.{Passing, numbers, part-passes, has-head, has-flags, has-panel, panel-has, length-part, bytes-part, panel-decoded, count-decode, well-sized, sizes, part-encode, head-back, pending-back}
+
+-- ---- a record that passes
+
+four-lt : (r : List ℕ) (i : ℕ) → Bytes r → four r i < 4294967296
+unfolding Bytes
+four-lt r i b = omega (arith, b i, b (i + 1), b (i + 2), b (i + 2 + 1))
+
+words : (n : ℕ) (r : List ℕ) (i : ℕ) → Bytes r → Words (wordsAt n r i)
+words zero r i b = tt
+words (suc n) r i b = (four-lt r i b, words n r (i + 4) b)
+
+pub well-formed : (g : Geometry) (r : List ℕ) → Passing g r → WellFormed g (decode g r)
+unfolding decode partFits
+well-formed g r p = record {
+  head = part-passes g r p head (has-head g);
+  count = count-decode g r;
+  panels = λ k h. rw (panel-decoded g r k h) (record {
+    passes = part-passes g r p (panel k) (has-panel g k h);
+    bands = length-rectsAt (g .bands) (part g (panel k) r) 0;
+    counted = four-lt (part g (panel k) r) (0 + 8 * g .bands + 8) (bytes-part g (panel k) r (p .bytes));
+  });
+  words = refl;
+  keys = words 8 (part g keys r) 0 (bytes-part g keys r (p .bytes));
+  flags = length-flagsIn (cells g) (part g flags r) (length-part g flags r (has-flags g) (p .sized));
+}
+
+-- ---- a well formed state
+
+-- two bytes of a number, before others
+pair : (n : ℕ) (l : List ℕ) → Bytes l → Bytes (n % 256 ∷ n / 256 % 256 ∷ l)
+pair n l b = bytes-cons (n % 256) _ (omega arith) (bytes-cons (n / 256 % 256) _ (omega arith) b)
+
+rect : (q : Rect) (l : List ℕ) → Bytes l → Bytes (rectBytes q ++ l)
+rect q l b = pair (q .left) _ (pair (q .top) _ (pair (q .right) _ (pair (q .bottom) _ b)))
+
+word : (n : ℕ) (l : List ℕ) → Bytes l → Bytes (fourBytes n ++ l)
+word n l b = pair n _ (bytes-cons (n / 65536 % 256) _ (omega arith) (bytes-cons (n / 16777216 % 256) _ (omega arith) b))
+
+rects-bytes : (qs : List Rect) → Bytes (rectsBytes qs)
+rects-bytes [] = bytes-nil
+rects-bytes (q ∷ qs) = rect q (rectsBytes qs) (rects-bytes qs)
+
+words-bytes : (ws : List ℕ) → Bytes (wordsBytes ws)
+words-bytes [] = bytes-nil
+words-bytes (w ∷ ws) = word w (wordsBytes ws) (words-bytes ws)
+
+head-bytes : (g : Geometry) (h : Head) → IsGlass g → headFits g h ≡ true → Bytes (bytesOfHead h)
+head-bytes g h k e =
+    let n = numbers g h e in
+    pair (h .graphics) _ (pair (h .text) _
+    (bytes-cons (h .row) _ (omega (arith, n, k)) (bytes-cons (h .column) _ (omega (arith, n, k))
+    (bytes-cons (h .screen) _ (omega (arith, n)) (bytes-cons (h .print) _ (omega (arith, n))
+    (bytes-cons (h .cursor) _ (omega (arith, n)) (bytes-cons (h .version) _ (omega (arith, n)) (rect (h .dirty) [] bytes-nil))))))))
+
+pending-bytes : (p : Pending) → Bytes (bytesOfPending p)
+pending-bytes p =
+    bytes-append (rectsBytes (p .owed)) (rectBytes (p .hand) ++ fourBytes (p .sent)) (rects-bytes (p .owed))
+    (rect (p .hand) (fourBytes (p .sent)) (word (p .sent) [] bytes-nil))
+
+module _ (g : Geometry) (k : IsGlass g) (s : State) (f : WellFormed g s) where
+  part-bytes : (p : Part) → Bytes (bytesOf g s p)
+  unfolding bytesOf
+  part-bytes head = head-bytes g (s .head) k (f .head)
+  part-bytes (panel i) = pending-bytes (panelOf g s i)
+  part-bytes keys = words-bytes (s .keys)
+  part-bytes flags = flags-bytes (s .flags)
+
+  part-fits : (p : Part) → has p (layout g) ≡ true → partFits g p (bytesOf g s p) ≡ true
+  unfolding bytesOf partFits
+  part-fits head h = ap (headFits g) (head-back g (s .head) (f .head)) ∙ f .head
+  part-fits (panel i) h =
+      let w = f .panels i (panel-has g i (k .one) h) in
+      ap (pendingFits g) (pending-back g (panelOf g s i) k w) ∙ w .passes
+  part-fits keys h = refl
+  part-fits flags h = ap (λ (n : ℕ). flagsFit n (bytesOf g s flags)) (sym (f .flags)) ∙ flags-fit (s .flags)
+
+  pub encode-passing : Passing g (encode g s)
+  unfolding encode valid
+  encode-passing =
+      let z = well-sized g s f in
+      record {
+        glass = k;
+        sized = length-written (size g) (bytesOf g s) (layout g) (sizes g s z);
+        bytes = bytes-written (bytesOf g s) (layout g) part-bytes;
+        passes = all-of (λ p. partFits g p (part g p (encode g s))) (layout g) (λ p h. ap (partFits g p) (part-encode g s z p h) ∙ part-fits p h);
+      }

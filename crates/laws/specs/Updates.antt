@@ -1,0 +1,91 @@
+-- Stores over a record that passes, as the code makes them: another head, what is marked, other flags.
+use mathlib.Core.Path.{_≡_, sym, ap, _∙_}
+use mathlib.Core.Bool.{Bool}
+use mathlib.Core.List.{List, map}
+use Prim.Native.Nat.{ℕ, _-_, _<_, _≤_}
+use native.Mathlib.Omega.{arith}
+use borrow.Rule.Slice.PartMut.{putMid}
+use lib.ListN.{length, length-map}
+use Rattle.model.specs.declared.Rect.{Rect}
+use Rattle.model.specs.declared.Head.{Head}
+use Rattle.model.specs.declared.glass.Glass.{Glass}
+use Rattle.model.specs.Geometry.{Geometry, cells}
+use Rattle.model.specs.Glass.{geometry}
+use Rattle.model.specs.Memory.{withWindow}
+use Rattle.model.specs.Flags.{bytesOfFlags}
+use Rattle.model.specs.Record.{head, flags, offset, part, Pending, State, decode, encode, bytesOfHead, panelOf, nothingPending, headFits, partFits, withHead, withPanels, withFlags, WellFormed}
+use Rattle.model.specs.Marks.{owing, updateDirty, marked}
+use Rattle.laws.specs.ListLaws.{getD-map}
+use Rattle.laws.specs.Parts.{part-back}
+use Rattle.laws.specs.Flags.{length-flags}
+use Rattle.laws.specs.Record.{Sized, Numbers, numbers, part-passes, has-head, put-head, put-flags, all-owed, part-in, encode-decode, decode-encode, sized-decode, count-decode}
+use Rattle.laws.specs.States.{well-formed, encode-passing}
+use Rattle.laws.specs.Panels.{Known, markFrom, marks-all, length-owing}
+
+-- what STATE tells of the head
+pub head-numbers : (v : Glass) (r : List ℕ) (h : Head) → Known v r → h ≡ decode (geometry v) r .head → Numbers (geometry v) h
+unfolding decode partFits
+head-numbers v r h k e = let g = geometry v in numbers g h (ap (headFits g) e ∙ part-passes g r (k .passing) head (has-head g))
+
+pub head-room : (v : Glass) (r : List ℕ) → Known v r → 18 ≤ length r
+unfolding offset
+head-room v r k = let p = part-in (geometry v) head (has-head (geometry v)) in omega (arith, k .passing .sized)
+
+-- ---- another head
+
+pub sets-head : {v : Glass} {r : List ℕ} (n : Head) {s : List ℕ} → Known v r → s ≡ withWindow 0 (bytesOfHead n) r
+    → s ≡ encode (geometry v) (withHead n (decode (geometry v) r))
+sets-head {v} {r} n k e =
+    let g = geometry v in
+    e ∙ ap (withWindow 0 (bytesOfHead n)) (sym (encode-decode g r (k .passing))) ∙ put-head g n (decode g r) (k .suits .glass) (sized-decode g r (k .passing .sized))
+
+-- ---- what is marked, with another head
+
+-- the mark joined to each panel leaves the other sizes
+sized-marked : (g : Geometry) (m : Rect) (s : State) → Sized g s → length (s .panels) ≡ g .panels → Sized g (withPanels (map (owing g m) (s .panels)) s)
+sized-marked g m s z c =
+    record { owed = all-owed g (withPanels (map (owing g m) (s .panels)) s) (length-map (s .panels) (owing g m) ∙ c) each-owed; keys = z .keys; flags = z .flags }
+  where
+    each-owed : (k : ℕ) → k < g .panels → length (panelOf g (withPanels (map (owing g m) (s .panels)) s) k .owed) ≡ g .bands
+    each-owed k h = ap (λ (p : Pending). length (p .owed)) (getD-map (owing g m) (s .panels) k (nothingPending g) (omega arith)) ∙ length-owing g m (panelOf g s k) ∙ z .owed k
+
+pub marks-head : {v : Glass} {r : List ℕ} (n : Head) (d o : Rect) {m : Head} {s t : List ℕ} → Known v r → s ≡ markFrom (geometry v) o 0 (v .panels) r
+    → m ≡ updateDirty d n → t ≡ withWindow 0 (bytesOfHead m) s → t ≡ encode (geometry v) (marked (geometry v) d o (withHead n (decode (geometry v) r)))
+unfolding marked
+marks-head {v} {r} n d o {m} k f i j =
+    let g = geometry v in
+    let s = decode g r in
+    j ∙ ap (withWindow 0 (bytesOfHead m)) (f ∙ marks-all g o (k .suits .glass) r (k .passing))
+    ∙ put-head g m (withPanels (map (owing g o) (s .panels)) s) (k .suits .glass) (sized-marked g o s (sized-decode g r (k .passing .sized)) (count-decode g r))
+    ∙ ap (λ (x : Head). encode g (withHead x (withPanels (map (owing g o) (s .panels)) s))) i
+
+-- with the head that stands there
+pub marks-record : {v : Glass} {r : List ℕ} {h : Head} (d o : Rect) {t : List ℕ} → Known v r → h ≡ decode (geometry v) r .head
+    → t ≡ encode (geometry v) (marked (geometry v) d o (withHead h (decode (geometry v) r))) → t ≡ encode (geometry v) (marked (geometry v) d o (decode (geometry v) r))
+marks-record {v} {r} d o k e f = let g = geometry v in f ∙ ap (λ (x : Head). encode g (marked g d o (withHead x (decode g r)))) e
+
+-- ---- other flags
+
+-- other flags in a well formed state
+pub flags-formed : (g : Geometry) (fs : List Bool) (s : State) → WellFormed g s → length fs ≡ cells g → WellFormed g (withFlags fs s)
+flags-formed g fs s w n = record { head = w .head; count = w .count; panels = w .panels; words = w .words; keys = w .keys; flags = n }
+
+-- the flags' part was lent and came back as fs
+module _ {v : Glass} {r : List ℕ} (k : Known v r) (fs : List Bool) (n : length fs ≡ cells (geometry v)) {c : List ℕ} (e : c ≡ bytesOfFlags fs) where
+  flags-stored : putMid (v .flags) (v .others - v .flags) r c ≡ encode (geometry v) (withFlags fs (decode (geometry v) r))
+  flags-stored =
+      let g = geometry v in
+      let z = k .suits in
+      let long : length c ≡ v .others - v .flags = ap length e ∙ length-flags fs ∙ omega (arith, z .is-others, z .is-flags) in
+      part-back (v .flags) (v .others) r c (omega (arith, z .is-others, z .is-flags)) long
+      ∙ (λ i. withWindow (z .is-flags i) (e i) (sym (encode-decode g r (k .passing)) i))
+      ∙ put-flags g fs (decode g r) (z .glass) (sized-decode g r (k .passing .sized)) n
+
+  formed : WellFormed (geometry v) (withFlags fs (decode (geometry v) r))
+  formed = flags-formed (geometry v) fs (decode (geometry v) r) (well-formed (geometry v) r (k .passing)) n
+
+  pub flags-known : Known v (putMid (v .flags) (v .others - v .flags) r c)
+  flags-known = record { suits = k .suits; passing = rw flags-stored (encode-passing (geometry v) (k .suits .glass) (withFlags fs (decode (geometry v) r)) formed) }
+
+  pub flags-state : decode (geometry v) (putMid (v .flags) (v .others - v .flags) r c) ≡ withFlags fs (decode (geometry v) r)
+  flags-state = ap (decode (geometry v)) flags-stored ∙ decode-encode (geometry v) (withFlags fs (decode (geometry v) r)) (k .suits .glass) formed
