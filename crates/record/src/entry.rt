@@ -1,9 +1,10 @@
 // The entry of every call but open: LENT, then STATE.
+use crate::glass;
 use crate::layout;
 use crate::state;
 use marks::rect;
 use model::Head;
-use model::Rect;
+use model::refusal;
 ghost use mathlib.Core.Path.{_≡_};
 ghost use Rattle.record.specs.Entry.{Entered};
 
@@ -17,17 +18,7 @@ fn refused(code: u32) -> Entry
 {
     Entry {
         code: code,
-        head: Head {
-            graphics: 0,
-            text: 0,
-            row: 0,
-            column: 0,
-            screen: 0,
-            print: 0,
-            cursor: 0,
-            version: 0,
-            dirty: rect::empty(),
-        },
+        head: layout::clear_head(0, 0, 0),
     }
 }
 
@@ -35,12 +26,13 @@ fn refused(code: u32) -> Entry
 pub fn enter(rec: &[u8], others: bool) -> Entry
     ensures { λ r. ⌜ Entered others (now (rec .entry)) r ⌝ }
 {
-    if (rec.len() == layout::RECORD_BYTES) & others {
+    let glass = glass::glass_of(rec.len());
+    if (rec.len() == glass.bytes) & others {
         let h = layout::load_head(rec);
-        if state::is_valid(rec, h) {
+        if state::is_valid(rec, glass, h) {
             return Entry { code: 0, head: h };
         }
-        return refused(2);
+        return refused(refusal::STATE);
     }
-    refused(1)
+    refused(refusal::LENT)
 }

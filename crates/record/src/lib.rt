@@ -1,8 +1,10 @@
-// The lent record to structs by value and back, and the STATE test. Only layout.rt knows an offset.
+// The lent record: the glass that it is for, its fields read and written in place, its panels marked, the STATE test, and the entry of every call.
 pub mod entry;
-pub mod flags;
+pub mod glass;
 pub mod keys;
 pub mod layout;
 pub mod open;
+pub mod owed;
+pub mod panels;
 pub mod state;
 pub mod update;

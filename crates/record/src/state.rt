@@ -1,63 +1,77 @@
-// STATE: what every field of a record must be.
+// STATE: what every part of a record must be, for the glass that is told.
 use crate::layout;
+use crate::owed;
+use crate::panels;
 use marks::rect;
 use model::Head;
-use model::Pending;
-use model::glass;
+use model::glass::Glass;
 ghost use mathlib.Core.Path.{_≡_};
-ghost use mathlib.Core.Bool.{_&&_};
-ghost use lib.ListN.{length, drop};
-ghost use Rattle.model.specs.Geometry.{base};
-ghost use Rattle.model.specs.Record.{headOf, windows, stateFits, flagsFit, valid};
+ghost use Prim.Native.Nat.{_<_};
+ghost use lib.ListN.{length};
+ghost use Rattle.model.specs.Glass.{geometry, Suits};
+ghost use Rattle.model.specs.Record.{at, panel, recordBytes, headOf, pendingOf, windows, headFits, pendingFits, valid};
+ghost use Rattle.laws.specs.StateTest.{panelsFit};
 
 // WINDOW: both windows lie in memory and share no byte.
-pub fn windows_fit(graphics: u16, text: u16) -> bool
-    ensures { λ r. ⌜ r ≡ windows base graphics text ⌝ }
+pub fn windows_fit(glass: Glass, graphics: u16, text: u16) -> bool
+    requires { ⌜ Suits glass ⌝ }
+    ensures { λ r. ⌜ r ≡ windows (geometry glass) graphics text ⌝ }
 {
-    (graphics <= glass::LAST_GRAPHICS_BASE)
-        & (text <= glass::LAST_TEXT_BASE)
-        & (((graphics as usize) + glass::SCREEN_BYTES <= (text as usize))
-            | ((text as usize) + glass::TEXT_BYTES <= (graphics as usize)))
+    (graphics <= glass.graphics)
+        & (text <= glass.text)
+        & (((graphics as usize) + glass.screen <= (text as usize))
+            | ((text as usize) + glass.cells <= (graphics as usize)))
 }
 
-fn state_fits(h: Head, p: Pending) -> bool
-    requires { ⌜ length (p .owed) ≡ 1 ⌝ }
-    ensures { λ r. ⌜ r ≡ stateFits base h p ⌝ }
+fn head_fits(glass: Glass, h: Head) -> bool
+    requires { ⌜ Suits glass ⌝ }
+    ensures { λ r. ⌜ r ≡ headFits (geometry glass) h ⌝ }
 {
     let dirty = h.dirty;
-    let bands = p.owed;
-    let owed = bands[0];
-    let hand = p.hand;
-    windows_fit(h.graphics, h.text)
-        & (h.row < glass::ROWS)
-        & (h.column < glass::COLUMNS)
+    windows_fit(glass, h.graphics, h.text)
+        & ((h.row as usize) < glass.rows)
+        & ((h.column as usize) < glass.columns)
         & (h.screen <= 1)
         & (h.print <= 2)
         & (h.cursor <= 2)
         & (h.version <= 1)
         & rect::rect_fits(256, 0, 256, dirty)
-        & rect::rect_fits(glass::RIGHT, 0, glass::BOTTOM, owed)
-        & rect::rect_fits(glass::RIGHT, 0, glass::BOTTOM, hand)
 }
 
-fn flags_fit(flags: &[u8]) -> bool
-    ensures { λ r. ⌜ r ≡ flagsFit (now (flags .entry)) ⌝ }
+fn pending_fits(rec: &[u8], glass: Glass, k: usize) -> bool
+    requires { ⌜ Suits glass ⌝ }
+    requires { ⌜ (length (now rec) ≡ recordBytes (geometry glass)) × (k < glass .panels) ⌝ }
+    ensures { λ r. ⌜ r ≡ pendingFits (geometry glass) (pendingOf (geometry glass) (now (rec .entry)) (at (geometry glass) (panel k))) ⌝ }
 {
-    let n = flags.len();
+    let a = panels::panel_at(glass, k);
+    let bands = glass.bands;
+    let owed = owed::bands_fit(rec, a, bands, glass.band, glass.width);
+    let hand = layout::load_rect(rec, a + 8 * bands);
+    owed & rect::rect_fits(glass.width, 0, glass.height, hand)
+}
+
+fn panels_fit(rec: &[u8], glass: Glass) -> bool
+    requires { ⌜ Suits glass ⌝ }
+    requires { ⌜ length (now rec) ≡ recordBytes (geometry glass) ⌝ }
+    ensures { λ r. ⌜ r ≡ panelsFit (geometry glass) (now (rec .entry)) 0 (glass .panels) ⌝ }
+{
+    let panels = glass.panels;
     let mut ok = true;
-    let mut i: usize = 0;
-    while i < n {
-        ok = ok & (flags[i] <= 1);
-        i += 1;
+    let mut k: usize = 0;
+    while k < panels {
+        ok = ok & pending_fits(rec, glass, k);
+        k += 1;
     }
     ok
 }
 
 // Whether the record, whose head is h, passes STATE.
-pub fn is_valid(rec: &[u8], h: Head) -> bool
-    requires { ⌜ (length (now rec) ≡ 170) × (h ≡ headOf (now rec)) ⌝ }
-    ensures { λ r. ⌜ r ≡ valid base (now (rec .entry)) ⌝ }
+pub fn is_valid(rec: &[u8], glass: Glass, h: Head) -> bool
+    requires { ⌜ Suits glass ⌝ }
+    requires { ⌜ (length (now rec) ≡ recordBytes (geometry glass)) × (h ≡ headOf (now rec)) ⌝ }
+    ensures { λ r. ⌜ r ≡ valid (geometry glass) (now (rec .entry)) ⌝ }
 {
-    let p = layout::load_pending(rec, layout::PENDING);
-    state_fits(h, p) & flags_fit(&rec[layout::FLAGS..])
+    let from = glass.flags;
+    let to = glass.others;
+    head_fits(glass, h) & panels_fit(rec, glass) & flags::flags_fit(&rec[from..to])
 }
