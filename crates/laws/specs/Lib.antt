@@ -33,6 +33,7 @@ pub mod EllipseSteps
 pub mod EllipseMarks
 pub mod EllipseWalks
 pub mod EllipseDrawn
+pub mod NoWriteOutside
 pub mod Counts
 pub mod Codes
 pub mod Glyphs

@@ -87,7 +87,7 @@ draws g d = marks (owes (g .stride) (height g) (d .owed) (seen (g .stride) (heig
 
 -- a page that has scrolled in Graph
 abbrev pub prints : Geometry → Page → Lent → Effect
-prints g p l = marks (scrollMark g (screenScrolls (decode g (l .rec) .head .screen) (p .scrolls)))
+prints g p l = marks (scrollMark (g .stride) (height g) (screenScrolls (decode g (l .rec) .head .screen) (p .scrolls)))
 
 -- a blink in Text
 unfoldable pub blinks : Geometry → Lent → Effect

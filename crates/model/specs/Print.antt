@@ -125,12 +125,12 @@ unfoldable pub screenScrolls : ℕ → ℕ → ℕ
 screenScrolls mode n = cond (eqb mode 1) n 0
 
 -- each scroll in Graph owes the whole screen, and marks nothing
-unfoldable pub scrollMark : Geometry → ℕ → Rect
-scrollMark g n = cond (eqb n 0) none (whole (g .stride) (height g))
+unfoldable pub scrollMark : ℕ → ℕ → ℕ → Rect
+scrollMark st h n = cond (eqb n 0) none (whole st h)
 
 unfoldable pub stateWithPage : Geometry → Page → State → State
 stateWithPage g p s =
-    marked g none (scrollMark g (screenScrolls (s .head .screen) (p .scrolls)))
+    marked g none (scrollMark (g .stride) (height g) (screenScrolls (s .head .screen) (p .scrolls)))
     (record { head = atPlace (p .row) (p .column) (s .head); pending = s .pending; keys = s .keys; flags = p .flags })
 
 unfoldable pub scrolledMemory : Geometry → ℕ → ℕ → List ℕ → List ℕ

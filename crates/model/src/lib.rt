@@ -36,6 +36,12 @@ pub struct Marks {
     pub owed: Rect,
 }
 
+// What is drawn on: a line in bytes, and how many lines.
+pub struct Canvas {
+    pub stride: usize,
+    pub height: usize,
+}
+
 pub enum DrawMode {
     Clear,
     Or,
