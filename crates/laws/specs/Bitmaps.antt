@@ -17,12 +17,12 @@ use Rattle.model.specs.declared.PaintMode.{PaintMode}
 use Rattle.model.specs.declared.PaintMode.the-variants.{Copy, Or, Not, And, Xor}
 use Rattle.model.specs.Pixels.{PixelWrite, bit, writePixel, draw, seen}
 use Rattle.model.specs.Rects.{none, fits}
-use Rattle.model.specs.Marks.{within, owes, drawn, drawnOn}
+use Rattle.model.specs.Marks.{within, drawn, drawnOn}
 use Rattle.model.specs.Points.{pointOp, pointWrite}
 use Rattle.model.specs.Bitmaps.{paintOp, sourceStride, maxZero, visible, visibleRect, paintedPixel, paintedLine, paintedLines, bitmap}
 use Rattle.laws.specs.Tests.{tests, if-cases, by-lt}
 use Rattle.laws.specs.Rects.{fits-passes}
-use Rattle.laws.specs.Writes.{draw-append, seen-append, within-append, within-none, within-more, owes-mark, drawn-is}
+use Rattle.laws.specs.Writes.{draw-append, seen-append, within-append, within-none, within-more, OwesItsMark, owes-mark, drawn-is}
 use Rattle.laws.specs.Points.{both}
 use Rattle.laws.specs.Lines.{on-is}
 
@@ -187,7 +187,7 @@ module _ (st h : ℕ) (source : List ℕ) (x y : ℤ) (w n : ℕ) (m : PaintMode
       (λ a. rw (lines-none (sourceStride w) source m across (down .skip) (down .from) (down .to - down .from) a) (within-none (visibleRect across down)))
 
   -- no write lies outside what the bitmap owes
-  pub bitmap-owes : owes st h (bitmap st h source x y w n m .owed) (seen st h (bitmap st h source x y w n m .writes)) ≡ bitmap st h source x y w n m .owed
+  pub bitmap-owes : OwesItsMark st h (bitmap st h source x y w n m)
   unfolding bitmap
   bitmap-owes = owes-mark st h _ _ (within-visible (visible x w (8 * st)) (visible y n h))
 

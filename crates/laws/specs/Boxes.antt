@@ -13,11 +13,11 @@ use Rattle.model.specs.declared.DrawMode.{DrawMode}
 use Rattle.model.specs.Pixels.{Screen, PixelWrite, draw, seen}
 use Rattle.model.specs.Rects.{every, lowered, fits}
 use Rattle.model.specs.Bytes.{Bytes}
-use Rattle.model.specs.Marks.{drawn, drawnOn, within, owes}
+use Rattle.model.specs.Marks.{drawn, drawnOn, within}
 use Rattle.model.specs.Lines.{isUnknown, spanRect, pixelRun, clamp, horizontal, vertical}
-use Rattle.model.specs.Boxes.{rows, filledBox, outline, boxOf, box}
+use Rattle.model.specs.Boxes.{boxRows, filledBox, outline, boxOf, box}
 use Rattle.laws.specs.Tests.{tests, by-test, all-true}
-use Rattle.laws.specs.Writes.{drawn-append, within-none, within-append, owes-mark, drawn-is, screen-draw}
+use Rattle.laws.specs.Writes.{drawn-append, within-none, within-append, OwesItsMark, owes-mark, drawn-is, screen-draw}
 use Rattle.laws.specs.Solid.{solid, horizontal-in, filled-in}
 use Rattle.laws.specs.Points.{bothLowered}
 use Rattle.laws.specs.Runs.{maskedBytes, bytes-append, bytes-run, bytes-kept}
@@ -26,11 +26,11 @@ use Rattle.laws.specs.Lines.{span-fits, horizontal-within, horizontal-dr
 -- ---- no write lies outside
 
 rows-within : (st h : ℕ) (r : Rect) (left right y n : ℕ) (d : DrawMode) → left ≤ right → r .left ≤ left → right < r .right → r .top ≤ y → y + n ≤ r .bottom
-    → within (lowered (8 * st) h r) (rows st h left right y n d) ≡ true
-unfolding rows
+    → within (lowered (8 * st) h r) (boxRows st h left right y n d) ≡ true
+unfolding boxRows
 rows-within st h r left right y zero d o a b e f = within-none _
 rows-within st h r left right y (suc n) d o a b e f =
-    within-append _ (horizontal st h left right y d) (rows st h left right (suc y) n d)
+    within-append _ (horizontal st h left right y d) (boxRows st h left right (suc y) n d)
     (horizontal-within st h r left right y d o a b e (omega arith))
     (rows-within st h r left right (suc y) n d o a b (omega arith) (omega arith))
 
@@ -63,25 +63,25 @@ module _ (st h left top right bottom : ℕ) (d : DrawMode) (across : left ≤ ri
 
 pub rows-turn : (st h left right y n : ℕ) (d : DrawMode) (s e t : List ℕ) {a b l : ℕ} → Screen st h s → left ≤ right → 0 < n
     → a ≡ clamp left (8 * st) → b ≡ clamp right (8 * st) → l ≡ clamp y h → e ≡ draw st (pixelRun a l (suc (b - a)) d) s
-    → draw st (seen st h (rows st h left right y n d)) s ≡ t
-    → draw st (seen st h (rows st h left right (y + 1) (n - 1) d)) e ≡ t
-unfolding rows
+    → draw st (seen st h (boxRows st h left right y n d)) s ≡ t
+    → draw st (seen st h (boxRows st h left right (y + 1) (n - 1) d)) e ≡ t
+unfolding boxRows
 rows-turn st h left right y zero d s e t r o k p q w v u = absurd (omega arith)
 rows-turn st h left right y (suc n) d s e t r o k p q w v u =
     let i : suc n - 1 ≡ n = omega arith in
     let j : y + 1 ≡ suc y = omega arith in
     let f = horizontal-drawn st h left right y d s e r o p q w v in
-    (λ k. draw st (seen st h (rows st h left right (j k) (i k) d)) (f k)) ∙ sym (drawn-append st h (horizontal st h left right y d) _ s) ∙ u
+    (λ k. draw st (seen st h (boxRows st h left right (j k) (i k) d)) (f k)) ∙ sym (drawn-append st h (horizontal st h left right y d) _ s) ∙ u
 
 pub rows-start : (st h left top right bottom : ℕ) (d : DrawMode) (s : List ℕ)
-    → draw st (seen st h (rows st h left right top (bottom - top + 1) d)) s ≡ draw st (seen st h (filledBox st h left top right bottom d)) s
+    → draw st (seen st h (boxRows st h left right top (bottom - top + 1) d)) s ≡ draw st (seen st h (filledBox st h left top right bottom d)) s
 unfolding filledBox
 rows-start st h left top right bottom d s =
     let i : bottom - top + 1 ≡ suc (bottom - top) = omega arith in
-    ap (λ (n : ℕ). draw st (seen st h (rows st h left right top n d)) s) i
+    ap (λ (n : ℕ). draw st (seen st h (boxRows st h left right top n d)) s) i
 
-pub rows-end : (st h left right y n : ℕ) (d : DrawMode) (s t : List ℕ) → n ≤ 0 → draw st (seen st h (rows st h left right y n d)) s ≡ t → s ≡ t
-unfolding rows seen draw
+pub rows-end : (st h left right y n : ℕ) (d : DrawMode) (s t : List ℕ) → n ≤ 0 → draw st (seen st h (boxRows st h left right y n d)) s ≡ t → s ≡ t
+unfolding boxRows seen draw
 rows-end st h left right y zero d s t o u = u
 rows-end st h left right y (suc n) d s t o u = absurd (omega arith)
 
@@ -102,8 +102,8 @@ whole-in st h top bottom a b r o u v =
     (mul-le-mul-left st (omega arith), omega (arith, r .sized, mul-le-mul-left {m = bottom + 1} {n = h} st (omega (arith, tests))))
 
 lines-drawn : (st h left right y n : ℕ) (d : DrawMode) (s : List ℕ) → Screen st h s → Bytes s → left ≤ right → 0 ≡ clamp left (8 * st)
-    → 8 * st - 1 ≡ clamp right (8 * st) → y + n ≤ h → maskedBytes s (st * y) (st * n) d ≡ draw st (seen st h (rows st h left right y n d)) s
-unfolding rows seen draw maskedBytes
+    → 8 * st - 1 ≡ clamp right (8 * st) → y + n ≤ h → maskedBytes s (st * y) (st * n) d ≡ draw st (seen st h (boxRows st h left right y n d)) s
+unfolding boxRows seen draw maskedBytes
 lines-drawn st h left right y zero d s r hs o p q k = let e : st * zero ≡ zero = omega arith in rw e
 lines-drawn st h left right y (suc n) d s r hs o p q k =
     let e : st * suc n ≡ st + st * n = omega arith in
@@ -117,8 +117,8 @@ lines-drawn st h left right y (suc n) d s r hs o p q k =
     ∙ bytes-append (st * y) st (st * n) d s
     ∙ ap (λ (a : ℕ). maskedBytes (maskedBytes s (st * y) st d) a (st * n) d) j
     ∙ lines-drawn st h left right (suc y) n d (maskedBytes s (st * y) st d) (screen-draw st h (seen st h (horizontal st h left right y d)) r f) (bytes-kept (st * y) st d s hs) o p q (omega arith)
-    ∙ ap (draw st (seen st h (rows st h left right (suc y) n d))) f
-    ∙ sym (drawn-append st h (horizontal st h left right y d) (rows st h left right (suc y) n d) s)
+    ∙ ap (draw st (seen st h (boxRows st h left right (suc y) n d))) f
+    ∙ sym (drawn-append st h (horizontal st h left right y d) (boxRows st h left right (suc y) n d) s)
 
 pub box-whole : (st h left top right bottom : ℕ) (d : DrawMode) (s e : List ℕ) {a b : ℕ} {t : Bool} → Screen st h s → Bytes s → (left ≤ right) × (top ≤ bottom)
     → a ≡ clamp left (8 * st) → b ≡ clamp right (8 * st) → t ≡ wholeLines st h a b bottom → t ≡ true
@@ -189,6 +189,6 @@ module _ (st h x1 y1 x2 y2 : ℕ) (fill : Bool) (d : DrawMode) where
   unfolding box boxOf
   box-fits a b e f = span-fits (min x1 x2) (min y1 y2) (max x1 x2) (max y1 y2) (omega arith) (omega arith) (omega arith) (omega arith)
 
-  pub box-owes : owes st h (box st h x1 y1 x2 y2 fill d .owed) (seen st h (box st h x1 y1 x2 y2 fill d .writes)) ≡ box st h x1 y1 x2 y2 fill d .owed
+  pub box-owes : OwesItsMark st h (box st h x1 y1 x2 y2 fill d)
   unfolding box boxOf
   box-owes = owes-mark st h _ _ (box-within st h (min x1 x2) (min y1 y2) (max x1 x2) (max y1 y2) d (omega arith) (omega arith) fill)

@@ -14,7 +14,7 @@ use Rattle.model.specs.Rects.{none, fits}
 use Rattle.model.specs.Marks.{Drawing, Drawn, drawn, drawnOn, within, owes}
 use Rattle.model.specs.Lines.{isUnknown, spanRect, horizontalLine, verticalLine, sloped, slopedLine, line}
 use Rattle.laws.specs.Tests.{tests, if-cases}
-use Rattle.laws.specs.Writes.{within-none, owes-mark}
+use Rattle.laws.specs.Writes.{within-none, OwesItsMark, owes-mark}
 use Rattle.laws.specs.Rects.{fits-passes}
 use Rattle.laws.specs.Points.{both}
 use Rattle.laws.specs.Lines.{span-fits, horizontal-within, vertical-within}
@@ -77,5 +77,5 @@ module _ (st h x1 y1 x2 y2 : ℕ) (d : DrawMode) (hx1 : x1 < 256) (hy1 : y1 < 25
       P : Drawing → Type 0
       P g = within (g .owed) (g .writes) ≡ true
 
-  pub line-owes : owes st h (line st h x1 y1 x2 y2 d .owed) (seen st h (line st h x1 y1 x2 y2 d .writes)) ≡ line st h x1 y1 x2 y2 d .owed
+  pub line-owes : OwesItsMark st h (line st h x1 y1 x2 y2 d)
   line-owes = owes-mark st h (line st h x1 y1 x2 y2 d .owed) (line st h x1 y1 x2 y2 d .writes) line-within

@@ -13,14 +13,14 @@ use Rattle.model.specs.declared.DrawMode.{DrawMode}
 use Rattle.model.specs.Pixels.{PixelWrite, onScreen, seen}
 use Rattle.model.specs.Rects.{none, fits, lowered}
 use Rattle.model.specs.Marks.{whole, within, owes}
-use Rattle.model.specs.Points.{pixelRect, pointWrite, pointRect, point}
+use Rattle.model.specs.Points.{pointWrite, pointRect, point}
 use Rattle.model.specs.Ellipses.{Part, parts, steps, up, down, corners, chord, chords, partWrites, partsWrites, wraps, ellipseMark, ellipseDrawn, isPoint, isNothing, ellipse, radiiFit, stepsFit}
 use Rattle.laws.specs.Tests.{tests, if-cases, by-test, either, and-true, and-false, or-right, neither}
 use Rattle.laws.specs.Rects.{fits-passes}
 use Rattle.laws.specs.Marks.{in-inside}
 use Rattle.laws.specs.Pixels.{Each}
-use Rattle.laws.specs.Writes.{within-none, within-more, within-append, within-seen}
-use Rattle.laws.specs.Points.{on-true, point-fits}
+use Rattle.laws.specs.Writes.{within-none, within-more, within-append, within-seen, OwesItsMark}
+use Rattle.laws.specs.Points.{on-true, point-within, point-fits}
 use Rattle.laws.specs.Lines.{horizontal-within}
 use Rattle.laws.specs.EllipseSteps.{Round, Inner, parts-in, never-endless}
 
@@ -140,23 +140,18 @@ always-ends rx ry fill d e = go (shape rx ry fill d e)
 -- ---- every ellipse
 
 module _ (st h x y rx ry : ℕ) (fill : Bool) (d : DrawMode) where
-  point-within : within (pointRect st h x y) (seen st h (pointWrite x y d ∷ [])) ≡ true
-  unfolding within seen pointRect
-  point-within = by-test (onScreen st h x y) (λ e. rw (e, in-inside (pixelRect x y) x y (omega arith))) (λ e. rw e)
-
   pub ellipse-within : radiiFit rx ry fill d ≡ true
       → within (ellipse st h x y rx ry fill d .owed) (seen st h (ellipse st h x y rx ry fill d .writes)) ≡ true
   unfolding ellipse point
   ellipse-within e = go (shape rx ry fill d e)
     where
       go : Shape rx ry fill d → within (ellipse st h x y rx ry fill d .owed) (seen st h (ellipse st h x y rx ry fill d .writes)) ≡ true
-      go (isDot p) = rw p point-within
+      go (isDot p) = rw p (point-within st h x y d)
       go (isVoid p n) = rw (p, n) (within-seen st h none [] (within-none none))
       go (isRound p n o) = rw (p, n) (drawn-within st h x y rx ry fill d o)
 
   -- so the last clause of Marks never applies
-  pub ellipse-owes : radiiFit rx ry fill d ≡ true
-      → owes st h (ellipse st h x y rx ry fill d .owed) (seen st h (ellipse st h x y rx ry fill d .writes)) ≡ ellipse st h x y rx ry fill d .owed
+  pub ellipse-owes : radiiFit rx ry fill d ≡ true → OwesItsMark st h (ellipse st h x y rx ry fill d)
   unfolding owes
   ellipse-owes e = rw (ellipse-within e)
 

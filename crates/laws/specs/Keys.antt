@@ -12,15 +12,27 @@ use Rattle.model.specs.Bits.{bitAt}
 use Rattle.model.specs.Bytes.{four, wordsAt}
 use Rattle.model.specs.Geometry.{memoryBytes}
 use Rattle.model.specs.Memory.{zeros}
+use Rattle.model.specs.declared.glass.Glass.{Glass}
+use Rattle.model.specs.Glass.{geometry, Suits}
+use Rattle.model.specs.Record.{decode}
 use Rattle.model.specs.Open.{isKey, withKeys, clearMemory}
 use Rattle.laws.specs.Tests.{if-cases}
 use Rattle.laws.specs.Layout.{word-at}
+use Rattle.laws.specs.Windows.{keys-part}
 
-pub key-test : (r : List ℕ) (k a : ℕ) {w : ℕ} → a < 256 → w ≡ four r (k + 4 * (a / 32)) → eqb (w / 2 ^ (a % 32) % 2) 1 ≡ isKey (wordsAt 8 r k) a
+-- the key words, read where they stand
+pub keys-here : (v : Glass) (r : List ℕ) → Suits v → decode (geometry v) r .keys ≡ wordsAt 8 r (v .keys)
+unfolding decode
+keys-here v r z = keys-part (geometry v) r ∙ ap (wordsAt 8 r) (sym (z .is-keys))
+
+pub key-test : (v : Glass) (r : List ℕ) (a : ℕ) {w : ℕ} → Suits v → a < 256 → w ≡ four r (v .keys + 4 * (a / 32))
+    → eqb (w / 2 ^ (a % 32) % 2) 1 ≡ isKey (decode (geometry v) r .keys) a
 unfolding isKey bitAt
-key-test r k a h e =
+key-test v r a z h e =
+    let k = v .keys in
     ap (λ (n : ℕ). eqb (n / 2 ^ (a % 32) % 2) 1) (e ∙ sym (word-at 8 r k (a / 32) (omega arith)))
     ∙ ap (λ (t : Bool). t && bitAt (getD (wordsAt 8 r k) (a / 32) 0) (a % 32)) (sym (lt-ltb a 256 h))
+    ∙ ap (λ (l : List ℕ). isKey l a) (sym (keys-here v r z))
 
 pub no-key : (keys : List ℕ) (a : ℕ) → 256 ≤ a → false ≡ isKey keys a
 unfolding isKey

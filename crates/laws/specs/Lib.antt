@@ -20,14 +20,15 @@ pub mod Loops
 pub mod Owed
 pub mod Panels
 pub mod StateTest
+pub mod Keys
 pub mod RecordTable
+pub mod Glasses
 pub mod Updates
 pub mod Sending
 pub mod Opening
 pub mod Scrolls
 pub mod Pages
 pub mod Prints
-pub mod Keys
 pub mod Writes
 pub mod Points
 pub mod Solid
@@ -42,6 +43,7 @@ pub mod EllipseSteps
 pub mod EllipseMarks
 pub mod EllipseWalks
 pub mod EllipseDrawn
+pub mod NoWriteOutside
 pub mod Counts
 pub mod Codes
 pub mod Glyphs

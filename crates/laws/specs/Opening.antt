@@ -99,12 +99,3 @@ opens {v} {h = h} {w = w} r graphics text version ks z n m e t f k q j =
   where
     short : (i : ℕ) → 0 ≤ i → i < v .panels → AllShort (panelOf (geometry v) (blank (geometry v) h ks) i .owed)
     short i o l = rw (getD-replicate (v .panels) i (nothingPending (geometry v))) (none-short (v .bands))
-
--- head and keys lie in the record
-pub open-room : (v : Glass) → Suits v → (18 ≤ recordBytes (geometry v)) × (v .keys + 32 ≤ recordBytes (geometry v))
-unfolding offset
-open-room v z =
-    let g = geometry v in
-    let h = part-in g head (has-head g) in
-    let k = part-in g keys (has-keys g) in
-    (omega arith, omega (arith, z .is-keys))

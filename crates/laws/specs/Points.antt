@@ -25,6 +25,7 @@ use Rattle.laws.specs.Pixels.{place-lt}
 use Rattle.laws.specs.Tables.{every, every-at, or-is, and-is, flip-is, see-is}
 use Rattle.laws.specs.Rects.{fits-passes}
 use Rattle.laws.specs.Marks.{in-inside}
+use Rattle.laws.specs.Writes.{OwesItsMark}
 
 -- a bit made what it is
 pub withBit-own : (b k : ℕ) → withBit b k (bitAt b k) ≡ b
@@ -100,10 +101,14 @@ pub lowered-both : (st h : ℕ) {r m o : Rect} → m ≡ r → o ≡ lowered (8 
 lowered-both st h {r} {m} {o} p q = let k : o ≡ lowered (8 * st) h r = q ∙ ap (lowered (8 * st) h) p in λ i. record { dirty = p i; owed = k i }
 
 -- a point's write lies in what it marks
-pub point-owes : (st h x y : ℕ) (d : DrawMode) → owes st h (pointRect st h x y) (seen st h (pointWrite x y d ∷ [])) ≡ pointRect st h x y
-unfolding owes within seen pointRect
-point-owes st h x y d =
+pub point-within : (st h x y : ℕ) (d : DrawMode) → within (pointRect st h x y) (seen st h (pointWrite x y d ∷ [])) ≡ true
+unfolding within seen pointRect
+point-within st h x y d =
     by-test (onScreen st h x y) (λ e. rw (e, in-inside (pixelRect x y) x y (omega arith))) (λ e. rw e)
+
+pub point-owes : (st h x y : ℕ) (d : DrawMode) → OwesItsMark st h (point st h x y d)
+unfolding point owes
+point-owes st h x y d = rw (point-within st h x y d)
 
 -- and STATE lets it pass in dirty
 pub point-fits : (st h x y : ℕ) → x < 256 → y < 256 → fits 256 0 256 (pointRect st h x y) ≡ true
@@ -111,20 +116,6 @@ unfolding pointRect
 point-fits st h x y hx hy =
     if-cases (λ (r : Rect). fits 256 0 256 r ≡ true) (onScreen st h x y)
     (λ e. fits-passes 256 0 256 (pixelRect x y) (inr (omega arith))) (λ e. fits-passes 256 0 256 none (inl refl))
-
-pub point-on : (st h x y : ℕ) (d : DrawMode) (s e : List ℕ) {t : Bool} {m : Marks} → t ≡ onScreen st h x y → t ≡ true → m ≡ both (pixelRect x y)
-    → e ≡ writePixel st s (pointWrite x y d) → drawn m e ≡ drawnOn st h (point st h x y d) s
-unfolding drawn drawnOn point owes within seen pointRect draw
-point-on st h x y d s e {m = m} p q r w =
-    let o : onScreen st h x y ≡ true = cc in
-    rw (o, in-inside (pixelRect x y) x y (omega arith)) (λ i. record { dirty = r i .dirty; owed = r i .owed; screen = w i })
-
-pub point-off : (st h x y : ℕ) (d : DrawMode) (s : List ℕ) {t : Bool} {m : Marks} → t ≡ onScreen st h x y → t ≡ false → m ≡ both none
-    → drawn m s ≡ drawnOn st h (point st h x y d) s
-unfolding drawn drawnOn point owes within seen pointRect draw
-point-off st h x y d s p q r =
-    let o : onScreen st h x y ≡ false = cc in
-    rw (o, r)
 
 -- one write, where it falls on the screen
 pub seen-one : (st h x y : ℕ) (d : DrawMode) (s e : List ℕ) {t : Bool} → t ≡ onScreen st h x y → t ≡ true → e ≡ writePixel st s (pointWrite x y d)
@@ -141,19 +132,38 @@ seen-none st h x y d s p q =
     let o : onScreen st h x y ≡ false = cc in
     rw o
 
+-- ---- with its marks
+
+point-marked : (st h x y : ℕ) (d : DrawMode) (s e : List ℕ) {m : Marks} → m ≡ both (pointRect st h x y) → e ≡ draw st (seen st h (pointWrite x y d ∷ [])) s
+    → drawn m e ≡ drawnOn st h (point st h x y d) s
+unfolding drawn drawnOn point
+point-marked st h x y d s e r w =
+    let o = ap (λ (k : Marks). k .owed) r ∙ sym (point-owes st h x y d) in
+    λ i. record { dirty = r i .dirty; owed = o i; screen = w i }
+
+pub point-on : (st h x y : ℕ) (d : DrawMode) (s e : List ℕ) {t : Bool} {m : Marks} → t ≡ onScreen st h x y → t ≡ true → m ≡ both (pixelRect x y)
+    → e ≡ writePixel st s (pointWrite x y d) → drawn m e ≡ drawnOn st h (point st h x y d) s
+unfolding pointRect
+point-on st h x y d s e p q r w = point-marked st h x y d s e (rw (sym p ∙ q) r) (seen-one st h x y d s e p q w)
+
+pub point-off : (st h x y : ℕ) (d : DrawMode) (s : List ℕ) {t : Bool} {m : Marks} → t ≡ onScreen st h x y → t ≡ false → m ≡ both none
+    → drawn m s ≡ drawnOn st h (point st h x y d) s
+unfolding pointRect
+point-off st h x y d s p q r = point-marked st h x y d s s (rw (sym p ∙ q) r) (seen-none st h x y d s p q)
+
 -- ---- a signed coordinate
 
 -- the coordinate where it lies on an axis of n places, else n
-unfoldable pub axisOf : ℤ → ℕ → ℕ
-axisOf (pos x) n = cond (ltb x n) x n
-axisOf (negsuc x) n = n
+unfoldable pub onAxis : ℤ → ℕ → ℕ
+onAxis (pos x) n = cond (ltb x n) x n
+onAxis (negsuc x) n = n
 
-axis-in : (n : ℕ) (z : ℤ) → axisOf z n < n → z ≡ pos (axisOf z n)
-unfolding axisOf
+axis-in : (n : ℕ) (z : ℤ) → onAxis z n < n → z ≡ pos (onAxis z n)
+unfolding onAxis
 axis-in n (pos x) h = by-lt x n (λ l. rw (lt-ltb x n l)) (λ l. absurd (let k : n < n = rw (le-ltb x n l) at h in omega arith))
 axis-in n (negsuc x) h = absurd (omega arith)
 
-pub check-on : (st h : ℕ) (s : List ℕ) (x y : ℤ) {c l : ℕ} {b : Bool} → c ≡ axisOf x (8 * st) → l ≡ axisOf y h → c < 8 * st → l < h
+pub check-on : (st h : ℕ) (s : List ℕ) (x y : ℤ) {c l : ℕ} {b : Bool} → c ≡ onAxis x (8 * st) → l ≡ onAxis y h → c < 8 * st → l < h
     → b ≡ bit st s c l → b ≡ isSet st h s x y
 unfolding isSet onScreen
 check-on st h s x y {c} {l} {b} p q hc hl e =
@@ -162,17 +172,17 @@ check-on st h s x y {c} {l} {b} p q hc hl e =
     rw (u, v, lt-ltb c (8 * st) hc, lt-ltb l h hl) e
 
 -- a coordinate off its axis
-off-axis : (n : ℕ) (x : ℕ) → n ≤ axisOf (pos x) n → ltb x n ≡ false
-unfolding axisOf
+off-axis : (n : ℕ) (x : ℕ) → n ≤ onAxis (pos x) n → ltb x n ≡ false
+unfolding onAxis
 off-axis n x h = by-lt x n (λ l. absurd (let k : n ≤ x = rw (lt-ltb x n l) at h in omega arith)) (λ l. le-ltb x n l)
 
-pub check-beside : (st h : ℕ) (s : List ℕ) (x y : ℤ) {c : ℕ} → c ≡ axisOf x (8 * st) → 8 * st ≤ c → false ≡ isSet st h s x y
+pub check-beside : (st h : ℕ) (s : List ℕ) (x y : ℤ) {c : ℕ} → c ≡ onAxis x (8 * st) → 8 * st ≤ c → false ≡ isSet st h s x y
 unfolding isSet onScreen
 check-beside st h s (pos x) (pos y) p l = rw (off-axis (8 * st) x (rw p at l))
 check-beside st h s (pos x) (negsuc y) p l = refl
 check-beside st h s (negsuc x) y p l = refl
 
-pub check-below : (st h : ℕ) (s : List ℕ) (x y : ℤ) {c : ℕ} → c ≡ axisOf y h → h ≤ c → false ≡ isSet st h s x y
+pub check-below : (st h : ℕ) (s : List ℕ) (x y : ℤ) {c : ℕ} → c ≡ onAxis y h → h ≤ c → false ≡ isSet st h s x y
 unfolding isSet onScreen
 check-below st h s (pos x) (pos y) p l = by-test (ltb x (8 * st)) (λ e. rw (e, off-axis h y (rw p at l))) (λ e. rw e)
 check-below st h s (pos x) (negsuc y) p l = refl

@@ -7,7 +7,7 @@ use Rattle.model.specs.declared.DrawMode.{DrawMode}
 use Rattle.model.specs.declared.DrawMode.the-variants.{Clear, Or, Xor, Unknown}
 use Rattle.model.specs.Pixels.{PixelWrite, draw, seen}
 use Rattle.model.specs.Lines.{isUnknown, runOp, pixelRun, horizontal}
-use Rattle.model.specs.Boxes.{rows, filledBox}
+use Rattle.model.specs.Boxes.{boxRows, filledBox}
 use Rattle.laws.specs.Tests.{clash}
 
 -- the mode that a horizontal draws in
@@ -29,8 +29,8 @@ pub horizontal-solid : (st h left right y : ℕ) (d : DrawMode) → horizontal s
 unfolding horizontal
 horizontal-solid st h left right y d = run-solid _ _ _ d
 
-rows-solid : (st h left right y n : ℕ) (d : DrawMode) → rows st h left right y n (solid d) ≡ rows st h left right y n d
-unfolding rows
+rows-solid : (st h left right y n : ℕ) (d : DrawMode) → boxRows st h left right y n (solid d) ≡ boxRows st h left right y n d
+unfolding boxRows
 rows-solid st h left right y zero d = refl
 rows-solid st h left right y (suc n) d = ap₂ _++_ (horizontal-solid st h left right y d) (rows-solid st h left right (suc y) n d)
 

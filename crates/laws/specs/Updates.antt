@@ -1,25 +1,29 @@
 -- Stores over a record that passes, as the code makes them: another head, what is marked, other flags.
 use mathlib.Core.Path.{_≡_, sym, ap, _∙_}
-use mathlib.Core.Bool.{Bool}
+use mathlib.Core.Bool.{Bool, false}
 use mathlib.Core.List.{List, map}
-use Prim.Native.Nat.{ℕ, _-_, _<_, _≤_}
+use Prim.Native.Nat.{ℕ, _+_, _-_, _<_, _≤_}
 use native.Mathlib.Omega.{arith}
 use borrow.Rule.Slice.PartMut.{putMid}
-use lib.ListN.{length, length-map}
+use lib.ListN.{length, take, drop, replicate, length-map}
 use Rattle.model.specs.declared.Rect.{Rect}
 use Rattle.model.specs.declared.Head.{Head}
+use Rattle.model.specs.declared.Canvas.{Canvas}
 use Rattle.model.specs.declared.glass.Glass.{Glass}
 use Rattle.model.specs.Geometry.{Geometry, cells}
-use Rattle.model.specs.Glass.{geometry}
+use Rattle.model.specs.Glass.{geometry, canvas, Suits}
 use Rattle.model.specs.Memory.{withWindow}
 use Rattle.model.specs.Flags.{bytesOfFlags}
-use Rattle.model.specs.Record.{head, flags, offset, part, Pending, State, decode, encode, bytesOfHead, panelOf, nothingPending, headFits, partFits, withHead, withPanels, withFlags, WellFormed}
-use Rattle.model.specs.Marks.{owing, updateDirty, marked}
+use Rattle.model.specs.Record.{head, keys, flags, recordBytes, offset, part, Pending, State, decode, encode, bytesOfHead, panelOf, nothingPending, headFits, partFits, withHead, withPanels, withFlags, WellFormed}
+use Rattle.model.specs.Rects.{none, isEmpty, join}
+use Rattle.model.specs.Marks.{whole, owing, updateDirty, marked}
+use Rattle.model.specs.Open.{clearHead, clearFlags, resetState}
 use Rattle.laws.specs.ListLaws.{getD-map}
 use Rattle.laws.specs.Parts.{part-back}
-use Rattle.laws.specs.Flags.{length-flags}
-use Rattle.laws.specs.Record.{Sized, Numbers, numbers, part-passes, has-head, put-head, put-flags, all-owed, part-in, encode-decode, decode-encode, sized-decode, count-decode}
+use Rattle.laws.specs.Flags.{length-flags, length-no-flags}
+use Rattle.laws.specs.Record.{Sized, Numbers, numbers, part-passes, has-head, has-keys, has-flags, length-part, put-head, put-flags, all-owed, part-in, encode-decode, decode-encode, sized-decode, count-decode}
 use Rattle.laws.specs.States.{well-formed, encode-passing}
+use Rattle.laws.specs.StateTest.{flags-part}
 use Rattle.laws.specs.Panels.{Known, markFrom, marks-all, length-owing}
 
 -- what STATE tells of the head
@@ -27,9 +31,25 @@ pub head-numbers : (v : Glass) (r : List ℕ) (h : Head) → Known v r → h ≡
 unfolding decode partFits
 head-numbers v r h k e = let g = geometry v in numbers g h (ap (headFits g) e ∙ part-passes g r (k .passing) head (has-head g))
 
-pub head-room : (v : Glass) (r : List ℕ) → Known v r → 18 ≤ length r
+-- the head lies in the record
+pub head-in : (g : Geometry) → 18 ≤ recordBytes g
 unfolding offset
-head-room v r k = let p = part-in (geometry v) head (has-head (geometry v)) in omega (arith, k .passing .sized)
+head-in g = let p = part-in g head (has-head g) in omega arith
+
+pub head-room : (v : Glass) (r : List ℕ) → Known v r → 18 ≤ length r
+head-room v r k = rw (k .passing .sized) (head-in (geometry v))
+
+-- the keys lie in the record
+pub keys-room : (v : Glass) → Suits v → v .keys + 32 ≤ recordBytes (geometry v)
+keys-room v z = let k = part-in (geometry v) keys (has-keys (geometry v)) in omega (arith, z .is-keys)
+
+-- ---- the screen of a glass
+
+pub screen-small : (v : Glass) {k : Canvas} → Suits v → k ≡ canvas v → (k .stride ≤ 32) × (k .height ≤ 256)
+screen-small v z e = rw e (omega (arith, z .glass .cursor), omega (arith, z .is-height, z .glass .high))
+
+pub whole-of : (v : Glass) {k : Canvas} → k ≡ canvas v → whole (k .stride) (k .height) ≡ whole (v .stride) (v .height)
+whole-of v e = ap (λ (x : Canvas). whole (x .stride) (x .height)) e
 
 -- ---- another head
 
@@ -89,3 +109,36 @@ module _ {v : Glass} {r : List ℕ} (k : Known v r) (fs : List Bool) (n : length
 
   pub flags-state : decode (geometry v) (putMid (v .flags) (v .others - v .flags) r c) ≡ withFlags fs (decode (geometry v) r)
   flags-state = ap (decode (geometry v)) flags-stored ∙ decode-encode (geometry v) (withFlags fs (decode (geometry v) r)) (k .suits .glass) formed
+
+-- ---- no flags
+
+-- the flags' part was lent and cleared
+module _ {v : Glass} {r : List ℕ} (k : Known v r) {c : List ℕ}
+    (e : c ≡ bytesOfFlags (replicate (length (take (v .others - v .flags) (drop (v .flags) r))) false)) where
+  cleared : c ≡ bytesOfFlags (clearFlags (geometry v))
+  cleared =
+      let g = geometry v in
+      e ∙ ap (λ (n : ℕ). bytesOfFlags (replicate n false))
+      (ap length (flags-part v r (k .suits)) ∙ length-part g flags r (has-flags g) (k .passing .sized))
+
+  pub cleared-known : Known v (putMid (v .flags) (v .others - v .flags) r c)
+  cleared-known = flags-known k (clearFlags (geometry v)) (length-no-flags (cells (geometry v))) cleared
+
+  pub cleared-record : (n : Head) (d o : Rect) {t : List ℕ}
+      → t ≡ encode (geometry v) (marked (geometry v) d o (withHead n (decode (geometry v) (putMid (v .flags) (v .others - v .flags) r c))))
+      → t ≡ encode (geometry v) (marked (geometry v) d o (withHead n (withFlags (clearFlags (geometry v)) (decode (geometry v) r))))
+  cleared-record n d o f =
+      let g = geometry v in
+      f ∙ ap (λ (s : State). encode g (marked g d o (withHead n s))) (flags-state k (clearFlags g) (length-no-flags (cells g)) cleared)
+
+-- the head of open and reset, no flags, and the whole screen owed
+pub resets : {v : Glass} {r : List ℕ} {h n : Head} {w d o : Rect} {s : List ℕ} → Known v r → h ≡ decode (geometry v) r .head
+    → n ≡ clearHead (h .graphics) (h .text) (h .version) → w ≡ whole (v .stride) (v .height) → d ≡ none → o ≡ w
+    → s ≡ encode (geometry v) (marked (geometry v) d o (withHead n (withFlags (clearFlags (geometry v)) (decode (geometry v) r))))
+    → s ≡ encode (geometry v) (resetState (geometry v) (decode (geometry v) r))
+unfolding resetState marked updateDirty join isEmpty
+resets {v} {r} k e f w d o q =
+    let g = geometry v in
+    let s = decode g r in
+    let n = f ∙ ap (λ (x : Head). clearHead (x .graphics) (x .text) (x .version)) e in
+    q ∙ (λ i. encode g (marked g (d i) ((o ∙ w ∙ ap (whole (v .stride)) (k .suits .is-height)) i) (withHead (n i) (withFlags (clearFlags g) s))))

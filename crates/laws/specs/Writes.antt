@@ -59,7 +59,11 @@ within-seen st h r (w ∷ ws) e =
 
 -- ---- drawings
 
--- a drawing owes its mark where all its writes lie in that
+-- a drawing owes its mark, and not the whole screen in its place
+abbrev pub OwesItsMark : ℕ → ℕ → Drawing → Type 0
+OwesItsMark st h g = owes st h (g .owed) (seen st h (g .writes)) ≡ g .owed
+
+-- so it does where all its writes lie in the mark
 pub owes-mark : (st h : ℕ) (r : Rect) (ws : List PixelWrite) → within r ws ≡ true → owes st h r (seen st h ws) ≡ r
 unfolding owes
 owes-mark st h r ws e = rw (within-seen st h r ws e)

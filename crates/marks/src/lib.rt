@@ -1,3 +1,4 @@
-// Rectangles and marks, by value.
+// Rectangles, and all that makes marks, by value.
 pub mod mark;
 pub mod rect;
+pub mod span;

@@ -1,14 +1,16 @@
 // Marks, on the structs by value.
 use crate::rect;
+use crate::span::no_marks;
+use crate::span::owed_as_is;
+use model::Canvas;
 use model::Head;
-use model::Pending;
+use model::Marks;
 use model::Rect;
-use model::glass::BOTTOM;
-use model::glass::RIGHT;
 ghost use mathlib.Core.Path.{_≡_};
-ghost use lib.ListN.{length};
-ghost use Rattle.model.specs.Geometry.{base};
-ghost use Rattle.model.specs.Marks.{updateDirty, owing};
+ghost use Prim.Native.Nat.{_≤_};
+ghost use Rattle.model.specs.Rects.{none};
+ghost use Rattle.model.specs.Marks.{whole, updateDirty};
+ghost use Rattle.model.specs.Print.{scrollMark};
 
 pub fn update_dirty(h: Head, m: Rect) -> Head
     ensures { λ r. ⌜ r ≡ updateDirty m h ⌝ }
@@ -19,17 +21,44 @@ pub fn update_dirty(h: Head, m: Rect) -> Head
     n
 }
 
-// The mark, cut at the edges of the screen, joined to what is owed.
-pub fn join_owed(p: Pending, m: Rect) -> Pending
-    requires { ⌜ length (p .owed) ≡ 1 ⌝ }
-    ensures { λ r. ⌜ r ≡ owing base m p ⌝ }
+// ---- the whole screen
+
+pub fn whole_screen(canvas: Canvas) -> Rect
+    requires { ⌜ (canvas .stride ≤ 32) × (canvas .height ≤ 256) ⌝ }
+    ensures { λ r. ⌜ r ≡ whole (canvas .stride) (canvas .height) ⌝ }
 {
-    let bands = p.owed;
-    let owed = bands[0];
-    let hand = p.hand;
-    Pending {
-        owed: [rect::join_rects(owed, rect::cut_rect(RIGHT, 0, BOTTOM, m))],
-        hand: hand,
-        sent: p.sent,
+    Rect {
+        left: 0,
+        top: 0,
+        right: (8 * canvas.stride) as u16,
+        bottom: canvas.height as u16,
     }
+}
+
+pub fn whole_marks(canvas: Canvas) -> Marks
+    requires { ⌜ (canvas .stride ≤ 32) × (canvas .height ≤ 256) ⌝ }
+    ensures { λ r. ⌜ (r .dirty ≡ whole (canvas .stride) (canvas .height)) × (r .owed ≡ whole (canvas .stride) (canvas .height)) ⌝ }
+{
+    owed_as_is(whole_screen(canvas))
+}
+
+// What is owed, with nothing dirty.
+pub fn owed_marks(owed: Rect) -> Marks
+    ensures { λ r. ⌜ (r .dirty ≡ none) × (r .owed ≡ owed) ⌝ }
+{
+    Marks {
+        dirty: rect::empty(),
+        owed: owed,
+    }
+}
+
+// After n scrolls in Graph: they owe the whole screen, and mark nothing.
+pub fn scroll_marks(canvas: Canvas, n: usize) -> Marks
+    requires { ⌜ (canvas .stride ≤ 32) × (canvas .height ≤ 256) ⌝ }
+    ensures { λ r. ⌜ (r .dirty ≡ none) × (r .owed ≡ scrollMark (canvas .stride) (canvas .height) n) ⌝ }
+{
+    if n == 0 {
+        return no_marks();
+    }
+    owed_marks(whole_screen(canvas))
 }

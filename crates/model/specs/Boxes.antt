@@ -9,12 +9,12 @@ use Rattle.model.specs.Marks.{Drawing}
 use Rattle.model.specs.Lines.{isUnknown, spanRect, horizontal, vertical}
 
 -- n rows from line y on, each a horizontal: those beyond the last line land on it again
-unfoldable pub rows : ℕ → ℕ → ℕ → ℕ → ℕ → ℕ → DrawMode → List PixelWrite
-rows st h left right y zero d = []
-rows st h left right y (suc n) d = horizontal st h left right y d ++ rows st h left right (suc y) n d
+unfoldable pub boxRows : ℕ → ℕ → ℕ → ℕ → ℕ → ℕ → DrawMode → List PixelWrite
+boxRows st h left right y zero d = []
+boxRows st h left right y (suc n) d = horizontal st h left right y d ++ boxRows st h left right (suc y) n d
 
 unfoldable pub filledBox : ℕ → ℕ → ℕ → ℕ → ℕ → ℕ → DrawMode → List PixelWrite
-filledBox st h left top right bottom d = rows st h left right top (suc (bottom - top)) d
+filledBox st h left top right bottom d = boxRows st h left right top (suc (bottom - top)) d
 
 -- two horizontals, then two verticals unless Unknown
 unfoldable pub outline : ℕ → ℕ → ℕ → ℕ → ℕ → ℕ → DrawMode → List PixelWrite

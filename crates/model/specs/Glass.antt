@@ -3,6 +3,7 @@ use mathlib.Core.Path.{_≡_}
 use mathlib.Core.Bool.{true}
 use Prim.Native.Nat.{ℕ, _+_, _-_, _*_, _≤_, _<_}
 use Rattle.model.specs.declared.glass.Glass.{Glass}
+use Rattle.model.specs.declared.Canvas.{Canvas}
 use Rattle.model.specs.Geometry.{Geometry, base, width, height, glyphHeight, rows, columns, cells, screenBytes}
 use Rattle.model.specs.Flags.{flagBytes}
 use Rattle.model.specs.Record.{keys, flags, distinct, layout, at, pendingBytes, recordBytes}
@@ -27,6 +28,9 @@ pub record IsGlass (g : Geometry) : Type 0 where
 
 abbrev pub geometry : Glass → Geometry
 geometry v = record { stride = v .stride; bands = v .bands; band = v .band; panels = v .panels }
+
+abbrev pub canvas : Glass → Canvas
+canvas v = record { stride = v .stride; height = v .height }
 
 -- every number of a glass follows from its geometry
 pub record Suits (v : Glass) : Type 0 where

@@ -149,7 +149,7 @@ module _ (g : Geometry) (k : Glass g) where
 
     -- a screen that scrolls is owed whole, another stays
     scroll-agrees : (n : ℕ) (t : List ℕ) → length t ≡ cells g
-        → AgreeOutside (g .stride) (height g) (scrollMark g n) (screenOf g (old .head .graphics) (l .memory))
+        → AgreeOutside (g .stride) (height g) (scrollMark (g .stride) (height g) n) (screenOf g (old .head .graphics) (l .memory))
         (screenOf g (old .head .graphics) (scrolledMemory g (old .head .graphics) n (withText (old .head .text) t (l .memory))))
     unfolding scrollMark scrolledMemory scrolledTimes
     scroll-agrees n t e =
@@ -164,7 +164,7 @@ module _ (g : Geometry) (k : Glass g) where
     unfolding withPage stateWithPage memoryWithPage withRow withColumn scrolledMemory
     page-step p s =
         let n = screenScrolls (old .head .screen) (p .scrolls) in
-        rewritten-step g k none (scrollMark g n)
+        rewritten-step g k none (scrollMark (g .stride) (height g) n)
         (record { head = atPlace (p .row) (p .column) (old .head); pending = old .pending; keys = old .keys; flags = p .flags })
         (scrolledMemory g (old .head .graphics) n (withText (old .head .text) (p .text) (l .memory))) l q
         (place-formed (atPlace (p .row) (p .column) (old .head)) (p .flags) (place-fits p s) (s .flags))

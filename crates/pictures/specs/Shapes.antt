@@ -17,7 +17,7 @@ use Rattle.model.specs.Refusals.{VALUE, RADIUS, ENDLESS, test}
 use Rattle.model.specs.Marks.{within, owes, drawnOn}
 use Rattle.model.specs.Points.{drawMode, pointOp, pointRect, point}
 use Rattle.model.specs.Lines.{isUnknown, runOp, pixelRun, horizontal, horizontalLine, stepped, nextError, slope, sloped, slopedLine, line}
-use Rattle.model.specs.Boxes.{rows, filledBox, boxOf, box}
+use Rattle.model.specs.Boxes.{boxRows, filledBox, boxOf, box}
 use Rattle.model.specs.Ellipses.{start, moves, advanced, turns, turned, xStep, yStep, part, xParts, yParts, step, stepParts, ended, partsFrom, stepsFrom, parts, steps, corners, partWrites, partsWrites, wraps, ellipseMark, ellipseDrawn, isPoint, isNothing, ellipse, circle, radiiFit, stepsFit}
 use Rattle.model.specs.Calls.{drawPoint, drawLine, drawBox, drawCircle, Lent, lent, answered, refusals, drawingWith, drawing, done, outcome}
 use Rattle.laws.specs.Stores.{unmarked}
@@ -64,7 +64,7 @@ abbrev pub row78 : List PixelWrite
 row78 = inverts 0 78 ∷ inverts 1 78 ∷ inverts 2 78 ∷ inverts 3 78 ∷ inverts 4 78 ∷ inverts 5 78 ∷ inverts 6 78 ∷ inverts 7 78 ∷ []
 
 pub box-past-bottom : Picture (drawBox 0 78 7 80 1 2) row78 (rect 0 78 8 81) (rect 0 78 8 80)
-unfolding refusals done box boxOf filledBox rows horizontal pixelRun runOp lowered onScreen seen owes within inside cut pictured hits made same alike allOn eachMade names othersKept
+unfolding refusals done box boxOf filledBox boxRows horizontal pixelRun runOp lowered onScreen seen owes within inside cut pictured hits made same alike allOn eachMade names othersKept
 box-past-bottom l u =
     drew l u (drawBox 0 78 7 80 1 2) (test VALUE true ∷ []) (box 20 80 0 78 7 80 true (drawMode 2)) _ _ _ refl (refl, tt) refl (inr (omega arith)) refl refl refl
 

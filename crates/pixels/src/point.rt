@@ -4,13 +4,14 @@ ghost use mathlib.Core.List.{[], _∷_};
 ghost use Prim.Native.Nat.{_*_, _<_};
 ghost use Rattle.model.specs.Pixels.{Screen, onScreen, bit, writePixel, draw, seen};
 ghost use Rattle.model.specs.Marks.{drawn, drawnOn};
-ghost use Rattle.model.specs.Points.{pointWrite, point, checkPoint};
-ghost use Rattle.laws.specs.Points.{maskOf, pointByte, axisOf};
+ghost use Rattle.model.specs.Points.{pointWrite, point, isSet};
+ghost use Rattle.laws.specs.Points.{maskOf, pointByte, onAxis};
 ghost use Rattle.pixels.specs.Raster.{modeOf, IsOp};
 use crate::raster::RasterOp;
 use crate::raster::draw_mask;
-use crate::span::no_marks;
-use crate::span::span_marks;
+use marks::span::no_marks;
+use marks::span::span_marks;
+use model::Canvas;
 use model::DrawMode;
 use model::Marks;
 
@@ -36,59 +37,38 @@ fn point_byte(mode: DrawMode, b: u8, mask: u8) -> u8
 }
 
 // A point on the screen, under the mask of x.
-pub fn plot_mask(
-    stride: usize,
-    height: usize,
-    screen: &mut [u8],
-    x: usize,
-    y: usize,
-    mask: u8,
-    mode: DrawMode,
-)
-    requires { ⌜ Screen stride height (now screen) ⌝ }
-    requires { ⌜ (x < 8 * stride) × (y < height) ⌝ }
+pub fn plot_mask(canvas: Canvas, screen: &mut [u8], x: usize, y: usize, mask: u8, mode: DrawMode)
+    requires { ⌜ Screen (canvas .stride) (canvas .height) (now screen) ⌝ }
+    requires { ⌜ (x < 8 * canvas .stride) × (y < canvas .height) ⌝ }
     requires { ⌜ mask ≡ maskOf x ⌝ }
-    ensures { λ _. ⌜ now (screen .exit) ≡ writePixel stride (now (screen .entry)) (pointWrite x y mode) ⌝ }
+    ensures { λ _. ⌜ now (screen .exit) ≡ writePixel (canvas .stride) (now (screen .entry)) (pointWrite x y mode) ⌝ }
 {
+    let stride = canvas.stride;
     let at = stride * y + x / 8;
     let b = point_byte(mode, screen[at], mask);
     screen[at] = b;
 }
 
 // A point anywhere: off the screen it draws nothing.
-pub fn plot_seen(
-    stride: usize,
-    height: usize,
-    screen: &mut [u8],
-    x: usize,
-    y: usize,
-    mode: DrawMode,
-)
-    requires { ⌜ Screen stride height (now screen) ⌝ }
-    ensures { λ _. ⌜ now (screen .exit) ≡ draw stride (seen stride height (pointWrite x y mode ∷ [])) (now (screen .entry)) ⌝ }
+pub fn plot_seen(canvas: Canvas, screen: &mut [u8], x: usize, y: usize, mode: DrawMode)
+    requires { ⌜ Screen (canvas .stride) (canvas .height) (now screen) ⌝ }
+    ensures { λ _. ⌜ now (screen .exit) ≡ draw (canvas .stride) (seen (canvas .stride) (canvas .height) (pointWrite x y mode ∷ [])) (now (screen .entry)) ⌝ }
 {
-    if on_screen(stride, height, x, y) {
+    if on_screen(canvas, x, y) {
         let mask = point_mask(x);
-        plot_mask(stride, height, screen, x, y, mask, mode);
+        plot_mask(canvas, screen, x, y, mask, mode);
     }
 }
 
 // A point of a line of the screen, under the mask of x: beside the screen it draws nothing.
-fn plot_beside(
-    stride: usize,
-    height: usize,
-    screen: &mut [u8],
-    x: usize,
-    y: usize,
-    mask: u8,
-    op: RasterOp,
-)
-    requires { ⌜ Screen stride height (now screen) ⌝ }
-    requires { ⌜ y < height ⌝ }
+fn plot_beside(canvas: Canvas, screen: &mut [u8], x: usize, y: usize, mask: u8, op: RasterOp)
+    requires { ⌜ Screen (canvas .stride) (canvas .height) (now screen) ⌝ }
+    requires { ⌜ y < canvas .height ⌝ }
     requires { ⌜ mask ≡ maskOf x ⌝ }
     requires { ⌜ IsOp op ⌝ }
-    ensures { λ _. ⌜ now (screen .exit) ≡ draw stride (seen stride height (pointWrite x y (modeOf op) ∷ [])) (now (screen .entry)) ⌝ }
+    ensures { λ _. ⌜ now (screen .exit) ≡ draw (canvas .stride) (seen (canvas .stride) (canvas .height) (pointWrite x y (modeOf op) ∷ [])) (now (screen .entry)) ⌝ }
 {
+    let stride = canvas.stride;
     if x < 8 * stride {
         draw_mask(screen, stride * y + x / 8, mask, op);
     }
@@ -96,8 +76,7 @@ fn plot_beside(
 
 // Two points of one line, each under the mask of its own x.
 pub fn plot_pair(
-    stride: usize,
-    height: usize,
+    canvas: Canvas,
     screen: &mut [u8],
     x1: usize,
     x2: usize,
@@ -106,38 +85,31 @@ pub fn plot_pair(
     mask2: u8,
     op: RasterOp,
 )
-    requires { ⌜ Screen stride height (now screen) ⌝ }
+    requires { ⌜ Screen (canvas .stride) (canvas .height) (now screen) ⌝ }
     requires { ⌜ (mask1 ≡ maskOf x1) × (mask2 ≡ maskOf x2) ⌝ }
     requires { ⌜ IsOp op ⌝ }
-    ensures { λ _. ⌜ now (screen .exit) ≡ draw stride (seen stride height (pointWrite x1 y (modeOf op) ∷ pointWrite x2 y (modeOf op) ∷ [])) (now (screen .entry)) ⌝ }
+    ensures { λ _. ⌜ now (screen .exit) ≡ draw (canvas .stride) (seen (canvas .stride) (canvas .height) (pointWrite x1 y (modeOf op) ∷ pointWrite x2 y (modeOf op) ∷ [])) (now (screen .entry)) ⌝ }
 {
-    if y < height {
-        plot_beside(stride, height, screen, x1, y, mask1, op);
-        plot_beside(stride, height, screen, x2, y, mask2, op);
+    if y < canvas.height {
+        plot_beside(canvas, screen, x1, y, mask1, op);
+        plot_beside(canvas, screen, x2, y, mask2, op);
     }
 }
 
-pub fn on_screen(stride: usize, height: usize, x: usize, y: usize) -> bool
-    requires { ⌜ stride < 256 ⌝ }
-    ensures { λ r. ⌜ r ≡ onScreen stride height x y ⌝ }
+pub fn on_screen(canvas: Canvas, x: usize, y: usize) -> bool
+    requires { ⌜ canvas .stride < 256 ⌝ }
+    ensures { λ r. ⌜ r ≡ onScreen (canvas .stride) (canvas .height) x y ⌝ }
 {
-    (x < 8 * stride) & (y < height)
+    (x < 8 * canvas.stride) & (y < canvas.height)
 }
 
-pub fn draw_point(
-    stride: usize,
-    height: usize,
-    screen: &mut [u8],
-    x: u8,
-    y: u8,
-    mode: DrawMode,
-) -> Marks
-    requires { ⌜ Screen stride height (now screen) ⌝ }
-    ensures { λ r. ⌜ drawn r (now (screen .exit)) ≡ drawnOn stride height (point stride height x y mode) (now (screen .entry)) ⌝ }
+pub fn draw_point(canvas: Canvas, screen: &mut [u8], x: u8, y: u8, mode: DrawMode) -> Marks
+    requires { ⌜ Screen (canvas .stride) (canvas .height) (now screen) ⌝ }
+    ensures { λ r. ⌜ drawn r (now (screen .exit)) ≡ drawnOn (canvas .stride) (canvas .height) (point (canvas .stride) (canvas .height) x y mode) (now (screen .entry)) ⌝ }
 {
-    if on_screen(stride, height, x as usize, y as usize) {
+    if on_screen(canvas, x as usize, y as usize) {
         let mask = point_mask(x as usize);
-        plot_mask(stride, height, screen, x as usize, y as usize, mask, mode);
+        plot_mask(canvas, screen, x as usize, y as usize, mask, mode);
         return span_marks(x, y, x, y);
     }
     no_marks()
@@ -146,7 +118,7 @@ pub fn draw_point(
 // A coordinate, or `size` where it lies off the axis.
 fn axis(z: i32, size: usize) -> usize
     requires { ⌜ size < 65536 ⌝ }
-    ensures { λ r. ⌜ r ≡ axisOf z size ⌝ }
+    ensures { λ r. ⌜ r ≡ onAxis z size ⌝ }
 {
     if z < 0 {
         return size;
@@ -155,25 +127,28 @@ fn axis(z: i32, size: usize) -> usize
     if n < size { n } else { size }
 }
 
-pub fn pixel(stride: usize, height: usize, screen: &[u8], x: usize, y: usize) -> bool
-    requires { ⌜ Screen stride height (now screen) ⌝ }
-    requires { ⌜ (x < 8 * stride) × (y < height) ⌝ }
-    ensures { λ r. ⌜ r ≡ bit stride (now (screen .entry)) x y ⌝ }
+pub fn pixel(canvas: Canvas, screen: &[u8], x: usize, y: usize) -> bool
+    requires { ⌜ Screen (canvas .stride) (canvas .height) (now screen) ⌝ }
+    requires { ⌜ (x < 8 * canvas .stride) × (y < canvas .height) ⌝ }
+    ensures { λ r. ⌜ r ≡ bit (canvas .stride) (now (screen .entry)) x y ⌝ }
 {
+    let stride = canvas.stride;
     let at = stride * y + x / 8;
     let mask = point_mask(x);
     screen[at] & mask != 0
 }
 
-pub fn check_pixel(stride: usize, height: usize, screen: &[u8], x: i32, y: i32) -> bool
-    requires { ⌜ Screen stride height (now screen) ⌝ }
-    ensures { λ r. ⌜ r ≡ checkPoint stride height (now (screen .entry)) x y ⌝ }
+pub fn check_pixel(canvas: Canvas, screen: &[u8], x: i32, y: i32) -> bool
+    requires { ⌜ Screen (canvas .stride) (canvas .height) (now screen) ⌝ }
+    ensures { λ r. ⌜ r ≡ isSet (canvas .stride) (canvas .height) (now (screen .entry)) x y ⌝ }
 {
-    let column = axis(x, 8 * stride);
+    let width = 8 * canvas.stride;
+    let height = canvas.height;
+    let column = axis(x, width);
     let line = axis(y, height);
-    if column < 8 * stride {
+    if column < width {
         if line < height {
-            return pixel(stride, height, screen, column, line);
+            return pixel(canvas, screen, column, line);
         }
     }
     false

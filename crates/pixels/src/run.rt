@@ -9,6 +9,7 @@ ghost use Rattle.laws.specs.Runs.{maskedBytes};
 ghost use Rattle.pixels.specs.Raster.{modeOf, IsOp};
 use crate::raster::RasterOp;
 use crate::raster::draw_mask;
+use model::Canvas;
 
 // The pixels of x's byte from x on.
 pub fn start_mask(x: usize) -> u8
@@ -41,19 +42,19 @@ pub fn draw_bytes(screen: &mut [u8], from: usize, to: usize, op: RasterOp)
 
 // The pixels of line y from left to right, all on the screen.
 pub fn draw_run(
-    stride: usize,
-    height: usize,
+    canvas: Canvas,
     screen: &mut [u8],
     left: usize,
     right: usize,
     y: usize,
     op: RasterOp,
 )
-    requires { ⌜ Screen stride height (now screen) ⌝ }
-    requires { ⌜ (left ≤ right) × (right < 8 * stride) × (y < height) ⌝ }
+    requires { ⌜ Screen (canvas .stride) (canvas .height) (now screen) ⌝ }
+    requires { ⌜ (left ≤ right) × (right < 8 * canvas .stride) × (y < canvas .height) ⌝ }
     requires { ⌜ IsOp op ⌝ }
-    ensures { λ _. ⌜ now (screen .exit) ≡ draw stride (pixelRun left y (suc (right - left)) (modeOf op)) (now (screen .entry)) ⌝ }
+    ensures { λ _. ⌜ now (screen .exit) ≡ draw (canvas .stride) (pixelRun left y (suc (right - left)) (modeOf op)) (now (screen .entry)) ⌝ }
 {
+    let stride = canvas.stride;
     let line = stride * y;
     let first = left / 8;
     let last = right / 8;

@@ -1,49 +1,114 @@
--- The ends of the entry: LENT refused, STATE refused, entered.
-use mathlib.Core.Path.{_≡_, sym, _∙_}
-use mathlib.Core.List.{List, []}
+-- The glass as numbers, each of which follows from the geometry by computing, and the ends of the entry: LENT refused, STATE refused, entered.
+use mathlib.Core.Path.{_≡_, refl, sym, ap, _∙_}
+use mathlib.Core.List.{List, [], _∷_}
 use mathlib.Core.Bool.{Bool, true, false, _&&_}
-use Prim.Native.Nat.{ℕ}
+use Prim.Native.Nat.{ℕ, _<_, _≤_}
 use native.Mathlib.Omega.{arith}
-use borrow.Author.Tests.{eqb-true}
+use borrow.Author.Tests.{eqb-true, ne-eqb}
 use lib.Dec.{eqb}
-use lib.ListN.{length, drop}
+use lib.ListN.{length, getD}
+use Rattle.model.specs.declared.Rect.{Rect}
 use Rattle.model.specs.declared.Head.{Head}
-use Rattle.model.specs.Geometry.{base}
-use Rattle.model.specs.Record.{headOf, pendingOf, pendingAt, stateFits, flagsFit, flagsAt, valid}
-use Rattle.model.specs.Refusals.{refusal}
+use Rattle.model.specs.Rects.{none}
+use Rattle.model.specs.Open.{clearHead}
+use Rattle.model.specs.declared.glass.Glass.{Glass}
+use Rattle.model.specs.Geometry.{Geometry}
+use Rattle.model.specs.Glass.{geometry, glassOf, Suits}
+use Rattle.model.specs.Bytes.{Bytes}
+use Rattle.model.specs.Record.{head, total, offset, recordBytes, headOf, decode, valid}
+use Rattle.model.specs.Refusals.{LENT, STATE, refusal}
+use Rattle.model.specs.Calls.{lentTest, stateTest}
 use Rattle.laws.specs.Tests.{and-true}
-use Rattle.laws.specs.Record.{numbers}
+use Rattle.laws.specs.Record.{part-in, has-head}
+use Rattle.laws.specs.Windows.{head-part}
+use Rattle.laws.specs.Glasses.{base-glass}
 use Rattle.record.specs.declared.entry.Entry.{Entry}
-use Rattle.record.specs.Entry.{Entered}
+use Rattle.record.specs.Entry.{Chosen, Entered}
 
-pub lent-sized : (others : Bool) (r : List ℕ) → (eqb (length r) 170 && others) ≡ true → length r ≡ 170
-lent-sized others r e = eqb-true (length r) 170 (and-true (eqb (length r) 170) others e .0)
+-- ---- the glass
 
-pub enters : (others : Bool) (r : List ℕ) {h : Head} {v : Bool} → (eqb (length r) 170 && others) ≡ true → h ≡ headOf r → v ≡ valid base r → v ≡ true
-    → Entered others r (record { code = 0; head = h })
-unfolding refusal valid
-enters others r {h} e f g k =
-    let p = sym g ∙ k in
-    let n = numbers base (headOf r) (pendingOf base r pendingAt) [] [] (and-true (stateFits base (headOf r) (pendingOf base r pendingAt)) (flagsFit (drop (flagsAt base) r)) p .0) in
-    record {
-      code = rw (e, p);
-      lent = λ z. and-true (eqb (length r) 170) others e .1;
-      known = λ z. record { sized = lent-sized others r e; passes = p; head = f; graphics = rw f (n .graphics); text = rw f (n .text) };
-    }
-
-pub breaks-state : (others : Bool) (r : List ℕ) {v : Bool} {e : Entry} → (eqb (length r) 170 && others) ≡ true → v ≡ valid base r → v ≡ false → e .code ≡ 2
-    → Entered others r e
-unfolding refusal
-breaks-state others r {e = e} t g k f = record {
-  code = f ∙ rw (t, sym g ∙ k);
-  lent = λ z. absurd (omega arith);
-  known = λ z. absurd (omega arith);
+abbrev smallGlass : Glass
+smallGlass = record {
+  stride = 20;
+  bands = 1;
+  band = 80;
+  panels = 1;
+  width = 160;
+  height = 80;
+  screen = 1600;
+  rows = 5;
+  columns = 20;
+  cells = 100;
+  graphics = 63935;
+  text = 65435;
+  bytes = 170;
+  pending = 20;
+  keys = 38;
+  flags = 70;
+  others = 170;
 }
 
-pub breaks-lent : (others : Bool) (r : List ℕ) {e : Entry} → (eqb (length r) 170 && others) ≡ false → e .code ≡ 1 → Entered others r e
-unfolding refusal
-breaks-lent others r {e = e} t f = record {
-  code = f ∙ rw t;
-  lent = λ z. absurd (omega arith);
-  known = λ z. absurd (omega arith);
+small-suits : Suits smallGlass
+unfolding total offset
+small-suits = record {
+  glass = base-glass;
+  is-width = refl;
+  is-height = refl;
+  is-rows = refl;
+  is-columns = refl;
+  is-screen = refl;
+  is-cells = refl;
+  is-graphics = refl;
+  is-text = refl;
+  is-bytes = refl;
+  is-pending = refl;
+  is-keys = refl;
+  is-flags = refl;
+  is-others = refl;
 }
+
+pub is-chosen : (n : ℕ) → Chosen n smallGlass
+is-chosen n = record { suits = small-suits; glass = refl }
+
+-- ---- the entry
+
+pub lent-sized : {v : Glass} (others : Bool) (r : List ℕ) → Chosen (length r) v → (eqb (length r) (v .bytes) && others) ≡ true → length r ≡ recordBytes (geometry v)
+lent-sized {v} others r k e = eqb-true (length r) (v .bytes) (and-true (eqb (length r) (v .bytes)) others e .0) ∙ k .suits .is-bytes
+
+module _ {v : Glass} (others : Bool) (r : List ℕ) (k : Chosen (length r) v) where
+  -- LENT as the definitions test it
+  lent-as : {t : Bool} → (eqb (length r) (v .bytes) && others) ≡ t → (eqb (length r) (recordBytes (glassOf (length r))) && others) ≡ t
+  lent-as e = ap (λ (x : ℕ). eqb (length r) x && others) (sym (k .suits .is-bytes ∙ ap recordBytes (k .glass))) ∙ e
+
+  valid-as : {t u : Bool} → t ≡ valid (geometry v) r → t ≡ u → valid (glassOf (length r)) r ≡ u
+  valid-as g j = ap (λ (x : Geometry). valid x r) (sym (k .glass)) ∙ sym g ∙ j
+
+  pub enters : {h : Head} {t : Bool} → ((i : ℕ) → getD r i 0 < 256) → (eqb (length r) (v .bytes) && others) ≡ true → h ≡ headOf r → t ≡ valid (geometry v) r → t ≡ true
+      → Entered others r (record { code = 0; head = h })
+  unfolding refusal decode Bytes
+  enters b e f g j =
+      record {
+        code = rw (lent-as e, valid-as g j);
+        lent = λ z. and-true (eqb (length r) (v .bytes)) others e .1;
+        passing = λ z. record { glass = rw (k .glass) at (k .suits .glass); sized = lent-sized others r k e ∙ ap recordBytes (k .glass); bytes = b; passes = valid-as g j };
+        head = λ z. f ∙ sym (head-part (glassOf (length r)) r);
+      }
+
+  -- a refusal's number and nothing more
+  refuses : {e : Entry} (n : ℕ) → (n ≡ 0 → ⊥) → refusal (lentTest (glassOf (length r)) r others ∷ stateTest (glassOf (length r)) r ∷ []) ≡ n → e .code ≡ n → Entered others r e
+  refuses n h t f = record { code = f ∙ sym t; lent = λ z. absurd (h (sym f ∙ z)); passing = λ z. absurd (h (sym f ∙ z)); head = λ z. absurd (h (sym f ∙ z)) }
+
+  pub breaks-state : {t : Bool} {e : Entry} → (eqb (length r) (v .bytes) && others) ≡ true → t ≡ valid (geometry v) r → t ≡ false → e .code ≡ STATE → Entered others r e
+  unfolding refusal
+  breaks-state s g j f = refuses STATE (λ z. omega arith) (rw (lent-as s, valid-as g j)) f
+
+  pub breaks-lent : {e : Entry} → (eqb (length r) (v .bytes) && others) ≡ false → e .code ≡ LENT → Entered others r e
+  unfolding refusal
+  breaks-lent s f = refuses LENT (λ z. omega arith) (rw (lent-as s)) f
+
+-- ---- the head that open, reset and a refusal have
+
+pub is-clear-head : (graphics text version : ℕ) {q : Rect} → q ≡ none
+    → record { graphics = graphics; text = text; row = 0; column = 0; screen = 0; print = 0; cursor = 0; version = version; dirty = q } ≡ clearHead graphics text version
+is-clear-head graphics text version e =
+    λ i. record { graphics = graphics; text = text; row = 0; column = 0; screen = 0; print = 0; cursor = 0; version = version; dirty = e i }

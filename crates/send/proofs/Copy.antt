@@ -13,7 +13,7 @@ use mir.Val.{Fits}
 use Rattle.model.specs.declared.Rect.{Rect}
 use Rattle.model.specs.Bits.{bitAt}
 use Rattle.model.specs.Pixels.{bit}
-use Rattle.model.specs.Record.{Bytes}
+use Rattle.model.specs.Bytes.{Bytes}
 use Rattle.model.specs.Sends.{copyLine}
 use Rattle.laws.specs.Tests.{by-lt}
 use Rattle.laws.specs.Bytes.{mixed, mix-masked}

@@ -1,5 +1,5 @@
 use native.Mathlib.Omega.{arith}
-use Rattle.model.specs.Record.{Bytes}
+use Rattle.model.specs.Bytes.{Bytes}
 use Rattle.laws.specs.Boxes.{whole-in, box-whole}
 use borrow.Author.Needs.{needs}
 use Rattle.draw.proofs.boxes.fill_box.Statement.{statement}

@@ -1,4 +1,4 @@
-use Rattle.model.specs.Record.{Bytes}
+use Rattle.model.specs.Bytes.{Bytes}
 use native.Mathlib.Omega.{arith}
 use Rattle.laws.specs.Points.{place-in, seen-bit}
 use borrow.Author.Needs.{needs}

@@ -1,5 +1,5 @@
 use native.Mathlib.Omega.{arith}
-use Rattle.model.specs.Record.{Bytes}
+use Rattle.model.specs.Bytes.{Bytes}
 use Rattle.laws.specs.Runs.{line-in, one-byte, many-bytes}
 use borrow.Author.Needs.{needs}
 use Rattle.pixels.proofs.run.draw_run.Statement.{statement}

@@ -1,4 +1,6 @@
+use native.Mathlib.Omega.{arith}
 use Rattle.laws.specs.Keys.{key-test, no-key}
+use Rattle.laws.specs.Updates.{keys-room}
 use borrow.Author.Needs.{needs}
 use Rattle.record.proofs.keys.is_key.Statement.{statement}
 use Rattle.record.proofs.keys.is_key.Tie as tie
@@ -7,10 +9,10 @@ mul-load-four : tie.Need-mul-load-four
 mul-load-four c = search needs
 
 add-load-four : tie.Need-add-load-four
-add-load-four c = search needs
+add-load-four c = let s = c .before .before .before in omega (arith, keys-room (s .args .glass) (s .pre .0), s .pre .0 .glass .long)
 
 load-four-requires : tie.Need-load-four-requires
-load-four-requires c κs = search needs
+load-four-requires c κs = let s = c .before .before .before in omega (arith, keys-room (s .args .glass) (s .pre .0), s .pre .1)
 
 cast-result : tie.Need-cast-result
 cast-result c = search needs

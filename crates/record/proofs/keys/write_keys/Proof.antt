@@ -5,17 +5,18 @@ use borrow.Author.Needs.{needs}
 use mathlib.Core.Path.{_≡_, refl}
 use Prim.Native.Nat.{_≤_, _-_}
 use lib.ListN.{length, length-set}
-use Rattle.model.specs.Record.{wordsAt}
+use Rattle.model.specs.Glass.{geometry}
+use Rattle.model.specs.Record.{decode}
 use Rattle.model.specs.Open.{withKeys}
 use Rattle.laws.specs.Keys.{keys-set, keys-kept}
 use Rattle.record.proofs.keys.write_keys.Statement.{statement}
 use Rattle.record.proofs.keys.write_keys.Tie as tie
 
 abbrev Inv-loop : tie.InvT-loop
-Inv-loop rec memory₀ a₀ memory a = (a ≤ 256) × (length memory ≡ 65536) × (memory ≡ withKeys (wordsAt 8 rec 38) a memory₀)
+Inv-loop rec glass memory₀ a₀ memory a = (a ≤ 256) × (length memory ≡ 65536) × (memory ≡ withKeys (decode (geometry glass) rec .keys) a memory₀)
 
 abbrev μ-loop : tie.MeasureT-loop
-μ-loop rec memory₀ a₀ memory a = 256 - a
+μ-loop rec glass memory₀ a₀ memory a = 256 - a
 
 loop-holds : tie.Need-loop-holds Inv-loop μ-loop
 unfolding withKeys
@@ -38,7 +39,7 @@ loop-again c =
     let l = c .before .before .before .loop in
     let a = c .before .before .before .before .before .before .args in
     let k = c .before .is-key .ensures in
-    let keys = wordsAt 8 (a .rec .now) 38 in
+    let keys = decode (geometry (a .glass)) (a .rec .now) .keys in
     either (c .if1 .came)
     (λ w. (
       search needs,

@@ -1,44 +1,54 @@
-use Rattle.record.proofs.Opening.{one-open, opens}
+use native.Mathlib.Omega.{arith}
+use mathlib.Core.Path.{ap, _∙_}
+use Rattle.model.specs.Glass.{geometry}
+use Rattle.model.specs.Marks.{whole}
+use Rattle.laws.specs.Updates.{head-in, keys-room, screen-small, whole-of}
+use Rattle.laws.specs.Opening.{opens}
 use borrow.Author.Needs.{needs}
 use Rattle.record.proofs.open.open_record.Statement.{statement}
 use Rattle.record.proofs.open.open_record.Tie as tie
 
-open-head-requires : tie.Need-open-head-requires
-open-head-requires c κs = search needs
+clear-requires : tie.Need-clear-requires
+clear-requires c κs = search needs
+
+clear-head-requires : tie.Need-clear-head-requires
+clear-head-requires c κs = search needs
 
 store-head-requires : tie.Need-store-head-requires
-store-head-requires c κs = search needs
-
-open-pending-requires : tie.Need-open-pending-requires
-open-pending-requires c κs = search needs
-
-store-pending-requires : tie.Need-store-pending-requires
-store-pending-requires c κs = (search needs, search needs, one-open (c .open-pending .ensures))
+store-head-requires c κs = let s = c .before .before .before .before .before .before .before in omega (arith, head-in (geometry (s .args .glass)), s .pre .1 .0, c .before .before .before .before .clear .kept .0)
 
 store-keys-requires : tie.Need-store-keys-requires
-store-keys-requires c κs = search needs
+store-keys-requires c κs = let s = c .before .before .before .before .before .before .before .before .before .before .before in (omega (arith, keys-room (s .args .glass) (s .pre .0), s .pre .1 .0, c .before .before .before .before .before .before .before .before .clear .kept .0, c .before .before .before .store-head .kept .0), s .pre .1 .1)
 
-clear-flags-requires : tie.Need-clear-flags-requires
-clear-flags-requires c κs = search needs
+canvas-of-requires : tie.Need-canvas-of-requires
+canvas-of-requires c κs = search needs
+
+whole-screen-requires : tie.Need-whole-screen-requires
+whole-screen-requires c κs = let s = c .before .before .before .before .before .before .before .before .before .before .before .before .before .before .before .before in screen-small (s .args .glass) (s .pre .0) (c .canvas-of .ensures)
+
+mark-panels-requires : tie.Need-mark-panels-requires
+mark-panels-requires c κs = search needs
 
 same-length : tie.Need-same-length
 same-length c = search needs
 
 returns : tie.Need-returns
-returns c =
-    let a = c .before .before .before .before .before .before .before .before .before .before .before .before .before .before .before .before .before .before .before .args in
-    opens (a .rec .now) (a .graphics) (a .text) (a .version) (a .keys) (c .before .before .before .before .before .before .before .before .before .before .before .before .before .before .before .before .before .before .before .pre .0) (c .before .before .before .before .before .before .before .before .before .before .before .before .before .before .before .before .before .before .before .pre .1) (c .before .before .before .before .before .before .before .before .before .before .before .before .before .before .before .before .open-head .ensures) (c .before .before .before .before .before .before .before .before .before .before .before .before .before .before .before .store-head .ensures)
-    (c .before .before .before .before .before .before .before .before .before .before .before .open-pending .ensures) (c .before .before .before .before .before .before .before .before .before .before .store-pending .ensures) (c .before .before .before .before .before .before .store-keys .ensures) (c .before .before .clear-flags .ensures)
+returns c = 
+    let s = c .before .before .before .before .before .before .before .before .before .before .before .before .before .before .before .before .before .before .before .before in
+    let v = s .args .glass in
+    opens (s .args .rec .now) (s .args .graphics) (s .args .text) (s .args .version) (s .args .t6) (s .pre .0) (s .pre .1 .0) (s .pre .1 .1) (c .before .before .before .before .before .before .before .before .before .before .before .before .before .before .before .before .before .clear .ensures) (c .before .before .before .before .before .before .before .before .before .before .before .before .before .clear-head .ensures) (c .before .before .before .before .before .before .before .before .before .before .before .before .store-head .ensures) (c .before .before .before .before .before .before .before .before .store-keys .ensures)
+    (c .before .before .before .whole-screen .ensures ∙ whole-of v (c .before .before .before .before .canvas-of .ensures) ∙ ap (whole (v .stride)) (s .pre .0 .is-height)) (c .before .before .mark-panels .ensures)
 
 pub open-record-spec : {M : Type 1} → statement M
 open-record-spec =
     tie.close
     (tie.spec
-    open-head-requires
+    clear-requires
+    clear-head-requires
     store-head-requires
-    open-pending-requires
-    store-pending-requires
     store-keys-requires
-    clear-flags-requires
+    canvas-of-requires
+    whole-screen-requires
+    mark-panels-requires
     same-length
     returns)

@@ -1,44 +1,25 @@
-use mathlib.Core.Path.{ap}
-use lib.ListN.{length}
-use Rattle.model.specs.declared.Pending.{Pending}
-use Rattle.record.proofs.Updates.{one-owing, marks-head}
+use native.Mathlib.Omega.{arith}
+use Rattle.laws.specs.Updates.{head-room, marks-head}
 use borrow.Author.Needs.{needs}
 use Rattle.record.proofs.update.mark_head.Statement.{statement}
 use Rattle.record.proofs.update.mark_head.Tie as tie
+
+mark-panels-requires : tie.Need-mark-panels-requires
+mark-panels-requires c κs = search needs
 
 update-dirty-requires : tie.Need-update-dirty-requires
 update-dirty-requires c κs = search needs
 
 store-head-requires : tie.Need-store-head-requires
-store-head-requires c κs = search needs
-
-load-pending-requires : tie.Need-load-pending-requires
-load-pending-requires c κs = search needs
-
-join-owed-requires : tie.Need-join-owed-requires
-join-owed-requires c κs = ap (λ (q : Pending). length (q .owed)) (c .before .load-pending .ensures)
-
-store-pending-requires : tie.Need-store-pending-requires
-store-pending-requires c κs = (search needs, search needs, one-owing _ _ (ap (λ (q : Pending). length (q .owed)) (c .before .before .load-pending .ensures)) (c .join-owed .ensures))
+store-head-requires c κs = let s = c .before .before .before .before .before .before .before .before .before in omega (arith, head-room _ _ (s .pre), c .before .before .before .before .mark-panels .kept .0)
 
 same-length : tie.Need-same-length
 same-length c = search needs
 
 returns : tie.Need-returns
-returns c =
-    let k = c .before .before .before .before .before .before .before .before .before .before .before .before .before .before in
-    let a = k .before .args in
-    marks-head (a .rec .now) (a .h) (a .n) (a .m .dirty) (a .m .owed) (k .before .pre) (λ i. k .slice-known .given i .fits) (c .before .before .before .before .before .before .before .before .before .before .update-dirty .ensures)
-    (c .before .before .before .before .before .before .before .before .before .store-head .ensures) (c .before .before .before .before .before .load-pending .ensures) (c .before .before .before .join-owed .ensures) (c .before .before .store-pending .ensures)
+returns c = let s = c .before .before .before .before .before .before .before .before .before .before .before .before in marks-head (s .args .n) (s .args .m .dirty) (s .args .m .owed) (s .pre) (c .before .before .before .before .before .before .before .mark-panels .ensures) (c .before .before .before .update-dirty .ensures) (c .before .before .store-head .ensures)
 
 pub mark-head-spec : {M : Type 1} → statement M
 mark-head-spec =
     tie.close
-    (tie.spec
-    update-dirty-requires
-    store-head-requires
-    load-pending-requires
-    join-owed-requires
-    store-pending-requires
-    same-length
-    returns)
+    (tie.spec mark-panels-requires update-dirty-requires store-head-requires same-length returns)
