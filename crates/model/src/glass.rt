@@ -1,9 +1,15 @@
 // The 160 by 80 glass: its numbers stand here and nowhere else in the code.
+use crate::Canvas;
 
 // A line in bytes, and how many lines there are.
 pub const STRIDE: usize = 20;
 
 pub const HEIGHT: usize = 80;
+
+pub const CANVAS: Canvas = Canvas {
+    stride: STRIDE,
+    height: HEIGHT,
+};
 
 pub const SCREEN_BYTES: usize = 1600;
 
