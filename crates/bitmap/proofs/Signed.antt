@@ -14,16 +14,11 @@ use borrow.Author.Tests.{ltb-true, lt-ltb}
 use Rattle.model.specs.declared.Visible.{Visible}
 use Rattle.model.specs.Bitmaps.{visible}
 use Rattle.laws.specs.Bitmaps.{visible-before, visible-after}
+use Rattle.pixels.proofs.Axis.{readBack, read-same}
 
--- the number as the machine reads it, and `!z`
-abbrev read : ℤ → ℤ
-read z = toZ w32 (ofZ w32 z)
-
+-- `!z`
 abbrev inverted : ℤ → ℤ
 inverted z = toZ w32 (4294967295 - ofZ w32 z)
-
-same : (z : ℤ) → mag z < 2 ^ 31 → read z ≡ z
-same z f = toZ-ofZ {w = w32} {z = z} (record { sfits = f })
 
 distance : (n : ℕ) → n < 2 ^ 31 → inverted (negsuc n) ≡ pos n
 distance n f =
@@ -31,15 +26,15 @@ distance n f =
     rw (e, lt-ltb n (2 ^ 31) f)
 
 module _ (z : ℤ) (f : mag z < 2 ^ 31) where
-  negative : ltZ (read z) (pos 0) ≡ true → (n : ℕ) × (z ≡ negsuc n)
-  negative h = go z (rw (same z f) at h)
+  negative : ltZ (readBack z) (pos 0) ≡ true → (n : ℕ) × (z ≡ negsuc n)
+  negative h = go z (rw (read-same z f) at h)
     where
       go : (z : ℤ) → ltZ z (pos 0) ≡ true → (n : ℕ) × (z ≡ negsuc n)
       go (pos x) e = absurd (let l : x < 0 = ltb-true x 0 e in omega arith)
       go (negsuc x) e = (x, refl)
 
-  positive : ltZ (read z) (pos 0) ≡ false → (n : ℕ) × (z ≡ pos n)
-  positive h = go z (rw (same z f) at h)
+  positive : ltZ (readBack z) (pos 0) ≡ false → (n : ℕ) × (z ≡ pos n)
+  positive h = go z (rw (read-same z f) at h)
     where
       go : (z : ℤ) → ltZ z (pos 0) ≡ false → (n : ℕ) × (z ≡ pos n)
       go (pos x) e = (x, refl)
@@ -48,19 +43,19 @@ module _ (z : ℤ) (f : mag z < 2 ^ 31) where
 inverted-is : (z : ℤ) {n : ℕ} → mag z < 2 ^ 31 → z ≡ negsuc n → inverted z ≡ pos n
 inverted-is z {n} f e = ap inverted e ∙ distance n (rw e at f)
 
-pub before-cast : (z : ℤ) → mag z < 2 ^ 31 → ltZ (read z) (pos 0) ≡ true → T (nonNeg (inverted z)) × Fits w64 (natAbs (inverted z))
+pub before-cast : (z : ℤ) → mag z < 2 ^ 31 → ltZ (readBack z) (pos 0) ≡ true → T (nonNeg (inverted z)) × Fits w64 (natAbs (inverted z))
 before-cast z f h =
     let p = negative z f h in
     let l : p .0 < 2 ^ 31 = rw (p .1) at f in
     rw (inverted-is z f (p .1)) (tt, record { fits = omega arith })
 
-pub before-add : (z : ℤ) → mag z < 2 ^ 31 → ltZ (read z) (pos 0) ≡ true → Fits w64 (natAbs (inverted z) + 1)
+pub before-add : (z : ℤ) → mag z < 2 ^ 31 → ltZ (readBack z) (pos 0) ≡ true → Fits w64 (natAbs (inverted z) + 1)
 before-add z f h =
     let p = negative z f h in
     let l : p .0 < 2 ^ 31 = rw (p .1) at f in
     rw (inverted-is z f (p .1)) (record { fits = omega arith })
 
-pub before-visible : (z : ℤ) (n size : ℕ) {a b : ℕ} → mag z < 2 ^ 31 → ltZ (read z) (pos 0) ≡ true → a ≡ n - (natAbs (inverted z) + 1) → b ≡ min a size
+pub before-visible : (z : ℤ) (n size : ℕ) {a b : ℕ} → mag z < 2 ^ 31 → ltZ (readBack z) (pos 0) ≡ true → a ≡ n - (natAbs (inverted z) + 1) → b ≡ min a size
     → _≡_ {A = Visible} (record { skip = natAbs (inverted z) + 1; from = 0; to = b }) (visible z n size)
 before-visible z n size {a} {b} f h p q =
     let k = negative z f h in
@@ -68,16 +63,16 @@ before-visible z n size {a} {b} f h p q =
     let r : b ≡ min (n - (k .0 + 1)) size = q ∙ ap (λ (x : ℕ). min x size) (p ∙ ap (λ (x : ℕ). n - (x + 1)) i) in
     (λ j. record { skip = i j + 1; from = 0; to = r j }) ∙ sym (visible-before (k .0) n size) ∙ ap (λ (x : ℤ). visible x n size) (sym (k .1))
 
-pub after-add : (z : ℤ) (n : ℕ) → mag z < 2 ^ 31 → ltZ (read z) (pos 0) ≡ false → n < 256 → Fits w64 (natAbs (read z) + n)
+pub after-add : (z : ℤ) (n : ℕ) → mag z < 2 ^ 31 → ltZ (readBack z) (pos 0) ≡ false → n < 256 → Fits w64 (natAbs (readBack z) + n)
 after-add z n f h s =
     let p = positive z f h in
     let l : p .0 < 2 ^ 31 = rw (p .1) at f in
-    rw (same z f, p .1) (record { fits = omega arith })
+    rw (read-same z f, p .1) (record { fits = omega arith })
 
-pub after-visible : (z : ℤ) (n size : ℕ) {b : ℕ} → mag z < 2 ^ 31 → ltZ (read z) (pos 0) ≡ false → b ≡ min (natAbs (read z) + n) size
-    → _≡_ {A = Visible} (record { skip = 0; from = natAbs (read z); to = b }) (visible z n size)
+pub after-visible : (z : ℤ) (n size : ℕ) {b : ℕ} → mag z < 2 ^ 31 → ltZ (readBack z) (pos 0) ≡ false → b ≡ min (natAbs (readBack z) + n) size
+    → _≡_ {A = Visible} (record { skip = 0; from = natAbs (readBack z); to = b }) (visible z n size)
 after-visible z n size {b} f h q =
     let k = positive z f h in
-    let i : natAbs (read z) ≡ k .0 = ap natAbs (same z f ∙ k .1) in
+    let i : natAbs (readBack z) ≡ k .0 = ap natAbs (read-same z f ∙ k .1) in
     let r : b ≡ min (k .0 + n) size = q ∙ ap (λ (x : ℕ). min (x + n) size) i in
     (λ j. record { skip = 0; from = i j; to = r j }) ∙ sym (visible-after (k .0) n size) ∙ ap (λ (x : ℤ). visible x n size) (sym (k .1))

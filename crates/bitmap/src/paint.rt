@@ -8,6 +8,9 @@ ghost use Rattle.model.specs.Bitmaps.{sourceBytes, paintedPixel, paintedLine, p
 ghost use Rattle.laws.specs.Points.{both};
 ghost use Rattle.laws.specs.Bitmaps.{paintAs, visibleMark};
 use crate::axis::visible;
+use marks::span::no_marks;
+use marks::span::owed_as_is;
+use model::Canvas;
 use model::DrawMode;
 use model::Marks;
 use model::PaintMode;
@@ -16,7 +19,6 @@ use model::Visible;
 use pixels::point::pixel;
 use pixels::point::plot_mask;
 use pixels::point::point_mask;
-use pixels::span::no_marks;
 
 // The draw mode that does what the paint mode does with a source bit.
 fn paint_as(mode: PaintMode, bit: bool) -> DrawMode
@@ -39,13 +41,11 @@ fn paint_as(mode: PaintMode, bit: bool) -> DrawMode
     }
 }
 
-// Pixel (x, y) of the screen by pixel (i, j) of the source, which has `lines` lines of `bytes` bytes.
+// Pixel (x, y) of the screen by pixel (i, j) of the source, whose lines are those of `picture`.
 fn paint_pixel(
-    stride: usize,
-    height: usize,
+    canvas: Canvas,
     screen: &mut [u8],
-    bytes: usize,
-    lines: usize,
+    picture: Canvas,
     source: &[u8],
     i: usize,
     j: usize,
@@ -53,88 +53,61 @@ fn paint_pixel(
     y: usize,
     mode: PaintMode,
 )
-    requires { ⌜ Screen stride height (now screen) ⌝ }
-    requires { ⌜ Screen bytes lines (now source) ⌝ }
-    requires { ⌜ (i < 8 * bytes) × (j < lines) × (x < 8 * stride) × (y < height) ⌝ }
-    ensures { λ _. ⌜ now (screen .exit) ≡ writePixel stride (now (screen .entry)) (paintedPixel bytes (now (source .entry)) mode i j x y) ⌝ }
+    requires { ⌜ Screen (canvas .stride) (canvas .height) (now screen) ⌝ }
+    requires { ⌜ Screen (picture .stride) (picture .height) (now source) ⌝ }
+    requires { ⌜ (i < 8 * picture .stride) × (j < picture .height) × (x < 8 * canvas .stride) × (y < canvas .height) ⌝ }
+    ensures { λ _. ⌜ now (screen .exit) ≡ writePixel (canvas .stride) (now (screen .entry)) (paintedPixel (picture .stride) (now (source .entry)) mode i j x y) ⌝ }
 {
-    let bit = pixel(bytes, lines, source, i, j);
+    let bit = pixel(picture, source, i, j);
     let mask = point_mask(x);
-    plot_mask(stride, height, screen, x, y, mask, paint_as(mode, bit));
+    plot_mask(canvas, screen, x, y, mask, paint_as(mode, bit));
 }
 
 // Line y of the screen by line j of the source.
 fn paint_line(
-    stride: usize,
-    height: usize,
+    canvas: Canvas,
     screen: &mut [u8],
-    bytes: usize,
-    lines: usize,
+    picture: Canvas,
     source: &[u8],
     across: Visible,
     j: usize,
     y: usize,
     mode: PaintMode,
 )
-    requires { ⌜ Screen stride height (now screen) ⌝ }
-    requires { ⌜ Screen bytes lines (now source) ⌝ }
-    requires { ⌜ (across .to ≤ 8 * stride) × (across .skip + (across .to - across .from) ≤ 8 * bytes) × (j < lines) × (y < height) ⌝ }
-    ensures { λ _. ⌜ now (screen .exit) ≡ draw stride (paintedLine bytes (now (source .entry)) mode (across .skip) j (across .from) y (across .to - across .from)) (now (screen .entry)) ⌝ }
+    requires { ⌜ Screen (canvas .stride) (canvas .height) (now screen) ⌝ }
+    requires { ⌜ Screen (picture .stride) (picture .height) (now source) ⌝ }
+    requires { ⌜ (across .to ≤ 8 * canvas .stride) × (across .skip + (across .to - across .from) ≤ 8 * picture .stride) × (j < picture .height) × (y < canvas .height) ⌝ }
+    ensures { λ _. ⌜ now (screen .exit) ≡ draw (canvas .stride) (paintedLine (picture .stride) (now (source .entry)) mode (across .skip) j (across .from) y (across .to - across .from)) (now (screen .entry)) ⌝ }
 {
     let to = across.to;
     let mut i = across.skip;
     let mut x = across.from;
     while x < to {
-        paint_pixel(
-            stride,
-            height,
-            screen,
-            bytes,
-            lines,
-            source,
-            i,
-            j,
-            x,
-            y,
-            mode,
-        );
+        paint_pixel(canvas, screen, picture, source, i, j, x, y, mode);
         i += 1;
         x += 1;
     }
 }
 
 fn paint_lines(
-    stride: usize,
-    height: usize,
+    canvas: Canvas,
     screen: &mut [u8],
-    bytes: usize,
-    lines: usize,
+    picture: Canvas,
     source: &[u8],
     across: Visible,
     down: Visible,
     mode: PaintMode,
 )
-    requires { ⌜ Screen stride height (now screen) ⌝ }
-    requires { ⌜ Screen bytes lines (now source) ⌝ }
-    requires { ⌜ (across .to ≤ 8 * stride) × (across .skip + (across .to - across .from) ≤ 8 * bytes) × (down .to ≤ height) × (down .skip + (down .to - down .from) ≤ lines) ⌝ }
-    ensures { λ _. ⌜ now (screen .exit) ≡ draw stride (paintedLines bytes (now (source .entry)) mode across (down .skip) (down .from) (down .to - down .from)) (now (screen .entry)) ⌝ }
+    requires { ⌜ Screen (canvas .stride) (canvas .height) (now screen) ⌝ }
+    requires { ⌜ Screen (picture .stride) (picture .height) (now source) ⌝ }
+    requires { ⌜ (across .to ≤ 8 * canvas .stride) × (across .skip + (across .to - across .from) ≤ 8 * picture .stride) × (down .to ≤ canvas .height) × (down .skip + (down .to - down .from) ≤ picture .height) ⌝ }
+    ensures { λ _. ⌜ now (screen .exit) ≡ draw (canvas .stride) (paintedLines (picture .stride) (now (source .entry)) mode across (down .skip) (down .from) (down .to - down .from)) (now (screen .entry)) ⌝ }
 {
     let to = down.to;
     let mut j = down.skip;
     let mut y = down.from;
     while y < to {
-        paint_line(
-            stride,
-            height,
-            screen,
-            bytes,
-            lines,
-            source,
-            across,
-            j,
-            y,
-            mode,
-        );
+        paint_line(canvas, screen, picture, source, across, j, y, mode);
         j += 1;
         y += 1;
     }
@@ -150,16 +123,12 @@ fn visible_marks(across: Visible, down: Visible) -> Marks
         right: across.to as u16,
         bottom: down.to as u16,
     };
-    Marks {
-        dirty: area,
-        owed: area,
-    }
+    owed_as_is(area)
 }
 
 // A bitmap of width by lines pixels at (x, y). What lies off the screen is not painted, and where nothing is painted nothing is marked.
 pub fn paint_bitmap(
-    stride: usize,
-    height: usize,
+    canvas: Canvas,
     screen: &mut [u8],
     source: &[u8],
     x: i32,
@@ -168,10 +137,12 @@ pub fn paint_bitmap(
     lines: u8,
     mode: PaintMode,
 ) -> Marks
-    requires { ⌜ Screen stride height (now screen) ⌝ }
+    requires { ⌜ Screen (canvas .stride) (canvas .height) (now screen) ⌝ }
     requires { ⌜ length (now source) ≡ sourceBytes width lines ⌝ }
-    ensures { λ r. ⌜ drawn r (now (screen .exit)) ≡ drawnOn stride height (bitmap stride height (now (source .entry)) x y width lines mode) (now (screen .entry)) ⌝ }
+    ensures { λ r. ⌜ drawn r (now (screen .exit)) ≡ drawnOn (canvas .stride) (canvas .height) (bitmap (canvas .stride) (canvas .height) (now (source .entry)) x y width lines mode) (now (screen .entry)) ⌝ }
 {
+    let stride = canvas.stride;
+    let height = canvas.height;
     let across = visible(x, width as usize, 8 * stride);
     let down = visible(y, lines as usize, height);
     if across.to <= across.from {
@@ -181,16 +152,10 @@ pub fn paint_bitmap(
         return no_marks();
     }
     let bytes = ((width as usize) + 7) / 8;
-    paint_lines(
-        stride,
-        height,
-        screen,
-        bytes,
-        lines as usize,
-        source,
-        across,
-        down,
-        mode,
-    );
+    let picture = Canvas {
+        stride: bytes,
+        height: lines as usize,
+    };
+    paint_lines(canvas, screen, picture, source, across, down, mode);
     visible_marks(across, down)
 }

@@ -1,10 +1,9 @@
 // `caption_paint_bitmap`.
 use model::Head;
 use model::PaintMode;
-use model::glass::HEIGHT;
+use model::glass::CANVAS;
 use model::glass::MEMORY_BYTES;
 use model::glass::SCREEN_BYTES;
-use model::glass::STRIDE;
 use record::entry;
 use record::layout;
 use record::update;
@@ -59,8 +58,7 @@ fn bitmap_done(
     let to = from + SCREEN_BYTES;
     let d = paint_mode(mode);
     let m = bitmap::paint_bitmap(
-        STRIDE,
-        HEIGHT,
+        CANVAS,
         &mut memory[from..to],
         &source[..count],
         x,

@@ -2,11 +2,10 @@
 use model::DrawMode;
 use model::Head;
 use model::Marks;
+use model::glass::CANVAS;
 use model::glass::GLYPH_HEIGHT;
-use model::glass::HEIGHT;
 use model::glass::MEMORY_BYTES;
 use model::glass::SCREEN_BYTES;
-use model::glass::STRIDE;
 use model::glass::TEXT_COLUMNS;
 use record::entry;
 use record::update;
@@ -73,7 +72,7 @@ fn invert_cursor(screen: &mut [u8], row: u8, column: u8, cursor: u8) -> Marks
     let right = left + 8 * cursor - 1;
     let bottom = top + (GLYPH_HEIGHT - 1);
     let mode = DrawMode::Xor;
-    draw::draw_box(STRIDE, HEIGHT, screen, left, top, right, bottom, true, mode)
+    draw::draw_box(CANVAS, screen, left, top, right, bottom, true, mode)
 }
 
 fn blink_done(rec: &mut [u8], memory: &mut [u8], h: Head) -> u32

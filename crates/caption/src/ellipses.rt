@@ -1,10 +1,9 @@
 // `caption_draw_circle` and `caption_draw_ellipse`.
 use crate::points::draw_mode;
 use model::Head;
-use model::glass::HEIGHT;
+use model::glass::CANVAS;
 use model::glass::MEMORY_BYTES;
 use model::glass::SCREEN_BYTES;
-use model::glass::STRIDE;
 use record::entry;
 use record::update;
 ghost use mathlib.Core.Bool.{true};
@@ -36,17 +35,7 @@ fn ellipse_done(
     let from = h.graphics as usize;
     let to = from + SCREEN_BYTES;
     let d = draw_mode(mode);
-    let m = draw::draw_ellipse(
-        STRIDE,
-        HEIGHT,
-        &mut memory[from..to],
-        x,
-        y,
-        rx,
-        ry,
-        fill == 1,
-        d,
-    );
+    let m = draw::draw_ellipse(CANVAS, &mut memory[from..to], x, y, rx, ry, fill == 1, d);
     update::mark_record(rec, h, m);
     0
 }

@@ -1,10 +1,9 @@
 // `caption_draw_line` and `caption_draw_box`.
 use crate::points::draw_mode;
 use model::Head;
-use model::glass::HEIGHT;
+use model::glass::CANVAS;
 use model::glass::MEMORY_BYTES;
 use model::glass::SCREEN_BYTES;
-use model::glass::STRIDE;
 use record::entry;
 use record::update;
 ghost use mathlib.Core.Path.{_≡_};
@@ -31,8 +30,7 @@ fn line_done(
     let from = h.graphics as usize;
     let to = from + SCREEN_BYTES;
     let m = draw::draw_line(
-        STRIDE,
-        HEIGHT,
+        CANVAS,
         &mut memory[from..to],
         x1,
         y1,
@@ -85,8 +83,7 @@ fn box_done(
     let from = h.graphics as usize;
     let to = from + SCREEN_BYTES;
     let m = draw::draw_box(
-        STRIDE,
-        HEIGHT,
+        CANVAS,
         &mut memory[from..to],
         x1,
         y1,

@@ -2,10 +2,9 @@
 use model::DrawMode;
 use model::Head;
 use model::Value;
-use model::glass::HEIGHT;
+use model::glass::CANVAS;
 use model::glass::MEMORY_BYTES;
 use model::glass::SCREEN_BYTES;
-use model::glass::STRIDE;
 use record::entry;
 use record::update;
 ghost use mathlib.Core.Path.{_≡_};
@@ -37,7 +36,7 @@ fn point_done(rec: &mut [u8], memory: &mut [u8], h: Head, x: u8, y: u8, mode: u8
 {
     let from = h.graphics as usize;
     let to = from + SCREEN_BYTES;
-    let m = draw::draw_point(STRIDE, HEIGHT, &mut memory[from..to], x, y, draw_mode(mode));
+    let m = draw::draw_point(CANVAS, &mut memory[from..to], x, y, draw_mode(mode));
     update::mark_record(rec, h, m);
     0
 }
@@ -69,7 +68,7 @@ fn check_done(memory: &[u8], h: Head, x: i32, y: i32) -> u32
 {
     let from = h.graphics as usize;
     let to = from + SCREEN_BYTES;
-    if draw::check_pixel(STRIDE, HEIGHT, &memory[from..to], x, y) {
+    if draw::check_pixel(CANVAS, &memory[from..to], x, y) {
         1
     } else {
         0

@@ -3,10 +3,9 @@ use marks::rect;
 use model::Head;
 use model::Rect;
 use model::Sent;
-use model::glass::HEIGHT;
+use model::glass::CANVAS;
 use model::glass::MEMORY_BYTES;
 use model::glass::SCREEN_BYTES;
-use model::glass::STRIDE;
 use record::entry;
 use record::layout;
 use record::update;
@@ -58,7 +57,7 @@ fn send_done(rec: &mut [u8], memory: &[u8], panel: &mut [u8], h: Head) -> Sent
     }
     let from = h.graphics as usize;
     let to = from + SCREEN_BYTES;
-    line::copy_line(STRIDE, HEIGHT, &memory[from..to], panel, q);
+    line::copy_line(CANVAS, &memory[from..to], panel, q);
     update::set_pending(rec, h, pending::line_sent(p));
     sent_line(q)
 }

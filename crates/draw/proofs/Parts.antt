@@ -7,16 +7,16 @@ use Rattle.model.specs.declared.DrawMode.{DrawMode}
 use Rattle.model.specs.Pixels.{draw, seen}
 use Rattle.model.specs.Ellipses.{part, partWrites}
 use Rattle.laws.specs.EllipseWalks.{painted, painted-one, painted-none}
-use Rattle.walk.specs.declared.Part.{Part}
-use Rattle.walk.specs.declared.Part.the-variants.{Nothing, At}
-use Rattle.walk.specs.Walk.{partsOf}
+use Rattle.ellipse_walk.specs.declared.EllipsePart.{EllipsePart}
+use Rattle.ellipse_walk.specs.declared.EllipsePart.the-variants.{Nothing, At}
+use Rattle.ellipse_walk.specs.Walk.{partsOf}
 
 module _ (st h x y : ℕ) (fill : Bool) (d : DrawMode) (s e : List ℕ) where
-  pub step-drawn : {a b : ℕ} {q : Part} → q ≡ At a b → e ≡ draw st (seen st h (partWrites st h x y fill d (part a b))) s
+  pub step-drawn : {a b : ℕ} {q : EllipsePart} → q ≡ At a b → e ≡ draw st (seen st h (partWrites st h x y fill d (part a b))) s
       → e ≡ painted st h x y fill d (partsOf q) s
   unfolding partsOf
   step-drawn {a} {b} p k = rw p (k ∙ sym (painted-one st h x y fill d (part a b) s))
 
-  pub step-none : {q : Part} → q ≡ Nothing → s ≡ painted st h x y fill d (partsOf q) s
+  pub step-none : {q : EllipsePart} → q ≡ Nothing → s ≡ painted st h x y fill d (partsOf q) s
   unfolding partsOf
   step-none p = rw p (sym (painted-none st h x y fill d s))

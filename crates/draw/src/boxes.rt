@@ -6,24 +6,24 @@ ghost use Rattle.model.specs.Marks.{drawn, drawnOn};
 ghost use Rattle.model.specs.Boxes.{filledBox, outline, box};
 ghost use Rattle.laws.specs.Boxes.{wholeLines};
 ghost use Rattle.pixels.specs.Raster.{modeOf, IsOp};
+use crate::ends::greatest;
+use crate::ends::least;
 use crate::line::draw_hor_line;
 use crate::line::draw_ver_line;
 use crate::line::is_unknown;
+use marks::span::clamp;
+use marks::span::lowered_marks;
+use model::Canvas;
 use model::DrawMode;
 use model::Marks;
 use pixels::raster::RasterOp;
 use pixels::raster::raster_op;
 use pixels::run::draw_bytes;
 use pixels::run::draw_run;
-use pixels::span::clamp;
-use pixels::span::greatest;
-use pixels::span::least;
-use pixels::span::lowered_marks;
 
 // Row by row; those beyond the last line land on it again.
 fn fill_rows(
-    stride: usize,
-    height: usize,
+    canvas: Canvas,
     screen: &mut [u8],
     left: u8,
     top: u8,
@@ -31,35 +31,38 @@ fn fill_rows(
     bottom: u8,
     op: RasterOp,
 )
-    requires { ⌜ Screen stride height (now screen) ⌝ }
+    requires { ⌜ Screen (canvas .stride) (canvas .height) (now screen) ⌝ }
     requires { ⌜ (left ≤ right) × (top ≤ bottom) ⌝ }
     requires { ⌜ IsOp op ⌝ }
-    ensures { λ _. ⌜ now (screen .exit) ≡ draw stride (seen stride height (filledBox stride height left top right bottom (modeOf op))) (now (screen .entry)) ⌝ }
+    ensures { λ _. ⌜ now (screen .exit) ≡ draw (canvas .stride) (seen (canvas .stride) (canvas .height) (filledBox (canvas .stride) (canvas .height) left top right bottom (modeOf op))) (now (screen .entry)) ⌝ }
 {
+    let stride = canvas.stride;
+    let height = canvas.height;
     let first = clamp(left as usize, 8 * stride);
     let last = clamp(right as usize, 8 * stride);
     let mut y = top as usize;
     let mut count = ((bottom - top) as usize) + 1;
     while 0 < count {
         let line = clamp(y, height);
-        draw_run(stride, height, screen, first, last, line, op);
+        draw_run(canvas, screen, first, last, line, op);
         y += 1;
         count -= 1;
     }
 }
 
 // Whether the rows are whole lines of the screen.
-fn is_whole(stride: usize, height: usize, first: usize, last: usize, bottom: usize) -> bool
-    requires { ⌜ (stride ≤ 32) × (last < 256) ⌝ }
-    ensures { λ r. ⌜ r ≡ wholeLines stride height first last bottom ⌝ }
+fn is_whole(canvas: Canvas, first: usize, last: usize, bottom: usize) -> bool
+    requires { ⌜ (canvas .stride ≤ 32) × (last < 256) ⌝ }
+    ensures { λ r. ⌜ r ≡ wholeLines (canvas .stride) (canvas .height) first last bottom ⌝ }
 {
+    let stride = canvas.stride;
+    let height = canvas.height;
     (first == 0) & (last + 1 == 8 * stride) & (bottom < height)
 }
 
 // Whole lines are one run of bytes.
 fn fill_box(
-    stride: usize,
-    height: usize,
+    canvas: Canvas,
     screen: &mut [u8],
     left: u8,
     top: u8,
@@ -67,14 +70,15 @@ fn fill_box(
     bottom: u8,
     op: RasterOp,
 )
-    requires { ⌜ Screen stride height (now screen) ⌝ }
+    requires { ⌜ Screen (canvas .stride) (canvas .height) (now screen) ⌝ }
     requires { ⌜ (left ≤ right) × (top ≤ bottom) ⌝ }
     requires { ⌜ IsOp op ⌝ }
-    ensures { λ _. ⌜ now (screen .exit) ≡ draw stride (seen stride height (filledBox stride height left top right bottom (modeOf op))) (now (screen .entry)) ⌝ }
+    ensures { λ _. ⌜ now (screen .exit) ≡ draw (canvas .stride) (seen (canvas .stride) (canvas .height) (filledBox (canvas .stride) (canvas .height) left top right bottom (modeOf op))) (now (screen .entry)) ⌝ }
 {
+    let stride = canvas.stride;
     let first = clamp(left as usize, 8 * stride);
     let last = clamp(right as usize, 8 * stride);
-    if is_whole(stride, height, first, last, bottom as usize) {
+    if is_whole(canvas, first, last, bottom as usize) {
         draw_bytes(
             screen,
             stride * (top as usize),
@@ -83,13 +87,12 @@ fn fill_box(
         );
         return;
     }
-    fill_rows(stride, height, screen, left, top, right, bottom, op);
+    fill_rows(canvas, screen, left, top, right, bottom, op);
 }
 
 // Two horizontals, then two verticals unless Unknown.
 fn draw_outline(
-    stride: usize,
-    height: usize,
+    canvas: Canvas,
     screen: &mut [u8],
     left: u8,
     top: u8,
@@ -97,23 +100,22 @@ fn draw_outline(
     bottom: u8,
     mode: DrawMode,
 )
-    requires { ⌜ Screen stride height (now screen) ⌝ }
+    requires { ⌜ Screen (canvas .stride) (canvas .height) (now screen) ⌝ }
     requires { ⌜ (left ≤ right) × (top ≤ bottom) ⌝ }
-    ensures { λ _. ⌜ now (screen .exit) ≡ draw stride (seen stride height (outline stride height left top right bottom mode)) (now (screen .entry)) ⌝ }
+    ensures { λ _. ⌜ now (screen .exit) ≡ draw (canvas .stride) (seen (canvas .stride) (canvas .height) (outline (canvas .stride) (canvas .height) left top right bottom mode)) (now (screen .entry)) ⌝ }
 {
     let op = raster_op(mode);
-    draw_hor_line(stride, height, screen, left, right, top, op);
-    draw_hor_line(stride, height, screen, left, right, bottom, op);
+    draw_hor_line(canvas, screen, left, right, top, op);
+    draw_hor_line(canvas, screen, left, right, bottom, op);
     if is_unknown(mode) {
         return;
     }
-    draw_ver_line(stride, height, screen, left, top, bottom, mode);
-    draw_ver_line(stride, height, screen, right, top, bottom, mode);
+    draw_ver_line(canvas, screen, left, top, bottom, mode);
+    draw_ver_line(canvas, screen, right, top, bottom, mode);
 }
 
 pub fn draw_box(
-    stride: usize,
-    height: usize,
+    canvas: Canvas,
     screen: &mut [u8],
     x1: u8,
     y1: u8,
@@ -122,8 +124,8 @@ pub fn draw_box(
     fill: bool,
     mode: DrawMode,
 ) -> Marks
-    requires { ⌜ Screen stride height (now screen) ⌝ }
-    ensures { λ r. ⌜ drawn r (now (screen .exit)) ≡ drawnOn stride height (box stride height x1 y1 x2 y2 fill mode) (now (screen .entry)) ⌝ }
+    requires { ⌜ Screen (canvas .stride) (canvas .height) (now screen) ⌝ }
+    ensures { λ r. ⌜ drawn r (now (screen .exit)) ≡ drawnOn (canvas .stride) (canvas .height) (box (canvas .stride) (canvas .height) x1 y1 x2 y2 fill mode) (now (screen .entry)) ⌝ }
 {
     let left = least(x1, x2);
     let top = least(y1, y2);
@@ -131,9 +133,9 @@ pub fn draw_box(
     let bottom = greatest(y1, y2);
     if fill {
         let op = raster_op(mode);
-        fill_box(stride, height, screen, left, top, right, bottom, op);
-        return lowered_marks(stride, height, left, top, right, bottom);
+        fill_box(canvas, screen, left, top, right, bottom, op);
+        return lowered_marks(canvas, left, top, right, bottom);
     }
-    draw_outline(stride, height, screen, left, top, right, bottom, mode);
-    lowered_marks(stride, height, left, top, right, bottom)
+    draw_outline(canvas, screen, left, top, right, bottom, mode);
+    lowered_marks(canvas, left, top, right, bottom)
 }

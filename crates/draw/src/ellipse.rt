@@ -9,9 +9,19 @@ ghost use Rattle.model.specs.Ellipses.{part, parts, up, down, corners, chord, c
 ghost use Rattle.laws.specs.EllipseSteps.{Round};
 ghost use Rattle.laws.specs.EllipseWalks.{painted};
 ghost use Rattle.pixels.specs.Raster.{modeOf, IsOp};
-ghost use Rattle.walk.specs.Walk.{partsOf};
+ghost use Rattle.ellipse_walk.specs.Walk.{partsOf};
+use crate::ends::greatest;
 use crate::line::draw_hor_line;
 use crate::line::is_unknown;
+use ellipse_walk::EllipsePart;
+use ellipse_walk::ended;
+use ellipse_walk::next_step;
+use ellipse_walk::start;
+use marks::mark::whole_screen;
+use marks::span::no_marks;
+use marks::span::owed_as_is;
+use marks::span::owed_lowered;
+use model::Canvas;
 use model::DrawMode;
 use model::Marks;
 use model::Rect;
@@ -20,15 +30,8 @@ use pixels::point::plot_pair;
 use pixels::point::point_mask;
 use pixels::raster::RasterOp;
 use pixels::raster::raster_op;
-use pixels::span::greatest;
-use pixels::span::lower;
-use pixels::span::no_marks;
 use std::num::wrapping_add_u8;
 use std::num::wrapping_sub_u8;
-use walk::Part;
-use walk::ended;
-use walk::next_step;
-use walk::start;
 
 fn up(z: u8, d: u8) -> u8
     ensures { λ r. ⌜ r ≡ up z d ⌝ }
@@ -43,19 +46,10 @@ fn down(z: u8, d: u8) -> u8
 }
 
 // The four corners of a part; off the screen they draw nothing.
-fn draw_corners(
-    stride: usize,
-    height: usize,
-    screen: &mut [u8],
-    x: u8,
-    y: u8,
-    a: u8,
-    b: u8,
-    op: RasterOp,
-)
-    requires { ⌜ Screen stride height (now screen) ⌝ }
+fn draw_corners(canvas: Canvas, screen: &mut [u8], x: u8, y: u8, a: u8, b: u8, op: RasterOp)
+    requires { ⌜ Screen (canvas .stride) (canvas .height) (now screen) ⌝ }
     requires { ⌜ IsOp op ⌝ }
-    ensures { λ _. ⌜ now (screen .exit) ≡ draw stride (seen stride height (corners x y (modeOf op) (part a b))) (now (screen .entry)) ⌝ }
+    ensures { λ _. ⌜ now (screen .exit) ≡ draw (canvas .stride) (seen (canvas .stride) (canvas .height) (corners x y (modeOf op) (part a b))) (now (screen .entry)) ⌝ }
 {
     let left = down(x, a) as usize;
     let right = up(x, a) as usize;
@@ -63,18 +57,8 @@ fn draw_corners(
     let bottom = up(y, b) as usize;
     let mask1 = point_mask(left);
     let mask2 = point_mask(right);
-    plot_pair(stride, height, screen, left, right, top, mask1, mask2, op);
-    plot_pair(
-        stride,
-        height,
-        screen,
-        left,
-        right,
-        bottom,
-        mask1,
-        mask2,
-        op,
-    );
+    plot_pair(canvas, screen, left, right, top, mask1, mask2, op);
+    plot_pair(canvas, screen, left, right, bottom, mask1, mask2, op);
 }
 
 fn chord_left(left: u8, right: u8) -> u8
@@ -84,37 +68,27 @@ fn chord_left(left: u8, right: u8) -> u8
 }
 
 // From corner to corner of line y; where the left one wrapped, from 0.
-fn draw_chord(stride: usize, height: usize, screen: &mut [u8], x: u8, a: u8, y: u8, op: RasterOp)
-    requires { ⌜ Screen stride height (now screen) ⌝ }
+fn draw_chord(canvas: Canvas, screen: &mut [u8], x: u8, a: u8, y: u8, op: RasterOp)
+    requires { ⌜ Screen (canvas .stride) (canvas .height) (now screen) ⌝ }
     requires { ⌜ IsOp op ⌝ }
-    ensures { λ _. ⌜ now (screen .exit) ≡ draw stride (seen stride height (chord stride height x a y (modeOf op))) (now (screen .entry)) ⌝ }
+    ensures { λ _. ⌜ now (screen .exit) ≡ draw (canvas .stride) (seen (canvas .stride) (canvas .height) (chord (canvas .stride) (canvas .height) x a y (modeOf op))) (now (screen .entry)) ⌝ }
 {
     let right = up(x, a);
     let left = chord_left(down(x, a), right);
-    draw_hor_line(stride, height, screen, left, right, y, op);
+    draw_hor_line(canvas, screen, left, right, y, op);
 }
 
-fn draw_chords(
-    stride: usize,
-    height: usize,
-    screen: &mut [u8],
-    x: u8,
-    y: u8,
-    a: u8,
-    b: u8,
-    op: RasterOp,
-)
-    requires { ⌜ Screen stride height (now screen) ⌝ }
+fn draw_chords(canvas: Canvas, screen: &mut [u8], x: u8, y: u8, a: u8, b: u8, op: RasterOp)
+    requires { ⌜ Screen (canvas .stride) (canvas .height) (now screen) ⌝ }
     requires { ⌜ IsOp op ⌝ }
-    ensures { λ _. ⌜ now (screen .exit) ≡ draw stride (seen stride height (chords stride height x y (modeOf op) (part a b))) (now (screen .entry)) ⌝ }
+    ensures { λ _. ⌜ now (screen .exit) ≡ draw (canvas .stride) (seen (canvas .stride) (canvas .height) (chords (canvas .stride) (canvas .height) x y (modeOf op) (part a b))) (now (screen .entry)) ⌝ }
 {
-    draw_chord(stride, height, screen, x, a, down(y, b), op);
-    draw_chord(stride, height, screen, x, a, up(y, b), op);
+    draw_chord(canvas, screen, x, a, down(y, b), op);
+    draw_chord(canvas, screen, x, a, up(y, b), op);
 }
 
 fn draw_part(
-    stride: usize,
-    height: usize,
+    canvas: Canvas,
     screen: &mut [u8],
     x: u8,
     y: u8,
@@ -123,41 +97,39 @@ fn draw_part(
     fill: bool,
     op: RasterOp,
 )
-    requires { ⌜ Screen stride height (now screen) ⌝ }
+    requires { ⌜ Screen (canvas .stride) (canvas .height) (now screen) ⌝ }
     requires { ⌜ IsOp op ⌝ }
-    ensures { λ _. ⌜ now (screen .exit) ≡ draw stride (seen stride height (partWrites stride height x y fill (modeOf op) (part a b))) (now (screen .entry)) ⌝ }
+    ensures { λ _. ⌜ now (screen .exit) ≡ draw (canvas .stride) (seen (canvas .stride) (canvas .height) (partWrites (canvas .stride) (canvas .height) x y fill (modeOf op) (part a b))) (now (screen .entry)) ⌝ }
 {
     if fill {
-        draw_chords(stride, height, screen, x, y, a, b, op);
+        draw_chords(canvas, screen, x, y, a, b, op);
         return;
     }
-    draw_corners(stride, height, screen, x, y, a, b, op);
+    draw_corners(canvas, screen, x, y, a, b, op);
 }
 
 // The part of a step, if it draws one.
 fn draw_step(
-    stride: usize,
-    height: usize,
+    canvas: Canvas,
     screen: &mut [u8],
     x: u8,
     y: u8,
-    part: Part,
+    part: EllipsePart,
     fill: bool,
     op: RasterOp,
 )
-    requires { ⌜ Screen stride height (now screen) ⌝ }
+    requires { ⌜ Screen (canvas .stride) (canvas .height) (now screen) ⌝ }
     requires { ⌜ IsOp op ⌝ }
-    ensures { λ _. ⌜ now (screen .exit) ≡ painted stride height x y fill (modeOf op) (partsOf part) (now (screen .entry)) ⌝ }
+    ensures { λ _. ⌜ now (screen .exit) ≡ painted (canvas .stride) (canvas .height) x y fill (modeOf op) (partsOf part) (now (screen .entry)) ⌝ }
 {
     match part {
-        Part::At(a, b) => draw_part(stride, height, screen, x, y, a, b, fill, op),
-        Part::Nothing => {}
+        EllipsePart::At(a, b) => draw_part(canvas, screen, x, y, a, b, fill, op),
+        EllipsePart::Nothing => {}
     }
 }
 
 fn draw_walk(
-    stride: usize,
-    height: usize,
+    canvas: Canvas,
     screen: &mut [u8],
     x: u8,
     y: u8,
@@ -166,18 +138,18 @@ fn draw_walk(
     fill: bool,
     op: RasterOp,
 )
-    requires { ⌜ Screen stride height (now screen) ⌝ }
+    requires { ⌜ Screen (canvas .stride) (canvas .height) (now screen) ⌝ }
     requires { ⌜ Round rx ry ⌝ }
     requires { ⌜ IsOp op ⌝ }
-    ensures { λ _. ⌜ now (screen .exit) ≡ painted stride height x y fill (modeOf op) (parts rx ry) (now (screen .entry)) ⌝ }
+    ensures { λ _. ⌜ now (screen .exit) ≡ painted (canvas .stride) (canvas .height) x y fill (modeOf op) (parts rx ry) (now (screen .entry)) ⌝ }
 {
     let r = greatest(rx, ry);
-    draw_part(stride, height, screen, x, y, rx, 0, fill, op);
+    draw_part(canvas, screen, x, y, rx, 0, fill, op);
     let mut w = start(r, rx);
     loop {
         let s = next_step(w, r, rx, ry);
         let part = s.part;
-        draw_step(stride, height, screen, x, y, part, fill, op);
+        draw_step(canvas, screen, x, y, part, fill, op);
         w = s.walk;
         if ended(w) {
             break;
@@ -203,25 +175,21 @@ fn reach(z: u8, radius: u8, edge: u16) -> u16
     if end < edge { edge } else { end }
 }
 
-fn ellipse_mark(stride: usize, height: usize, x: u8, y: u8, rx: u8, ry: u8) -> Rect
-    requires { ⌜ (0 < stride) × (stride ≤ 32) × (0 < height) × (height ≤ 256) ⌝ }
-    ensures { λ r. ⌜ r ≡ ellipseMark stride height x y rx ry ⌝ }
+fn ellipse_mark(canvas: Canvas, x: u8, y: u8, rx: u8, ry: u8) -> Rect
+    requires { ⌜ (0 < canvas .stride) × (canvas .stride ≤ 32) × (0 < canvas .height) × (canvas .height ≤ 256) ⌝ }
+    ensures { λ r. ⌜ r ≡ ellipseMark (canvas .stride) (canvas .height) x y rx ry ⌝ }
 {
-    let width = (8 * stride) as u16;
-    let lines = height as u16;
+    let screen = whole_screen(canvas);
     if wraps(x, y, rx, ry) {
-        return Rect {
-            left: 0,
-            top: 0,
-            right: width,
-            bottom: lines,
-        };
+        return screen;
     }
+    let left = (x - rx) as u16;
+    let top = (y - ry) as u16;
     Rect {
-        left: (x - rx) as u16,
-        top: (y - ry) as u16,
-        right: reach(x, rx, width),
-        bottom: reach(y, ry, lines),
+        left,
+        top,
+        right: reach(x, rx, screen.right),
+        bottom: reach(y, ry, screen.bottom),
     }
 }
 
@@ -247,8 +215,7 @@ pub fn radii_fit(rx: u8, ry: u8, fill: bool, mode: DrawMode) -> bool
 }
 
 pub fn draw_ellipse(
-    stride: usize,
-    height: usize,
+    canvas: Canvas,
     screen: &mut [u8],
     x: u8,
     y: u8,
@@ -257,24 +224,21 @@ pub fn draw_ellipse(
     fill: bool,
     mode: DrawMode,
 ) -> Marks
-    requires { ⌜ Screen stride height (now screen) ⌝ }
+    requires { ⌜ Screen (canvas .stride) (canvas .height) (now screen) ⌝ }
     requires { ⌜ radiiFit rx ry fill mode ≡ true ⌝ }
-    ensures { λ r. ⌜ drawn r (now (screen .exit)) ≡ drawnOn stride height (ellipse stride height x y rx ry fill mode) (now (screen .entry)) ⌝ }
+    ensures { λ r. ⌜ drawn r (now (screen .exit)) ≡ drawnOn (canvas .stride) (canvas .height) (ellipse (canvas .stride) (canvas .height) x y rx ry fill mode) (now (screen .entry)) ⌝ }
 {
     if is_point(rx, ry) {
-        return draw_point(stride, height, screen, x, y, mode);
+        return draw_point(canvas, screen, x, y, mode);
     }
     if is_nothing(fill, mode) {
         return no_marks();
     }
     let op = raster_op(mode);
-    draw_walk(stride, height, screen, x, y, rx, ry, fill, op);
-    let dirty = ellipse_mark(stride, height, x, y, rx, ry);
+    draw_walk(canvas, screen, x, y, rx, ry, fill, op);
+    let dirty = ellipse_mark(canvas, x, y, rx, ry);
     if fill {
-        return Marks {
-            dirty,
-            owed: lower(stride, height, dirty),
-        };
+        return owed_lowered(canvas, dirty);
     }
-    Marks { dirty, owed: dirty }
+    owed_as_is(dirty)
 }

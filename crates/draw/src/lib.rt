@@ -1,6 +1,7 @@
-// Points, lines, boxes and ellipses over the lent screen part of memory. `stride` is the bytes of a line, `height` the lines.
+// Points, lines, boxes and ellipses over the lent screen part of memory.
 mod boxes;
 mod ellipse;
+mod ends;
 mod line;
 mod slope;
 

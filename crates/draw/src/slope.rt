@@ -6,6 +6,7 @@ ghost use lib.Dec.{leb, ltb};
 ghost use Rattle.model.specs.Pixels.{Screen, draw, seen};
 ghost use Rattle.model.specs.Lines.{errorSum, stepped, nextError, slope, sloped};
 ghost use Rattle.laws.specs.Slopes.{slopeBy};
+use model::Canvas;
 use model::DrawMode;
 use pixels::point::plot_seen;
 
@@ -64,8 +65,7 @@ fn inc_of(y1: u8, y2: u8) -> u8
 
 // More across than down: x steps in every turn. It is no byte, since it may step past 255 after the last point.
 fn draw_flat(
-    stride: usize,
-    height: usize,
+    canvas: Canvas,
     screen: &mut [u8],
     x1: u8,
     y1: u8,
@@ -74,15 +74,15 @@ fn draw_flat(
     inc: u8,
     mode: DrawMode,
 )
-    requires { ⌜ Screen stride height (now screen) ⌝ }
-    ensures { λ _. ⌜ now (screen .exit) ≡ draw stride (seen stride height (slope (slopeBy across down across inc) (across + 1) x1 y1 0 0 mode)) (now (screen .entry)) ⌝ }
+    requires { ⌜ Screen (canvas .stride) (canvas .height) (now screen) ⌝ }
+    ensures { λ _. ⌜ now (screen .exit) ≡ draw (canvas .stride) (seen (canvas .stride) (canvas .height) (slope (slopeBy across down across inc) (across + 1) x1 y1 0 0 mode)) (now (screen .entry)) ⌝ }
 {
     let mut x = x1 as usize;
     let mut y = y1;
     let mut error_y = 0u8;
     let mut points = (across as usize) + 1;
     while 0 < points {
-        plot_seen(stride, height, screen, x, y as usize, mode);
+        plot_seen(canvas, screen, x, y as usize, mode);
         x += 1;
         y = step_y(y, inc, error_y, down, across);
         error_y = next_error(error_y, down, across);
@@ -92,8 +92,7 @@ fn draw_flat(
 
 // More down than across: y steps in every turn.
 fn draw_steep(
-    stride: usize,
-    height: usize,
+    canvas: Canvas,
     screen: &mut [u8],
     x1: u8,
     y1: u8,
@@ -102,15 +101,15 @@ fn draw_steep(
     inc: u8,
     mode: DrawMode,
 )
-    requires { ⌜ Screen stride height (now screen) ⌝ }
-    ensures { λ _. ⌜ now (screen .exit) ≡ draw stride (seen stride height (slope (slopeBy across down down inc) (down + 1) x1 y1 0 0 mode)) (now (screen .entry)) ⌝ }
+    requires { ⌜ Screen (canvas .stride) (canvas .height) (now screen) ⌝ }
+    ensures { λ _. ⌜ now (screen .exit) ≡ draw (canvas .stride) (seen (canvas .stride) (canvas .height) (slope (slopeBy across down down inc) (down + 1) x1 y1 0 0 mode)) (now (screen .entry)) ⌝ }
 {
     let mut x = x1 as usize;
     let mut y = y1;
     let mut error_x = 0u8;
     let mut points = (down as usize) + 1;
     while 0 < points {
-        plot_seen(stride, height, screen, x, y as usize, mode);
+        plot_seen(canvas, screen, x, y as usize, mode);
         x = step_x(x, error_x, across, down);
         y = std::num::wrapping_add_u8(y, inc);
         error_x = next_error(error_x, across, down);
@@ -119,26 +118,17 @@ fn draw_steep(
 }
 
 // From (x1, y1), the left end, to (x2, y2). The sum of the longer distance is 0 after each turn, so only the other one is kept.
-pub fn draw_slope(
-    stride: usize,
-    height: usize,
-    screen: &mut [u8],
-    x1: u8,
-    y1: u8,
-    x2: u8,
-    y2: u8,
-    mode: DrawMode,
-)
-    requires { ⌜ Screen stride height (now screen) ⌝ }
+pub fn draw_slope(canvas: Canvas, screen: &mut [u8], x1: u8, y1: u8, x2: u8, y2: u8, mode: DrawMode)
+    requires { ⌜ Screen (canvas .stride) (canvas .height) (now screen) ⌝ }
     requires { ⌜ x1 ≤ x2 ⌝ }
-    ensures { λ _. ⌜ now (screen .exit) ≡ draw stride (seen stride height (sloped x1 y1 x2 y2 mode)) (now (screen .entry)) ⌝ }
+    ensures { λ _. ⌜ now (screen .exit) ≡ draw (canvas .stride) (seen (canvas .stride) (canvas .height) (sloped x1 y1 x2 y2 mode)) (now (screen .entry)) ⌝ }
 {
     let dist_x = x2 - x1;
     let dist_y = abs_diff(y1, y2);
     let inc_y = inc_of(y1, y2);
     if dist_y <= dist_x {
-        draw_flat(stride, height, screen, x1, y1, dist_x, dist_y, inc_y, mode);
+        draw_flat(canvas, screen, x1, y1, dist_x, dist_y, inc_y, mode);
     } else {
-        draw_steep(stride, height, screen, x1, y1, dist_x, dist_y, inc_y, mode);
+        draw_steep(canvas, screen, x1, y1, dist_x, dist_y, inc_y, mode);
     }
 }

@@ -17,7 +17,7 @@ use Rattle.model.specs.Ellipses.{Part, part, parts, up, down, corners, chord, c
 use Rattle.laws.specs.Tests.{tests, if-cases, clash}
 use Rattle.laws.specs.Writes.{drawn-append}
 use Rattle.laws.specs.Solid.{solid, horizontal-solid, solid-known}
-use Rattle.laws.specs.Points.{both}
+use Rattle.laws.specs.Points.{both, bothLowered}
 use Rattle.laws.specs.EllipseSteps.{Round}
 use Rattle.laws.specs.EllipseMarks.{Inside, unwrapped, Shape, isDot, isVoid, isRound, shape, ellipse-owes}
 use Rattle.laws.specs.EllipseWalks.{painted}
@@ -81,15 +81,18 @@ painted-solid st h x y false d qs s k = ap (λ (m : DrawMode). painted st h x y 
 
 -- ---- marks
 
-pub mark-whole : (st h x y rx ry : ℕ) {t : Bool} → t ≡ wraps x y rx ry → t ≡ true → whole st h ≡ ellipseMark st h x y rx ry
-unfolding ellipseMark
-mark-whole st h x y rx ry e f = rw (sym e ∙ f)
+module _ (st h x y rx ry : ℕ) {t : Bool} {q : Rect} (screen : q ≡ whole st h) (told : t ≡ wraps x y rx ry) where
+  pub mark-whole : t ≡ true → q ≡ ellipseMark st h x y rx ry
+  unfolding ellipseMark
+  mark-whole f = rw (sym told ∙ f) screen
 
-pub mark-around : (st h x y rx ry : ℕ) {t : Bool} {r b : ℕ} → t ≡ wraps x y rx ry → t ≡ false
-    → r ≡ max (x + rx + 1) (8 * st) → b ≡ max (y + ry + 1) h
-    → _≡_ {A = Rect} (record { left = x - rx; top = y - ry; right = r; bottom = b }) (ellipseMark st h x y rx ry)
-unfolding ellipseMark
-mark-around st h x y rx ry e f p q = rw (sym e ∙ f) (λ i. record { left = x - rx; top = y - ry; right = p i; bottom = q i })
+  pub mark-around : {r b : ℕ} → t ≡ false → r ≡ max (x + rx + 1) (q .right) → b ≡ max (y + ry + 1) (q .bottom)
+      → _≡_ {A = Rect} (record { left = x - rx; top = y - ry; right = r; bottom = b }) (ellipseMark st h x y rx ry)
+  unfolding ellipseMark
+  mark-around f p b =
+      let p′ = p ∙ ap (λ (k : Rect). max (x + rx + 1) (k .right)) screen in
+      let b′ = b ∙ ap (λ (k : Rect). max (y + ry + 1) (k .bottom)) screen in
+      rw (sym told ∙ f) (λ i. record { left = x - rx; top = y - ry; right = p′ i; bottom = b′ i })
 
 pub not-wrapped : (x y rx ry : ℕ) {t : Bool} → t ≡ wraps x y rx ry → t ≡ false → Inside x y rx ry
 not-wrapped x y rx ry e f = unwrapped x y rx ry (sym e ∙ f)
@@ -135,12 +138,14 @@ module _ (st h x y rx ry : ℕ) (fill : Bool) (d : DrawMode) (s e : List ℕ) (m
       let k′ = w ∙ v ∙ sym (ap (λ (g : Drawing). draw st (seen st h (g .writes)) s) r) in
       λ i. record { dirty = a′ i; owed = b′ i; screen = k′ i }
 
-  pub ellipse-filled : {t u : Bool} {k : DrawMode} → radiiFit rx ry fill d ≡ true → t ≡ isPoint rx ry → t ≡ false → u ≡ isNothing fill d → u ≡ false → fill ≡ true
-      → m .dirty ≡ ellipseMark st h x y rx ry → m .owed ≡ lowered (8 * st) h (m .dirty)
+  pub ellipse-filled : {t u : Bool} {k : DrawMode} {q : Rect} → fill ≡ true → m ≡ bothLowered st h q → q ≡ ellipseMark st h x y rx ry
+      → radiiFit rx ry fill d ≡ true → t ≡ isPoint rx ry → t ≡ false → u ≡ isNothing fill d → u ≡ false
       → k ≡ solid d → e ≡ painted st h x y fill k (parts rx ry) s → drawn m e ≡ drawnOn st h (ellipse st h x y rx ry fill d) s
-  ellipse-filled f p q n o g a b same w = ellipse-marked f p q n o a (rw g (b ∙ ap (lowered (8 * st) h) a)) _ same w
+  ellipse-filled g b a f p q n o same w =
+      ellipse-marked f p q n o ((λ i. b i .dirty) ∙ a) (rw g ((λ i. b i .owed) ∙ ap (lowered (8 * st) h) a)) _ same w
 
-  pub ellipse-outlined : {t u : Bool} {k : DrawMode} → radiiFit rx ry fill d ≡ true → t ≡ isPoint rx ry → t ≡ false → u ≡ isNothing fill d → u ≡ false → fill ≡ false
-      → m .dirty ≡ ellipseMark st h x y rx ry → m .owed ≡ m .dirty
+  pub ellipse-outlined : {t u : Bool} {k : DrawMode} {q : Rect} → fill ≡ false → m ≡ both q → q ≡ ellipseMark st h x y rx ry
+      → radiiFit rx ry fill d ≡ true → t ≡ isPoint rx ry → t ≡ false → u ≡ isNothing fill d → u ≡ false
       → k ≡ solid d → e ≡ painted st h x y fill k (parts rx ry) s → drawn m e ≡ drawnOn st h (ellipse st h x y rx ry fill d) s
-  ellipse-outlined f p q n o g a b same w = ellipse-marked f p q n o a (rw g (b ∙ a)) _ same w
+  ellipse-outlined g b a f p q n o same w =
+      ellipse-marked f p q n o ((λ i. b i .dirty) ∙ a) (rw g ((λ i. b i .owed) ∙ a)) _ same w

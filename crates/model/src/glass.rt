@@ -24,6 +24,27 @@ pub struct Glass {
     pub others: usize,
 }
 
+// 160 by 80, one band, one panel. The glass's numbers stand here and nowhere else in the code.
+pub const SMALL: Glass = Glass {
+    stride: 20,
+    bands: 1,
+    band: 80,
+    panels: 1,
+    width: 160,
+    height: 80,
+    screen: SCREEN_BYTES,
+    rows: 5,
+    columns: 20,
+    cells: TEXT_BYTES,
+    graphics: 63935,
+    text: 65435,
+    bytes: RECORD_BYTES,
+    pending: 20,
+    keys: 38,
+    flags: 70,
+    others: 170,
+};
+
 // The lines of a glyph.
 pub const GLYPH_HEIGHT: u8 = 16;
 

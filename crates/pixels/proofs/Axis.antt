@@ -13,12 +13,15 @@ use borrow.Author.Tests.{ltb-true, lt-ltb, le-ltb}
 use Rattle.laws.specs.Points.{onAxis}
 
 -- the number that the cast gives
-abbrev pub read : ℤ → ℤ
-read z = toZ w32 (ofZ w32 z)
+abbrev pub readBack : ℤ → ℤ
+readBack z = toZ w32 (ofZ w32 z)
 
-pub axis-below : (n : ℕ) (z : ℤ) → mag z < 2 ^ 31 → ltZ (read z) (pos 0) ≡ true → n ≡ onAxis z n
+pub read-same : (z : ℤ) → mag z < 2 ^ 31 → readBack z ≡ z
+read-same z f = toZ-ofZ {w = w32} {z = z} (record { sfits = f })
+
+pub axis-below : (n : ℕ) (z : ℤ) → mag z < 2 ^ 31 → ltZ (readBack z) (pos 0) ≡ true → n ≡ onAxis z n
 unfolding onAxis
-axis-below n z f h = go z (rw (toZ-ofZ {w = w32} {z = z} (record { sfits = f })) at h)
+axis-below n z f h = go z (rw (read-same z f) at h)
   where
     go : (z : ℤ) → ltZ z (pos 0) ≡ true → n ≡ onAxis z n
     go (pos x) e = absurd (let l : x < 0 = ltb-true x 0 e in omega arith)
@@ -28,25 +31,25 @@ positive : (z : ℤ) → ltZ z (pos 0) ≡ false → T (nonNeg z)
 positive (pos x) e = tt
 positive (negsuc x) e = absurd (let z : _≡_ {A = ℕ} 0 1 = cc in omega arith)
 
-pub axis-cast : (z : ℤ) → mag z < 2 ^ 31 → ltZ (read z) (pos 0) ≡ false → T (nonNeg (read z)) × Fits w64 (natAbs (read z))
-axis-cast z f h = (positive (read z) h, rw (toZ-ofZ {w = w32} {z = z} (record { sfits = f })) (fits-natAbs {w = w32} {w′ = w64} {z = z} tt (record { sfits = f })))
+pub axis-cast : (z : ℤ) → mag z < 2 ^ 31 → ltZ (readBack z) (pos 0) ≡ false → T (nonNeg (readBack z)) × Fits w64 (natAbs (readBack z))
+axis-cast z f h = (positive (readBack z) h, rw (read-same z f) (fits-natAbs {w = w32} {w′ = w64} {z = z} tt (record { sfits = f })))
 
-pub axis-on : (n : ℕ) (z : ℤ) → mag z < 2 ^ 31 → ltZ (read z) (pos 0) ≡ false → natAbs (read z) < n → natAbs (read z) ≡ onAxis z n
+pub axis-on : (n : ℕ) (z : ℤ) → mag z < 2 ^ 31 → ltZ (readBack z) (pos 0) ≡ false → natAbs (readBack z) < n → natAbs (readBack z) ≡ onAxis z n
 unfolding onAxis
-axis-on n z f h l = rw (toZ-ofZ {w = w32} {z = z} (record { sfits = f })) (go z (rw (toZ-ofZ {w = w32} {z = z} (record { sfits = f })) at h) (rw (toZ-ofZ {w = w32} {z = z} (record { sfits = f })) at l))
+axis-on n z f h l = rw (read-same z f) (go z (rw (read-same z f) at h) (rw (read-same z f) at l))
   where
     go : (z : ℤ) → ltZ z (pos 0) ≡ false → natAbs z < n → natAbs z ≡ onAxis z n
     go (pos x) e l = rw (lt-ltb x n l)
     go (negsuc x) e l = absurd (positive (negsuc x) e)
 
-pub axis-above : (n : ℕ) (z : ℤ) → mag z < 2 ^ 31 → ltZ (read z) (pos 0) ≡ false → n ≤ natAbs (read z) → n ≡ onAxis z n
+pub axis-above : (n : ℕ) (z : ℤ) → mag z < 2 ^ 31 → ltZ (readBack z) (pos 0) ≡ false → n ≤ natAbs (readBack z) → n ≡ onAxis z n
 unfolding onAxis
-axis-above n z f h l = go z (rw (toZ-ofZ {w = w32} {z = z} (record { sfits = f })) at h) (rw (toZ-ofZ {w = w32} {z = z} (record { sfits = f })) at l)
+axis-above n z f h l = go z (rw (read-same z f) at h) (rw (read-same z f) at l)
   where
     go : (z : ℤ) → ltZ z (pos 0) ≡ false → n ≤ natAbs z → n ≡ onAxis z n
     go (pos x) e l = rw (le-ltb x n l)
     go (negsuc x) e l = absurd (positive (negsuc x) e)
 
 -- what `axis` answered, of the number itself
-pub axis-given : (n : ℕ) (z : ℤ) {c : ℕ} → mag z < 2 ^ 31 → c ≡ onAxis (read z) n → c ≡ onAxis z n
-axis-given n z f e = rw (toZ-ofZ {w = w32} {z = z} (record { sfits = f })) at e
+pub axis-given : (n : ℕ) (z : ℤ) {c : ℕ} → mag z < 2 ^ 31 → c ≡ onAxis (readBack z) n → c ≡ onAxis z n
+axis-given n z f e = rw (read-same z f) at e

@@ -19,17 +19,17 @@ use Rattle.laws.specs.Tests.{by-lt}
 use Rattle.laws.specs.Bytes.{mixed, mix-masked}
 use Rattle.laws.specs.Masks.{startMask, endMask, Mask, start-mask, end-mask, both-masks, Run, run-masked, run-bytes, run-line, run-equal, run-copyRun}
 use Rattle.laws.specs.Runs.{line-in}
-use Rattle.send.specs.Line.{Line}
+use Rattle.send.specs.Line.{LineOn}
 
 -- the line lies within the bytes of the screen
-pub row-in : (st h : ℕ) (s p : List ℕ) (r : Rect) → Line st h s p r → st * r .top + st ≤ st * h
+pub row-in : (st h : ℕ) (s p : List ℕ) (r : Rect) → LineOn st h s p r → st * r .top + st ≤ st * h
 row-in st h s p r l = omega (arith, line-in st h (r .top) (l .screen) (l .above))
 
 -- a byte of a slice
-abbrev pub Known : List ℕ → Type 0
-Known s = (i : ℕ) → Fits w8 (getD s i 0)
+abbrev pub FitBytes : List ℕ → Type 0
+FitBytes s = (i : ℕ) → Fits w8 (getD s i 0)
 
-are-bytes : (s : List ℕ) → Known s → Bytes s
+are-bytes : (s : List ℕ) → FitBytes s → Bytes s
 unfolding Bytes
 are-bytes s k i = k i .fits
 
@@ -81,17 +81,17 @@ run-part st y k l a e s p ys ha he kl ls es ep hy hq =
 -- ---- the line
 
 -- its first byte and its last
-abbrev first : ℕ → Rect → ℕ
-first st r = st * r .top + r .left / 8
+abbrev firstByte : ℕ → Rect → ℕ
+firstByte st r = st * r .top + r .left / 8
 
-abbrev end : ℕ → Rect → ℕ
-end st r = st * r .top + (r .right - 1) / 8
+abbrev lastByte : ℕ → Rect → ℕ
+lastByte st r = st * r .top + (r .right - 1) / 8
 
 -- the panel p with the masked bits of byte i from the screen s
 abbrev with-masked : ℕ → ℕ → List ℕ → List ℕ → List ℕ
 with-masked i m s p = set p i (mixed m (getD s i 0) (getD p i 0))
 
-module _ {st h : ℕ} {s p : List ℕ} {r : Rect} (l : Line st h s p r) (hs : Known s) (hp : Known p) where
+module _ {st h : ℕ} {s p : List ℕ} {r : Rect} (l : LineOn st h s p r) (hs : FitBytes s) (hp : FitBytes p) where
   -- what a run from left to right leaves is the line copied by pixels
   is-line : (q : List ℕ) → Run st (r .top) (r .left) (r .right - 1 + 1) (taking st s (r .top)) p q → q ≡ copyLine st r s p
   unfolding copyLine
@@ -100,28 +100,28 @@ module _ {st h : ℕ} {s p : List ℕ} {r : Rect} (l : Line st h s p r) (hs : Kn
       (run-copyRun st (r .top) (r .left) (r .right - 1 + 1) (r .right - r .left) s p (omega arith) (omega arith) (omega (arith, row-in)) (are-bytes p hp))
 
   -- the line lies in one byte
-  pub one-byte : {m n : ℕ} {q : List ℕ} → first st r ≡ end st r → m ≡ startMask (r .left) → n ≡ endMask (r .right - 1)
-      → q ≡ with-masked (first st r) (bitAnd m n) s p → q ≡ copyLine st r s p
-  one-byte {q = q} e f g i =
+  pub in-one-byte : {m n : ℕ} {q : List ℕ} → firstByte st r ≡ lastByte st r → m ≡ startMask (r .left) → n ≡ endMask (r .right - 1)
+      → q ≡ with-masked (firstByte st r) (bitAnd m n) s p → q ≡ copyLine st r s p
+  in-one-byte {q = q} e f g i =
       is-line q
       (rw (i, f, g)
       (run-mixed st (r .top) (r .left / 8) (r .left) (r .right - 1 + 1) _ s p (both-masks (r .left) (r .right - 1) (omega arith)) (omega arith)
       (omega (arith, row-in)) (are-bytes s hs) (are-bytes p hp)))
 
   -- or in more: p₁ is left by the first, p₂ by the bytes between
-  pub more-bytes : {m n : ℕ} {p₁ ys q : List ℕ} → (first st r ≡ end st r → ⊥) → m ≡ startMask (r .left) → n ≡ endMask (r .right - 1)
-      → p₁ ≡ with-masked (first st r) m s p → ys ≡ midOf (first st r + 1) (end st r - (first st r + 1)) s
-      → Known (putMid (first st r + 1) (end st r - (first st r + 1)) p₁ ys)
-      → q ≡ with-masked (end st r) n s (putMid (first st r + 1) (end st r - (first st r + 1)) p₁ ys) → q ≡ copyLine st r s p
-  more-bytes {m} {n} {p₁} {ys} {q} d f g i j hk o =
+  pub in-more-bytes : {m n : ℕ} {p₁ ys q : List ℕ} → (firstByte st r ≡ lastByte st r → ⊥) → m ≡ startMask (r .left) → n ≡ endMask (r .right - 1)
+      → p₁ ≡ with-masked (firstByte st r) m s p → ys ≡ midOf (firstByte st r + 1) (lastByte st r - (firstByte st r + 1)) s
+      → FitBytes (putMid (firstByte st r + 1) (lastByte st r - (firstByte st r + 1)) p₁ ys)
+      → q ≡ with-masked (lastByte st r) n s (putMid (firstByte st r + 1) (lastByte st r - (firstByte st r + 1)) p₁ ys) → q ≡ copyLine st r s p
+  in-more-bytes {m} {n} {p₁} {ys} {q} d f g i j hk o =
       let k = r .left / 8 in
       let e = (r .right - 1) / 8 in
-      let p₂ = putMid (first st r + 1) (end st r - (first st r + 1)) p₁ ys in
+      let p₂ = putMid (firstByte st r + 1) (lastByte st r - (firstByte st r + 1)) p₁ ys in
       let bs = are-bytes s hs in
       let f₁ : Run st (r .top) (r .left) (8 * (k + 1)) (taking st s (r .top)) p p₁ =
       rw (i, f) (run-mixed st (r .top) k (r .left) (8 * (k + 1)) _ s p (start-mask (r .left)) (omega arith) (omega (arith, row-in)) bs (are-bytes p hp)) in
       let f₂ : Run st (r .top) (8 * (k + 1)) (8 * e) (taking st s (r .top)) p₁ p₂ =
-      run-part st (r .top) (k + 1) e (first st r + 1) (end st r) s p₁ ys (omega arith) refl (omega arith) (omega arith) (omega (arith, row-in)) (omega (arith, row-in))
+      run-part st (r .top) (k + 1) e (firstByte st r + 1) (lastByte st r) s p₁ ys (omega arith) refl (omega arith) (omega arith) (omega (arith, row-in)) (omega (arith, row-in))
       j (are-bytes p₂ hk) in
       let f₃ : Run st (r .top) (8 * e) (r .right - 1 + 1) (taking st s (r .top)) p₂ q =
       rw (o, g) (run-mixed st (r .top) e (8 * e) (r .right - 1 + 1) _ s p₂ (end-mask (r .right - 1)) (omega arith) (omega (arith, row-in)) bs (are-bytes p₂ hk)) in

@@ -1,4 +1,5 @@
 // A line of the screen copied to the panel by bytes: whole bytes, with a mask at each edge.
+use model::Canvas;
 use model::Rect;
 use pixels::run::end_mask;
 use pixels::run::start_mask;
@@ -7,7 +8,7 @@ ghost use Prim.Native.Nat.{_<_};
 ghost use lib.ListN.{length, getD, set};
 ghost use Rattle.laws.specs.Bytes.{mixed};
 ghost use Rattle.model.specs.Sends.{copyLine};
-ghost use Rattle.send.specs.Line.{Line};
+ghost use Rattle.send.specs.Line.{LineOn};
 
 // Copies the masked bits of byte `at`; its other bits stay.
 fn copy_masked(screen: &[u8], panel: &mut [u8], at: usize, mask: u8)
@@ -30,10 +31,11 @@ fn copy_bytes(from: &[u8], onto: &mut [u8])
 }
 
 // Copies the pixels of the rectangle's top line, from its left to its right; all other bits of the panel stay.
-pub fn copy_line(stride: usize, height: usize, screen: &[u8], panel: &mut [u8], r: Rect)
-    requires { ⌜ Line stride height (now screen) (now panel) r ⌝ }
-    ensures { λ _. ⌜ now (panel .exit) ≡ copyLine stride r (now (screen .entry)) (now (panel .entry)) ⌝ }
+pub fn copy_line(canvas: Canvas, screen: &[u8], panel: &mut [u8], r: Rect)
+    requires { ⌜ LineOn (canvas .stride) (canvas .height) (now screen) (now panel) r ⌝ }
+    ensures { λ _. ⌜ now (panel .exit) ≡ copyLine (canvas .stride) r (now (screen .entry)) (now (panel .entry)) ⌝ }
 {
+    let stride = canvas.stride;
     let left = r.left as usize;
     let last = r.right as usize - 1;
     let row = stride * (r.top as usize);

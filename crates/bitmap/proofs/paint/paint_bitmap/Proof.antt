@@ -43,10 +43,10 @@ add-bytes c = search needs
 paint-lines-requires : tie.Need-paint-lines-requires
 paint-lines-requires c κs =
     let a = c .before .before .before .before .before .before .before .before .before in
-    let across = visible-lies (a .args .x) (a .args .width) (8 * a .args .stride)
+    let across = visible-lies (a .args .x) (a .args .width) (8 * a .args .canvas .stride)
     (visible-given (a .args .x) _ _ (a .fits .x) (c .before .before .before .before .before .before .visible .ensures))
     (c .before .before .before .if1 .left) in
-    let down = visible-lies (a .args .y) (a .args .lines) (a .args .height)
+    let down = visible-lies (a .args .y) (a .args .lines) (a .args .canvas .height)
     (visible-given (a .args .y) _ _ (a .fits .y) (c .before .before .before .before .before .visible2 .ensures))
     (c .before .if2 .left) in
     (a .pre .0, (source-screen (a .args .width) (a .args .lines) (a .args .source .now) (a .pre .1) (omega arith) (omega arith) (omega arith) (omega arith), omega arith))
@@ -54,10 +54,10 @@ paint-lines-requires c κs =
 visible-marks-requires : tie.Need-visible-marks-requires
 visible-marks-requires c κs =
     let a = c .before .before .before .before .before .before .before .before .before .before .before .before in
-    let across = visible-lies (a .args .x) (a .args .width) (8 * a .args .stride)
+    let across = visible-lies (a .args .x) (a .args .width) (8 * a .args .canvas .stride)
     (visible-given (a .args .x) _ _ (a .fits .x) (c .before .before .before .before .before .before .before .before .before .visible .ensures))
     (c .before .before .before .before .before .before .if1 .left) in
-    let down = visible-lies (a .args .y) (a .args .lines) (a .args .height)
+    let down = visible-lies (a .args .y) (a .args .lines) (a .args .canvas .height)
     (visible-given (a .args .y) _ _ (a .fits .y) (c .before .before .before .before .before .before .before .before .visible2 .ensures))
     (c .before .before .before .before .if2 .left) in
     omega (arith, a .pre .0)

@@ -10,12 +10,12 @@ use Rattle.bitmap.proofs.paint.paint_line.Statement.{statement}
 use Rattle.bitmap.proofs.paint.paint_line.Tie as tie
 
 abbrev Inv-loop : tie.InvT-loop
-Inv-loop stride height screen₀ bytes lines source j y mode to i₀ x₀ screen i x =
-    Screen stride height screen × (i + (to - x) ≤ 8 * bytes)
-    × (draw stride (paintedLine bytes source mode i j x y (to - x)) screen ≡ draw stride (paintedLine bytes source mode i₀ j x₀ y (to - x₀)) screen₀)
+Inv-loop canvas screen₀ picture source j y mode to i₀ x₀ screen i x =
+    Screen (canvas .stride) (canvas .height) screen × (i + (to - x) ≤ 8 * picture .stride)
+    × (draw (canvas .stride) (paintedLine (picture .stride) source mode i j x y (to - x)) screen ≡ draw (canvas .stride) (paintedLine (picture .stride) source mode i₀ j x₀ y (to - x₀)) screen₀)
 
 abbrev μ-loop : tie.MeasureT-loop
-μ-loop stride height screen₀ bytes lines source j y mode to i₀ x₀ screen i x = to - x
+μ-loop canvas screen₀ picture source j y mode to i₀ x₀ screen i x = to - x
 
 loop-holds : tie.Need-loop-holds Inv-loop μ-loop
 loop-holds c = (c .before .before .pre .0, c .before .before .pre .1 .1 .1, refl)

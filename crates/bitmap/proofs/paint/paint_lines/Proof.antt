@@ -10,12 +10,12 @@ use Rattle.bitmap.proofs.paint.paint_lines.Statement.{statement}
 use Rattle.bitmap.proofs.paint.paint_lines.Tie as tie
 
 abbrev Inv-loop : tie.InvT-loop
-Inv-loop stride height screen₀ bytes lines source across mode to j₀ y₀ screen j y =
-    Screen stride height screen × (j + (to - y) ≤ lines)
-    × (draw stride (paintedLines bytes source mode across j y (to - y)) screen ≡ draw stride (paintedLines bytes source mode across j₀ y₀ (to - y₀)) screen₀)
+Inv-loop canvas screen₀ picture source across mode to j₀ y₀ screen j y =
+    Screen (canvas .stride) (canvas .height) screen × (j + (to - y) ≤ picture .height)
+    × (draw (canvas .stride) (paintedLines (picture .stride) source mode across j y (to - y)) screen ≡ draw (canvas .stride) (paintedLines (picture .stride) source mode across j₀ y₀ (to - y₀)) screen₀)
 
 abbrev μ-loop : tie.MeasureT-loop
-μ-loop stride height screen₀ bytes lines source across mode to j₀ y₀ screen j y = to - y
+μ-loop canvas screen₀ picture source across mode to j₀ y₀ screen j y = to - y
 
 loop-holds : tie.Need-loop-holds Inv-loop μ-loop
 loop-holds c = (c .before .before .pre .0, c .before .before .pre .1 .1 .3, refl)

@@ -3,7 +3,7 @@ use mathlib.Core.Path.{_≡_}
 use Prim.Native.Nat.{_≤_, _+_}
 use native.Mathlib.Omega.{arith}
 use Rattle.model.specs.Pixels.{Screen, draw, seen}
-use Rattle.model.specs.Boxes.{rows, filledBox}
+use Rattle.model.specs.Boxes.{boxRows, filledBox}
 use Rattle.laws.specs.Writes.{screen-draw}
 use Rattle.laws.specs.Boxes.{rows-start, rows-turn, rows-end}
 use Rattle.pixels.specs.Raster.{modeOf}
@@ -11,13 +11,13 @@ use Rattle.draw.proofs.boxes.fill_rows.Statement.{statement}
 use Rattle.draw.proofs.boxes.fill_rows.Tie as tie
 
 abbrev Inv-loop : tie.InvT-loop
-Inv-loop stride height screen₀ left top right bottom op first last y₀ count₀ screen y count =
-    Screen stride height screen × (y + count ≤ 256)
-    × (draw stride (seen stride height (rows stride height left right y count (modeOf op))) screen
-    ≡ draw stride (seen stride height (filledBox stride height left top right bottom (modeOf op))) screen₀)
+Inv-loop canvas screen₀ left top right bottom op stride height first last y₀ count₀ screen y count =
+    Screen (canvas .stride) (canvas .height) screen × (y + count ≤ 256)
+    × (draw (canvas .stride) (seen (canvas .stride) (canvas .height) (boxRows (canvas .stride) (canvas .height) left right y count (modeOf op))) screen
+    ≡ draw (canvas .stride) (seen (canvas .stride) (canvas .height) (filledBox (canvas .stride) (canvas .height) left top right bottom (modeOf op))) screen₀)
 
 abbrev μ-loop : tie.MeasureT-loop
-μ-loop stride height screen₀ left top right bottom op first last y₀ count₀ screen y count = count
+μ-loop canvas screen₀ left top right bottom op stride height first last y₀ count₀ screen y count = count
 
 mul-clamp : tie.Need-mul-clamp Inv-loop μ-loop
 mul-clamp c = omega arith

@@ -33,20 +33,35 @@ draw-walk-requires c κs = search (is-round, needs)
 ellipse-mark-requires : tie.Need-ellipse-mark-requires
 ellipse-mark-requires c κs = search needs
 
-lower-requires : tie.Need-lower-requires
-lower-requires c κs = search needs
+owed-lowered-requires : tie.Need-owed-lowered-requires
+owed-lowered-requires c κs = search needs
 
 same-length-2 : tie.Need-same-length-2
 same-length-2 c = search needs
 
 returns-3 : tie.Need-returns-3
-returns-3 c = search ellipse-filled
+returns-3 c =
+    let w = c .before .before .before .before .before in
+    let k = w .before .before in
+    let n = k .before .before in
+    let p = n .before .before in
+    ellipse-filled _ _ _ _ _ _ _ _ _ _ _ (c .before .if3 .taken) (c .owed-lowered .ensures) (c .before .before .ellipse-mark .ensures) (p .before .before .pre .1)
+    (p .is-point .ensures) (n .before .if1 .left) (n .is-nothing .ensures) (k .before .if2 .left) (k .raster-op .ensures .1) (w .draw-walk .ensures)
+
+owed-as-is-requires : tie.Need-owed-as-is-requires
+owed-as-is-requires c κs = search needs
 
 same-length-3 : tie.Need-same-length-3
 same-length-3 c = search needs
 
 returns-4 : tie.Need-returns-4
-returns-4 c = search (ellipse-outlined, needs)
+returns-4 c =
+    let w = c .before .before .before .before .before in
+    let k = w .before .before in
+    let n = k .before .before in
+    let p = n .before .before in
+    ellipse-outlined _ _ _ _ _ _ _ _ _ _ _ (c .before .if3 .left) (c .owed-as-is .ensures) (c .before .before .ellipse-mark .ensures) (p .before .before .pre .1)
+    (p .is-point .ensures) (n .before .if1 .left) (n .is-nothing .ensures) (k .before .if2 .left) (k .raster-op .ensures .1) (w .draw-walk .ensures)
 
 pub draw-ellipse-spec : {M : Type 1} → statement M
 draw-ellipse-spec =
@@ -62,8 +77,9 @@ draw-ellipse-spec =
     raster-op-requires
     draw-walk-requires
     ellipse-mark-requires
-    lower-requires
+    owed-lowered-requires
     same-length-2
     returns-3
+    owed-as-is-requires
     same-length-3
     returns-4)

@@ -4,14 +4,8 @@ use borrow.Author.Needs.{needs}
 use Rattle.draw.proofs.ellipse.ellipse_mark.Statement.{statement}
 use Rattle.draw.proofs.ellipse.ellipse_mark.Tie as tie
 
-mul-width : tie.Need-mul-width
-mul-width c = search needs
-
-cast-width : tie.Need-cast-width
-cast-width c = search needs
-
-cast-lines : tie.Need-cast-lines
-cast-lines c = search needs
+whole-screen-requires : tie.Need-whole-screen-requires
+whole-screen-requires c κs = search needs
 
 wraps-requires : tie.Need-wraps-requires
 wraps-requires c κs = search needs
@@ -19,17 +13,17 @@ wraps-requires c κs = search needs
 returns : tie.Need-returns
 returns c = search mark-whole
 
-sub-t11 : tie.Need-sub-t11
-sub-t11 c = omega (arith, not-wrapped (c .before .before .args .x) (c .before .before .args .y) (c .before .before .args .rx) (c .before .before .args .ry) (c .before .wraps .ensures) (c .if1 .left))
+sub-left : tie.Need-sub-left
+sub-left c = omega (arith, not-wrapped _ _ _ _ (c .before .wraps .ensures) (c .if1 .left))
 
-cast-t12 : tie.Need-cast-t12
-cast-t12 c = search needs
+cast-left : tie.Need-cast-left
+cast-left c = search needs
 
-sub-t13 : tie.Need-sub-t13
-sub-t13 c = omega (arith, not-wrapped (c .before .before .args .x) (c .before .before .args .y) (c .before .before .args .rx) (c .before .before .args .ry) (c .before .wraps .ensures) (c .if1 .left))
+sub-top : tie.Need-sub-top
+sub-top c = omega (arith, not-wrapped _ _ _ _ (c .before .wraps .ensures) (c .if1 .left))
 
-cast-t14 : tie.Need-cast-t14
-cast-t14 c = search needs
+cast-top : tie.Need-cast-top
+cast-top c = search needs
 
 reach-requires : tie.Need-reach-requires
 reach-requires c κs = search needs
@@ -44,15 +38,13 @@ pub ellipse-mark-spec : {M : Type 1} → statement M
 ellipse-mark-spec =
     tie.close
     (tie.spec
-    mul-width
-    cast-width
-    cast-lines
+    whole-screen-requires
     wraps-requires
     returns
-    sub-t11
-    cast-t12
-    sub-t13
-    cast-t14
+    sub-left
+    cast-left
+    sub-top
+    cast-top
     reach-requires
     reach-requires-2
     returns-2)

@@ -10,11 +10,11 @@ use Rattle.draw.proofs.line.draw_column.Statement.{statement}
 use Rattle.draw.proofs.line.draw_column.Tie as tie
 
 abbrev Inv-loop : tie.InvT-loop
-Inv-loop stride height screen₀ x top count mode mask y₀ points₀ screen y points =
-    Screen stride height screen × (y + points ≤ height) × (draw stride (pixelColumn x y points mode) screen ≡ draw stride (pixelColumn x top count mode) screen₀)
+Inv-loop canvas screen₀ x top count mode mask y₀ points₀ screen y points =
+    Screen (canvas .stride) (canvas .height) screen × (y + points ≤ canvas .height) × (draw (canvas .stride) (pixelColumn x y points mode) screen ≡ draw (canvas .stride) (pixelColumn x top count mode) screen₀)
 
 abbrev μ-loop : tie.MeasureT-loop
-μ-loop stride height screen₀ x top count mode mask y₀ points₀ screen y points = points
+μ-loop canvas screen₀ x top count mode mask y₀ points₀ screen y points = points
 
 point-mask-requires : tie.Need-point-mask-requires Inv-loop μ-loop
 point-mask-requires c κs = tt

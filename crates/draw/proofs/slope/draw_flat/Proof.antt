@@ -10,13 +10,13 @@ use Rattle.draw.proofs.slope.draw_flat.Statement.{statement}
 use Rattle.draw.proofs.slope.draw_flat.Tie as tie
 
 abbrev Inv-loop : tie.InvT-loop
-Inv-loop stride height screen₀ x1 y1 across down inc mode x₀ y₀ error-y₀ points₀ screen x y error-y points =
-    Screen stride height screen × (x + points ≤ 511) × (y < 256)
-    × (draw stride (seen stride height (slope (slopeBy across down across inc) points x y 0 error-y mode)) screen
-    ≡ draw stride (seen stride height (slope (slopeBy across down across inc) (across + 1) x1 y1 0 0 mode)) screen₀)
+Inv-loop canvas screen₀ x1 y1 across down inc mode x₀ y₀ error-y₀ points₀ screen x y error-y points =
+    Screen (canvas .stride) (canvas .height) screen × (x + points ≤ 511) × (y < 256)
+    × (draw (canvas .stride) (seen (canvas .stride) (canvas .height) (slope (slopeBy across down across inc) points x y 0 error-y mode)) screen
+    ≡ draw (canvas .stride) (seen (canvas .stride) (canvas .height) (slope (slopeBy across down across inc) (across + 1) x1 y1 0 0 mode)) screen₀)
 
 abbrev μ-loop : tie.MeasureT-loop
-μ-loop stride height screen₀ x1 y1 across down inc mode x₀ y₀ error-y₀ points₀ screen x y error-y points = points
+μ-loop canvas screen₀ x1 y1 across down inc mode x₀ y₀ error-y₀ points₀ screen x y error-y points = points
 
 add-points : tie.Need-add-points Inv-loop μ-loop
 add-points c = omega arith

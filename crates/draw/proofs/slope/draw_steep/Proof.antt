@@ -10,13 +10,13 @@ use Rattle.draw.proofs.slope.draw_steep.Statement.{statement}
 use Rattle.draw.proofs.slope.draw_steep.Tie as tie
 
 abbrev Inv-loop : tie.InvT-loop
-Inv-loop stride height screen₀ x1 y1 across down inc mode x₀ y₀ error-x₀ points₀ screen x y error-x points =
-    Screen stride height screen × (x + points ≤ 511) × (y < 256)
-    × (draw stride (seen stride height (slope (slopeBy across down down inc) points x y error-x 0 mode)) screen
-    ≡ draw stride (seen stride height (slope (slopeBy across down down inc) (down + 1) x1 y1 0 0 mode)) screen₀)
+Inv-loop canvas screen₀ x1 y1 across down inc mode x₀ y₀ error-x₀ points₀ screen x y error-x points =
+    Screen (canvas .stride) (canvas .height) screen × (x + points ≤ 511) × (y < 256)
+    × (draw (canvas .stride) (seen (canvas .stride) (canvas .height) (slope (slopeBy across down down inc) points x y error-x 0 mode)) screen
+    ≡ draw (canvas .stride) (seen (canvas .stride) (canvas .height) (slope (slopeBy across down down inc) (down + 1) x1 y1 0 0 mode)) screen₀)
 
 abbrev μ-loop : tie.MeasureT-loop
-μ-loop stride height screen₀ x1 y1 across down inc mode x₀ y₀ error-x₀ points₀ screen x y error-x points = points
+μ-loop canvas screen₀ x1 y1 across down inc mode x₀ y₀ error-x₀ points₀ screen x y error-x points = points
 
 add-points : tie.Need-add-points Inv-loop μ-loop
 add-points c = omega arith

@@ -36,7 +36,7 @@ returns : tie.Need-returns
 returns c = 
     let s = c .before .before .before .before .before .before .before .before .before .before .before .before .before .before .before .before .before .before .before .before in
     let v = s .args .glass in
-    opens (s .args .rec .now) (s .args .graphics) (s .args .text) (s .args .version) (s .args .t6) (s .pre .0) (s .pre .1 .0) (s .pre .1 .1) (c .before .before .before .before .before .before .before .before .before .before .before .before .before .before .before .before .before .clear .ensures) (c .before .before .before .before .before .before .before .before .before .before .before .before .before .clear-head .ensures) (c .before .before .before .before .before .before .before .before .before .before .before .before .store-head .ensures) (c .before .before .before .before .before .before .before .before .store-keys .ensures)
+    opens (s .args .rec .now) (s .args .graphics) (s .args .text) (s .args .version) (s .args .keys) (s .pre .0) (s .pre .1 .0) (s .pre .1 .1) (c .before .before .before .before .before .before .before .before .before .before .before .before .before .before .before .before .before .clear .ensures) (c .before .before .before .before .before .before .before .before .before .before .before .before .before .clear-head .ensures) (c .before .before .before .before .before .before .before .before .before .before .before .before .store-head .ensures) (c .before .before .before .before .before .before .before .before .store-keys .ensures)
     (c .before .before .before .whole-screen .ensures ∙ whole-of v (c .before .before .before .before .canvas-of .ensures) ∙ ap (whole (v .stride)) (s .pre .0 .is-height)) (c .before .before .mark-panels .ensures)
 
 pub open-record-spec : {M : Type 1} → statement M

@@ -1,6 +1,6 @@
--- The line lies in one byte, or in more: `one-byte` and `more-bytes` are the two returns.
+-- The line lies in one byte, or in more: `in-one-byte` and `in-more-bytes` are the two returns.
 use native.Mathlib.Omega.{arith}
-use Rattle.send.proofs.Copy.{row-in, one-byte, more-bytes}
+use Rattle.send.proofs.Copy.{row-in, in-one-byte, in-more-bytes}
 use borrow.Author.Needs.{needs}
 use Rattle.send.proofs.line.copy_line.Statement.{statement}
 use Rattle.send.proofs.line.copy_line.Tie as tie
@@ -39,7 +39,7 @@ same-length : tie.Need-same-length
 same-length c = search needs
 
 returns : tie.Need-returns
-returns c = search one-byte
+returns c = search in-one-byte
 
 start-mask-requires-2 : tie.Need-start-mask-requires-2
 start-mask-requires-2 c κs = search needs
@@ -81,7 +81,7 @@ same-length-2 : tie.Need-same-length-2
 same-length-2 c = search needs
 
 returns-2 : tie.Need-returns-2
-returns-2 c = search more-bytes
+returns-2 c = search in-more-bytes
 
 pub copy-line-spec : {M : Type 1} → statement M
 copy-line-spec =
