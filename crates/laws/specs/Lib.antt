@@ -47,3 +47,4 @@ pub mod Codes
 pub mod Glyphs
 pub mod FlushWalk
 pub mod Calls
+pub mod Glasses
