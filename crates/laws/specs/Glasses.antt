@@ -1,4 +1,4 @@
--- The glasses are glasses.
+-- Each glass that there is is one that the calls ask for.
 use mathlib.Core.Path.{refl}
 use native.Mathlib.Omega.{arith}
 use Rattle.model.specs.Geometry.{base}

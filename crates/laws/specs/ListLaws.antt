@@ -23,3 +23,7 @@ getD-replicate (suc n) (suc k) x = getD-replicate n k x
 pub map-replicate : {A B : Type 0} (f : A → B) (n : ℕ) (a : A) → map f (replicate n a) ≡ replicate n (f a)
 map-replicate f zero a = refl
 map-replicate f (suc n) a = ap (λ m. f a ∷ m) (map-replicate f n a)
+
+pub map-same : {A : Type 0} (f : A → A) (l : List A) → ((x : A) → f x ≡ x) → map f l ≡ l
+map-same f [] e = refl
+map-same f (x ∷ l) e = λ i. e x i ∷ map-same f l e i

@@ -10,18 +10,20 @@ use Rattle.model.specs.declared.Rect.{Rect}
 use Rattle.model.specs.declared.Head.{Head}
 use Rattle.model.specs.declared.Canvas.{Canvas}
 use Rattle.model.specs.declared.glass.Glass.{Glass}
-use Rattle.model.specs.Geometry.{Geometry, cells}
+use Rattle.model.specs.Geometry.{Geometry, width, cells}
 use Rattle.model.specs.Glass.{geometry, canvas, Suits}
 use Rattle.model.specs.Memory.{withWindow}
 use Rattle.model.specs.Flags.{bytesOfFlags}
 use Rattle.model.specs.Record.{head, keys, flags, recordBytes, offset, part, Pending, State, decode, encode, bytesOfHead, panelOf, nothingPending, headFits, partFits, withHead, withPanels, withFlags, WellFormed}
 use Rattle.model.specs.Rects.{none, isEmpty, join}
-use Rattle.model.specs.Marks.{whole, owing, updateDirty, marked}
+use Rattle.model.specs.Marks.{whole, owing, withDirty, updateDirty, marked}
 use Rattle.model.specs.Open.{clearHead, clearFlags, resetState}
-use Rattle.laws.specs.ListLaws.{getD-map}
+use Rattle.laws.specs.ListLaws.{getD-map, map-same}
+use Rattle.laws.specs.Rects.{join-none}
+use Rattle.laws.specs.Bands.{joinOwed-none}
 use Rattle.laws.specs.Parts.{part-back}
 use Rattle.laws.specs.Flags.{length-flags, length-no-flags}
-use Rattle.laws.specs.Record.{Sized, Numbers, numbers, part-passes, has-head, has-keys, has-flags, length-part, put-head, put-flags, all-owed, part-in, encode-decode, decode-encode, sized-decode, count-decode}
+use Rattle.laws.specs.Record.{Passing, Sized, Numbers, numbers, part-passes, has-head, has-keys, has-flags, length-part, put-head, put-flags, all-owed, part-in, encode-decode, decode-encode, sized-decode, count-decode}
 use Rattle.laws.specs.States.{well-formed, encode-passing}
 use Rattle.laws.specs.StateTest.{flags-part}
 use Rattle.laws.specs.Panels.{Known, markFrom, marks-all, length-owing}
@@ -83,6 +85,15 @@ marks-head {v} {r} n d o {m} k f i j =
 pub marks-record : {v : Glass} {r : List ℕ} {h : Head} (d o : Rect) {t : List ℕ} → Known v r → h ≡ decode (geometry v) r .head
     → t ≡ encode (geometry v) (marked (geometry v) d o (withHead h (decode (geometry v) r))) → t ≡ encode (geometry v) (marked (geometry v) d o (decode (geometry v) r))
 marks-record {v} {r} d o k e f = let g = geometry v in f ∙ ap (λ (x : Head). encode g (marked g d o (withHead x (decode g r)))) e
+
+-- an empty mark changes nothing
+pub unmarked : (g : Geometry) (r : List ℕ) → Passing g r → encode g (marked g none none (decode g r)) ≡ r
+unfolding marked updateDirty owing
+unmarked g r k =
+    let s = decode g r in
+    let same : (p : Pending) → owing g none p ≡ p = λ p i. record { owed = joinOwed-none (width g) (g .band) 0 (p .owed) i; hand = p .hand; sent = p .sent } in
+    (λ i. encode g (withHead (withDirty (join-none (s .head .dirty) i) (s .head)) (withPanels (map-same (owing g none) (s .panels) same i) s)))
+    ∙ encode-decode g r k
 
 -- ---- other flags
 

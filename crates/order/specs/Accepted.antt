@@ -5,7 +5,7 @@ use Prim.Native.Nat.{ℕ, zero, suc, _+_}
 use native.Mathlib.Omega.{arith}
 use lib.ListN.{length, replicate}
 use Rattle.model.specs.Geometry.{Geometry}
-use Rattle.model.specs.declared.Pending.{Pending}
+use Rattle.model.specs.Record.{Pending}
 use Rattle.model.specs.Refusals.{refusal, ruled}
 use Rattle.model.specs.Calls.{Call, send, Lent, answered, refusals, refused, done, outcome}
 use Rattle.model.specs.Lists.{accepted, Typed, Item, here, elsewhere, after, run, Effect, sends, effect, effectAt, itemEffect, affected, reckoned}

@@ -1,123 +1,103 @@
--- A well-formed state taken apart into its head and what is pending, and put together again.
-use mathlib.Core.Path.{_≡_, refl}
+-- States that stay well formed: with another head, a mark, another panel.
+use mathlib.Core.Path.{_≡_, _∙_}
 use mathlib.Core.Bool.{true}
-use mathlib.Core.List.{List, [], _∷_}
-use Prim.Native.Nat.{ℕ, _+_, _<_}
+use mathlib.Core.List.{map}
+use Prim.Native.Nat.{ℕ, _<_}
+use native.Mathlib.Omega.{arith}
 use lib.Dec.{leb, ltb}
-use lib.ListN.{length}
+use lib.ListN.{length-map, length-set}
+use lib.Seq.{getD-set-same, getD-set-other}
 use Rattle.model.specs.declared.Rect.{Rect}
 use Rattle.model.specs.declared.Head.{Head}
-use Rattle.model.specs.Geometry.{Geometry, width, height, rows, columns, cells}
-use Rattle.model.specs.Rects.{fits}
-use Rattle.model.specs.Record.{State, WellFormed, Words, windows, bandsFit, stateFits, stateTests}
-use Rattle.model.specs.Marks.{updateDirty, owing, marked}
-use Rattle.laws.specs.Tests.{and-true, all-true, true-all}
+use Rattle.model.specs.Geometry.{Geometry, rows, columns}
+use Rattle.model.specs.Record.{Pending, State, panelOf, nothingPending, windows, headTests, headFits, withHead, withPanels, withPanel, WellPending, WellFormed}
+use Rattle.model.specs.Marks.{withDirty, updateDirty, owing, marked}
+use Rattle.model.specs.Text.{withRow, withColumn, withScreenMode, withPrintMode, withCursor, printMode}
+use Rattle.laws.specs.Tests.{AllTrue, all-true, true-all, by-eq}
 use Rattle.laws.specs.Rects.{Fits, fits-passes, passes-fits, join-fits}
-use Rattle.laws.specs.Bands.{BandsFit}
-use Rattle.order.specs.Pending.{Fitting, fitting-owing}
+use Rattle.laws.specs.ListLaws.{getD-map}
+use Rattle.laws.specs.Record.{numbers}
+use Rattle.order.specs.Pending.{well-owing}
 
--- what STATE asks of the head
-pub record HeadFits (g : Geometry) (h : Head) : Type 0 where
-  pub bases : windows g (h .graphics) (h .text) ≡ true
-  pub row : ltb (h .row) (rows g) ≡ true
-  pub column : ltb (h .column) (columns g) ≡ true
-  pub screen : leb (h .screen) 1 ≡ true
-  pub print : leb (h .print) 2 ≡ true
-  pub cursor : leb (h .cursor) 2 ≡ true
-  pub version : leb (h .version) 1 ≡ true
-  pub dirty : fits 256 0 256 (h .dirty) ≡ true
+-- ---- a head that passes STATE passes with another number that does
 
--- the test of all bands passes exactly the lists whose rectangles fit
-bands-in : (w b lo : ℕ) (rs : List Rect) → bandsFit w b lo rs ≡ true → BandsFit w b lo rs
-unfolding bandsFit
-bands-in w b lo [] e = tt
-bands-in w b lo (r ∷ rs) e =
-    let p = and-true (fits w lo (lo + b) r) (bandsFit w b (lo + b) rs) e in
-    (passes-fits w lo (lo + b) r (p .0), bands-in w b (lo + b) rs (p .1))
+module _ (g : Geometry) (h : Head) (e : headFits g h ≡ true) where
+  -- bases, row, column, screen mode, print mode, cursor, version, dirty
+  passed : AllTrue (headTests g h)
+  unfolding headFits
+  passed = all-true (headTests g h) e
 
-bands-out : (w b lo : ℕ) (rs : List Rect) → BandsFit w b lo rs → bandsFit w b lo rs ≡ true
-unfolding bandsFit
-bands-out w b lo [] f = refl
-bands-out w b lo (r ∷ rs) f = rw (fits-passes w lo (lo + b) r (f .0)) (bands-out w b (lo + b) rs (f .1))
+  pub bases-fit : windows g (h .graphics) (h .text) ≡ true
+  bases-fit = passed .0
 
-module _ (g : Geometry) (s : State) where
-  pub head-fits : WellFormed g s → HeadFits g (s .head)
-  unfolding stateFits
-  head-fits w =
-      let a = all-true (stateTests g (s .head) (s .pending)) (w .passes) in
-      record {
-        bases = a .0;
-        row = a .1 .0;
-        column = a .1 .1 .0;
-        screen = a .1 .1 .1 .0;
-        print = a .1 .1 .1 .1 .0;
-        cursor = a .1 .1 .1 .1 .1 .0;
-        version = a .1 .1 .1 .1 .1 .1 .0;
-        dirty = a .1 .1 .1 .1 .1 .1 .1 .0;
-      }
+  pub version-fits : leb (h .version) 1 ≡ true
+  version-fits = passed .1 .1 .1 .1 .1 .1 .0
 
-  pub fitting : WellFormed g s → Fitting g (s .pending)
-  unfolding stateFits
-  fitting w =
-      let a = all-true (stateTests g (s .head) (s .pending)) (w .passes) in
-      record {
-        kept = w .bands;
-        owed = bands-in (width g) (g .band) 0 (s .pending .owed) (a .1 .1 .1 .1 .1 .1 .1 .1 .0);
-        hand = passes-fits (width g) 0 (height g) (s .pending .hand) (a .1 .1 .1 .1 .1 .1 .1 .1 .1 .0);
-      }
+  pub row-fits : (n : ℕ) → ltb n (rows g) ≡ true → headFits g (withRow n h) ≡ true
+  unfolding headFits withRow
+  row-fits n t = let p = passed in true-all (headTests g (withRow n h)) (p .0, (t, p .1 .1))
 
-  pub formed : HeadFits g (s .head) → Fitting g (s .pending) → s .pending .sent < 4294967296 → length (s .keys) ≡ 8 → Words (s .keys)
-      → length (s .flags) ≡ cells g → WellFormed g s
-  unfolding stateFits
-  formed h f c n k l =
-      record {
-        passes =
-            true-all (stateTests g (s .head) (s .pending)) (
-              h .bases,
-              (
-                h .row,
-                (
-                  h .column,
-                  (
-                    h .screen,
-                    (
-                      h .print,
-                      (
-                        h .cursor,
-                        (
-                          h .version,
-                          (
-                            h .dirty,
-                            (bands-out (width g) (g .band) 0 (s .pending .owed) (f .owed), (fits-passes (width g) 0 (height g) (s .pending .hand) (f .hand), tt)),
-                          ),
-                        ),
-                      ),
-                    ),
-                  ),
-                ),
-              ),
-            );
-        bands = f .kept;
-        counted = c;
-        words = n;
-        keys = k;
-        flags = l;
-      }
+  pub column-fits : (n : ℕ) → ltb n (columns g) ≡ true → headFits g (withColumn n h) ≡ true
+  unfolding headFits withColumn
+  column-fits n t = let p = passed in true-all (headTests g (withColumn n h)) (p .0, (p .1 .0, (t, p .1 .1 .1)))
+
+  pub screen-fits : (n : ℕ) → leb n 1 ≡ true → headFits g (withScreenMode n h) ≡ true
+  unfolding headFits withScreenMode
+  screen-fits n t = let p = passed in true-all (headTests g (withScreenMode n h)) (p .0, (p .1 .0, (p .1 .1 .0, (t, p .1 .1 .1 .1))))
+
+  pub print-fits : (n : ℕ) → leb (printMode (h .print) n) 2 ≡ true → headFits g (withPrintMode n h) ≡ true
+  unfolding headFits withPrintMode
+  print-fits n t = let p = passed in true-all (headTests g (withPrintMode n h)) (p .0, (p .1 .0, (p .1 .1 .0, (p .1 .1 .1 .0, (t, p .1 .1 .1 .1 .1)))))
+
+  pub cursor-fits : (n : ℕ) → leb n 2 ≡ true → headFits g (withCursor n h) ≡ true
+  unfolding headFits withCursor
+  cursor-fits n t =
+      let p = passed in
+      true-all (headTests g (withCursor n h)) (p .0, (p .1 .0, (p .1 .1 .0, (p .1 .1 .1 .0, (p .1 .1 .1 .1 .0, (t, p .1 .1 .1 .1 .1 .1))))))
+
+  pub dirty-fits : (q : Rect) → Fits 256 0 256 q → headFits g (withDirty q h) ≡ true
+  unfolding headFits
+  dirty-fits q f =
+      let p = passed in
+      true-all (headTests g (withDirty q h))
+      (p .0, (p .1 .0, (p .1 .1 .0, (p .1 .1 .1 .0, (p .1 .1 .1 .1 .0, (p .1 .1 .1 .1 .1 .0, (p .1 .1 .1 .1 .1 .1 .0, (fits-passes 256 0 256 q f, tt))))))))
+
+-- ---- states
+
+module _ (g : Geometry) (s : State) (w : WellFormed g s) where
+  pub head-formed : (h : Head) → headFits g h ≡ true → WellFormed g (withHead h s)
+  head-formed h e = record { head = e; count = w .count; panels = w .panels; words = w .words; keys = w .keys; flags = w .flags }
+
+  -- a mark reaches each panel
+  pub owing-formed : (m : Rect) → WellFormed g (withPanels (map (owing g m) (s .panels)) s)
+  owing-formed m = record {
+    head = w .head;
+    count = length-map (s .panels) (owing g m) ∙ w .count;
+    panels = λ k h. rw (getD-map (owing g m) (s .panels) k (nothingPending g) (omega (arith, w .count))) (well-owing g m (panelOf g s k) (w .panels k h));
+    words = w .words;
+    keys = w .keys;
+    flags = w .flags;
+  }
+
+  -- another panel k, and no other
+  pub panel-formed : (k : ℕ) (p : Pending) → k < g .panels → WellPending g p → WellFormed g (withPanel k p s)
+  panel-formed k p h f = record {
+    head = w .head;
+    count = length-set (s .panels) k p ∙ w .count;
+    panels = λ i j.
+        by-eq i k
+        (λ e. rw (e, getD-set-same (s .panels) k p (nothingPending g) (omega (arith, w .count))) f)
+        (λ n. rw (getD-set-other (s .panels) k i p (nothingPending g) n) (w .panels i j));
+    words = w .words;
+    keys = w .keys;
+    flags = w .flags;
+  }
 
 -- a state marked: what is joined to dirty fits, and so does the whole
 pub marked-formed : (g : Geometry) (dirty owed : Rect) (s : State) → Fits 256 0 256 dirty → WellFormed g s → WellFormed g (marked g dirty owed s)
-unfolding marked updateDirty owing
+unfolding marked updateDirty
 marked-formed g dirty owed s d w =
-    let h = head-fits g s w in
-    formed g (marked g dirty owed s)
-    (record {
-      bases = h .bases;
-      row = h .row;
-      column = h .column;
-      screen = h .screen;
-      print = h .print;
-      cursor = h .cursor;
-      version = h .version;
-      dirty = fits-passes 256 0 256 _ (join-fits 256 0 256 (s .head .dirty) dirty (passes-fits 256 0 256 (s .head .dirty) (h .dirty)) d);
-    })
-    (fitting-owing g owed (s .pending) (fitting g s w)) (w .counted) (w .words) (w .keys) (w .flags)
+    head-formed g (withPanels (map (owing g owed) (s .panels)) s) (owing-formed g s w owed) (updateDirty dirty (s .head)) (dirty-fits g (s .head) (w .head) _ joined)
+  where
+    joined : Fits 256 0 256 (updateDirty dirty (s .head) .dirty)
+    joined = join-fits 256 0 256 (s .head .dirty) dirty (passes-fits 256 0 256 (s .head .dirty) (numbers g (s .head) (w .head) .dirty)) d

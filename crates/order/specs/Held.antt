@@ -7,12 +7,12 @@ use native.Mathlib.Omega.{arith}
 use lib.Dec.{ltb}
 use lib.ListN.{length, replicate, length-replicate}
 use Rattle.model.specs.declared.Rect.{Rect}
-use Rattle.model.specs.declared.Pending.{Pending}
 use Rattle.model.specs.Geometry.{Geometry, width, height, screenBytes}
 use Rattle.model.specs.Pixels.{bit}
 use Rattle.model.specs.Rects.{none, In, isEmpty, linesOf}
+use Rattle.model.specs.Record.{Pending, nothingPending, WellPending}
 use Rattle.model.specs.Marks.{whole, owing}
-use Rattle.model.specs.Open.{nothingPending, openPending}
+use Rattle.model.specs.Open.{openPending}
 use Rattle.model.specs.Sends.{takeOwed, nextLine, lineSent, sendPending, copyLine, sendPanel}
 use Rattle.model.specs.Lists.{Effect, nothing, marks, opens, sends, affected, InAny, Differs, owedLines, linesLeft, differs, differing}
 use Rattle.laws.specs.Tests.{tests, if-cases, by-test, by-eq, by-lt, clash, either}
@@ -21,7 +21,7 @@ use Rattle.laws.specs.Rects.{Proper, decIn, in-not-none, not-in-none}
 use Rattle.laws.specs.Bands.{joinOwed-keeps, joinOwed-marks, in-split}
 use Rattle.laws.specs.Marks.{AgreeOutside}
 use Rattle.laws.specs.Counts.{none-differ}
-use Rattle.order.specs.Pending.{Fitting, fitting-owing, fitting-open, fitting-send, low-send, to-send}
+use Rattle.order.specs.Pending.{well-owing, well-open, well-send, low-send, to-send}
 use Rattle.order.specs.PanelState.{PanelState, Follows}
 
 -- every pixel that differs lies in hand or is owed
@@ -31,18 +31,18 @@ Covered g s p q = (x y : ℕ) → x < width g → y < height g → Differs g s p
 -- between calls a line of the band in hand has been sent, so its height is at most that of a band less one
 pub record Held (g : Geometry) (s : PanelState) : Type 0 where
   pub long : length (s .panel) ≡ screenBytes g
-  pub fitting : Fitting g (s .pending)
+  pub well : WellPending g (s .pending)
   pub low : linesOf (s .pending .hand) ≤ g .band - 1
   pub covered : Covered g (s .screen) (s .panel) (s .pending)
 
 -- ---- a mark: what changes lies in it
 
-covered-owing : (g : Geometry) (m : Rect) (s t p : List ℕ) (q : Pending) → Fitting g q → AgreeOutside (g .stride) (height g) m s t → Covered g s p q
+covered-owing : (g : Geometry) (m : Rect) (s t p : List ℕ) (q : Pending) → WellPending g q → AgreeOutside (g .stride) (height g) m s t → Covered g s p q
     → Covered g t p (owing g m q)
 unfolding owing
 covered-owing g m s t p q f a c x y hx hy d =
     either (decIn m x y)
-    (λ i. inr (joinOwed-marks (width g) (g .band) 0 m (q .owed) x y hx (omega arith) (rw (f .kept) (omega arith)) i))
+    (λ i. inr (joinOwed-marks (width g) (g .band) 0 m (q .owed) x y hx (omega arith) (rw (f .bands) (omega arith)) i))
     (λ n. either (c x y hx hy (λ e. d (a x y hx hy n ∙ e))) inl (λ i. inr (joinOwed-keeps (width g) (g .band) 0 m (q .owed) x y i)))
 
 -- nothing changes: the same pixels differ
@@ -110,7 +110,7 @@ covered-line g s p q l w c x y hx hy d =
     let k = line-differs g (q .hand) w s p l x y hx d in
     either (c x y hx hy (k .0)) (λ i. inl (next-in (q .hand) x y i (k .1 i))) inr
 
-covered-send : (g : Geometry) (s p : List ℕ) (q : Pending) → length p ≡ screenBytes g → Fitting g q → Covered g s p q
+covered-send : (g : Geometry) (s p : List ℕ) (q : Pending) → length p ≡ screenBytes g → WellPending g q → Covered g s p q
     → Covered g s (sendPanel (g .stride) q s p) (sendPending q)
 unfolding sendPanel sendPending
 covered-send g s p q l f c =
@@ -132,7 +132,7 @@ unfolding affected
 held-nothing g s t h f =
     record {
       long = ap length (f .panel) ∙ h .long;
-      fitting = rw (f .pending) (h .fitting);
+      well = rw (f .pending) (h .well);
       low = rw (f .pending) (h .low);
       covered = rw (f .panel, f .pending) (covered-same g (s .screen) (t .screen) (s .panel) (s .pending) (f .screen) (h .covered));
     }
@@ -142,9 +142,9 @@ unfolding affected owing
 held-marks g m s t h f =
     record {
       long = ap length (f .panel) ∙ h .long;
-      fitting = rw (f .pending) (fitting-owing g m (s .pending) (h .fitting));
+      well = rw (f .pending) (well-owing g m (s .pending) (h .well));
       low = rw (f .pending) (h .low);
-      covered = rw (f .panel, f .pending) (covered-owing g m (s .screen) (t .screen) (s .panel) (s .pending) (h .fitting) (f .screen) (h .covered));
+      covered = rw (f .panel, f .pending) (covered-owing g m (s .screen) (t .screen) (s .panel) (s .pending) (h .well) (f .screen) (h .covered));
     }
 
 -- an opening needs nothing of what stood before but the panel's length
@@ -153,7 +153,7 @@ unfolding openPending owing nothingPending
 held-open g t l e =
     record {
       long = l;
-      fitting = rw e (fitting-open g);
+      well = rw e (well-open g);
       low = rw e (omega arith);
       covered = rw e (covered-open g (t .screen) (t .panel));
     }
@@ -163,12 +163,12 @@ unfolding affected
 held-sends g s t h f =
     record {
       long = ap length (f .panel) ∙ length-send (g .stride) (s .screen) (s .panel) (s .pending) ∙ h .long;
-      fitting = rw (f .pending) (fitting-send g (s .pending) (h .fitting));
-      low = rw (f .pending) (low-send g (s .pending) (h .fitting) (h .low));
+      well = rw (f .pending) (well-send g (s .pending) (h .well));
+      low = rw (f .pending) (low-send g (s .pending) (h .well) (h .low));
       covered =
           rw (f .panel, f .pending)
           (covered-same g (s .screen) (t .screen) (sendPanel (g .stride) (s .pending) (s .screen) (s .panel)) (sendPending (s .pending)) (f .screen)
-          (covered-send g (s .screen) (s .panel) (s .pending) (h .long) (h .fitting) (h .covered)));
+          (covered-send g (s .screen) (s .panel) (s .pending) (h .long) (h .well) (h .covered)));
     }
 
 pub held-after : (g : Geometry) (s : PanelState) (e : Effect) (t : PanelState) → Held g s → Follows g s e t → Held g t

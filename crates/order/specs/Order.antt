@@ -7,56 +7,59 @@ use Prim.Native.Nat.{ℕ, zero, suc, _+_, _-_, _≤_}
 use native.Mathlib.Omega.{arith}
 use lib.ListN.{length, replicate}
 use borrow.Author.Tests.{eq-eqb}
-use Rattle.model.specs.declared.Pending.{Pending}
 use Rattle.model.specs.Geometry.{Geometry, height, screenBytes, memoryBytes}
-use Rattle.model.specs.Record.{decode, recordBytes}
+use Rattle.model.specs.Glass.{IsGlass}
+use Rattle.model.specs.Record.{Pending, decode, panelOf, nothingPending}
 use Rattle.model.specs.Refusals.{ruled}
-use Rattle.model.specs.Open.{nothingPending}
 use Rattle.model.specs.Sends.{sendNumbers}
-use Rattle.model.specs.Calls.{Call, opening, send, Lent, answered, refusals, done, outcome}
+use Rattle.model.specs.Calls.{Call, opening, send, Lent, answered, done, outcome}
 use Rattle.model.specs.Lists.{accepted, Typed, Item, here, after, run, opens, effect, itemEffect, affected, reckoned, linesLeft, differing}
-use Rattle.laws.specs.Calls.{pass-accepted}
+use Rattle.laws.specs.Calls.{call-accepted}
 use Rattle.order.specs.Pending.{idle-iff, lines-bound}
 use Rattle.order.specs.Held.{Held, held-open, none-left}
 use Rattle.order.specs.Sim.{good-all, held-all, pending-all, lines-all}
-use Rattle.order.specs.Step.{Glass, Good, Step, view}
+use Rattle.order.specs.Step.{Lendable, Step, view}
 use Rattle.order.specs.EachCall.{opening-step, simulates}
 use Rattle.order.specs.Accepted.{acceptedCall, acceptedCalls, leftBy, left-run, run-all, reckoned-all, only-sends, after-accepted, effect-accepted}
 
+-- what panel 0 has still to be sent, where a send goes
+abbrev pub pendingIn : Geometry → Lent → Pending
+pendingIn g l = panelOf g (decode g (l .rec)) 0
+
 -- what holds of the lent bytes between calls
 pub record Standing (g : Geometry) (l : Lent) : Type 0 where
-  pub good : Good g l
-  pub held : Held g (view g l)
+  pub lendable : Lendable g l
+  pub held : Held g (view g 0 l)
 
-module _ (g : Geometry) (k : Glass g) where
+module _ (g : Geometry) where
   -- ---- after every list
 
   pub standing-run : (l : Lent) (is : List (Item g)) → Standing g l → Standing g (run g l is)
   standing-run l is s =
       rw (run-all g l is)
       (record {
-        good = good-all g (Good g) (after g) (view g) (itemEffect g) (simulates g k) l is (s .good);
-        held = held-all g (Good g) (after g) (view g) (itemEffect g) (simulates g k) l is (s .good) (s .held);
+        lendable = good-all g (Lendable g) (after g) (view g 0) (itemEffect g) (simulates g) l is (s .lendable);
+        held = held-all g (Lendable g) (after g) (view g 0) (itemEffect g) (simulates g) l is (s .lendable) (s .held);
       })
 
-  pub pending-run : (l : Lent) (is : List (Item g)) → Standing g l → decode g (run g l is .rec) .pending ≡ reckoned g (decode g (l .rec) .pending) l is
+  pub pending-run : (l : Lent) (is : List (Item g)) → Standing g l → pendingIn g (run g l is) ≡ reckoned g (pendingIn g l) l is
   pending-run l is s =
-      ap (λ (m : Lent). decode g (m .rec) .pending) (run-all g l is)
-      ∙ pending-all g (Good g) (after g) (view g) (itemEffect g) (simulates g k) l is (s .good)
-      ∙ sym (reckoned-all g (decode g (l .rec) .pending) l is)
+      ap (pendingIn g) (run-all g l is)
+      ∙ pending-all g (Lendable g) (after g) (view g 0) (itemEffect g) (simulates g) l is (s .lendable)
+      ∙ sym (reckoned-all g (pendingIn g l) l is)
 
   -- ---- after the opening, lent any record, any memory and a panel
 
-  module _ (graphics text version : ℕ) (keys : List ℕ) (t : Typed (opening graphics text version keys)) (l : Lent) (a : accepted g (opening graphics text version keys) l) (p : length (l .panel) ≡ screenBytes g) where
-    first : Step g l opens (after g l (here (opening graphics text version keys) t))
-    first = rw (after-accepted g (opening graphics text version keys) t l a) (opening-step g k graphics text version keys l t a p)
+  module _ (z : IsGlass g) (graphics text version : ℕ) (keys : List ℕ) (t : Typed (opening graphics text version keys)) (l : Lent) (a : accepted g (opening graphics text version keys) l) (p : length (l .panel) ≡ screenBytes g) where
+    first : Step g 0 l opens (after g l (here (opening graphics text version keys) t))
+    first = rw (after-accepted g (opening graphics text version keys) t l a) (opening-step g z graphics text version keys l t a p)
 
     pub standing-open : Standing g (after g l (here (opening graphics text version keys) t))
     unfolding affected
-    standing-open = record { good = first .good; held = held-open g (view g (after g l (here (opening graphics text version keys) t))) (first .good .panel) (first .follows .pending) }
+    standing-open = record { lendable = first .lendable; held = held-open g (view g 0 (after g l (here (opening graphics text version keys) t))) (first .lendable .panel) (first .follows .pending) }
 
     -- owed and in hand are empty at first; the opening is the first item of the list
-    pub pending-open : (is : List (Item g)) → decode g (run g l (here (opening graphics text version keys) t ∷ is) .rec) .pending
+    pub pending-open : (is : List (Item g)) → pendingIn g (run g l (here (opening graphics text version keys) t ∷ is))
         ≡ reckoned g (nothingPending g) l (here (opening graphics text version keys) t ∷ is)
     unfolding run reckoned affected effect
     pending-open is =
@@ -70,27 +73,27 @@ module _ (g : Geometry) (k : Glass g) where
   module _ (l : Lent) (s : Standing g l) where
     -- a send is accepted
     pub sendable : accepted g send l
-    unfolding refusals
-    sendable = pass-accepted (refusals g send l) (
-      (λ i. eq-eqb (length (l .rec)) (recordBytes g) (s .good .passing .sized) i
-          && (eq-eqb (length (l .memory)) memoryBytes (s .good .memory) i && eq-eqb (length (l .panel)) (screenBytes g) (s .good .panel) i)),
-      (s .good .passing .passes, tt),
-    )
+    sendable = call-accepted g send l (record {
+      sized = s .lendable .passing .sized;
+      lengths = λ i. eq-eqb (length (l .memory)) memoryBytes (s .lendable .memory) i && eq-eqb (length (l .panel)) (screenBytes g) (s .lendable .panel) i;
+      state = (s .lendable .passing .passes, tt);
+      own = tt;
+    })
 
     pub send-code : outcome g send l .code ≡ 0
     unfolding outcome ruled done answered
     send-code = rw sendable
 
-    pub send-numbers : outcome g send l .numbers ≡ sendNumbers (decode g (l .rec) .pending)
+    pub send-numbers : outcome g send l .numbers ≡ sendNumbers (pendingIn g l)
     unfolding outcome ruled done answered
     send-numbers = rw sendable
 
-    pub bound : linesLeft (decode g (l .rec) .pending) ≤ (g .band - 1) + height g
-    bound = lines-bound g (decode g (l .rec) .pending) (s .held .fitting) (s .held .low)
+    pub bound : linesLeft (pendingIn g l) ≤ (g .band - 1) + height g
+    bound = lines-bound g (pendingIn g l) (s .held .well) (s .held .low)
 
     -- and answers four zeros exactly where no line is left
-    pub idle-lines : (outcome g send l .numbers ≡ 0 ∷ 0 ∷ 0 ∷ 0 ∷ []) ↔ (linesLeft (decode g (l .rec) .pending) ≡ 0)
-    idle-lines = rw send-numbers (idle-iff g (decode g (l .rec) .pending) (s .held .fitting))
+    pub idle-lines : (outcome g send l .numbers ≡ 0 ∷ 0 ∷ 0 ∷ 0 ∷ []) ↔ (linesLeft (pendingIn g l) ≡ 0)
+    idle-lines = rw send-numbers (idle-iff g (pendingIn g l) (s .held .well))
 
   -- ---- a further list whose accepted calls are sends
 
@@ -106,13 +109,13 @@ module _ (g : Geometry) (k : Glass g) where
   none-more l more e = left-run g l more ∙ ap (leftBy g l) e
 
   module _ (l : Lent) (s : Standing g l) (more : List (Item g)) (n : ℕ) (e : acceptedCalls g l more ≡ replicate n send) where
-    pub lines-more : linesLeft (decode g (run g l more .rec) .pending) ≡ linesLeft (decode g (l .rec) .pending) - n
+    pub lines-more : linesLeft (pendingIn g (run g l more)) ≡ linesLeft (pendingIn g l) - n
     lines-more =
         let q = only-sends g l more n e in
-        ap (λ (m : Lent). linesLeft (decode g (m .rec) .pending)) (run-all g l more)
-        ∙ lines-all g (Good g) (after g) (view g) (itemEffect g) (simulates g k) l more (s .good) (s .held) (q .quiet)
-        ∙ ap (λ (c : ℕ). linesLeft (decode g (l .rec) .pending) - c) (q .counted)
+        ap (λ (m : Lent). linesLeft (pendingIn g m)) (run-all g l more)
+        ∙ lines-all g (Lendable g) (after g) (view g 0) (itemEffect g) (simulates g) l more (s .lendable) (s .held) (q .quiet)
+        ∙ ap (λ (c : ℕ). linesLeft (pendingIn g l) - c) (q .counted)
 
-    pub level : linesLeft (decode g (l .rec) .pending) ≤ n → differing g (view g (run g l more) .screen) (view g (run g l more) .panel) ≡ 0
+    pub level : linesLeft (pendingIn g l) ≤ n → differing g (view g 0 (run g l more) .screen) (view g 0 (run g l more) .panel) ≡ 0
     level h =
-        none-left g (view g (run g l more)) (standing-run l more s .held) (omega (arith, lines-more))
+        none-left g (view g 0 (run g l more)) (standing-run l more s .held) (omega (arith, lines-more))

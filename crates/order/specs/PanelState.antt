@@ -3,7 +3,7 @@ use mathlib.Core.Path.{_≡_}
 use mathlib.Core.List.{List}
 use Prim.Native.Nat.{ℕ}
 use Rattle.model.specs.declared.Rect.{Rect}
-use Rattle.model.specs.declared.Pending.{Pending}
+use Rattle.model.specs.Record.{Pending}
 use Rattle.model.specs.Geometry.{Geometry, height}
 use Rattle.model.specs.Rects.{none}
 use Rattle.model.specs.Marks.{whole}

@@ -9,9 +9,10 @@ use lib.Dec.{leb, ltb}
 use lib.ListN.{length, length-set}
 use borrow.Author.Tests.{leb-true, leb-false, ltb-true, ltb-false}
 use Rattle.model.specs.Geometry.{Geometry, height, screenBytes}
+use Rattle.model.specs.Glass.{IsGlass}
 use Rattle.model.specs.Memory.{screenOf}
-use Rattle.model.specs.Record.{decode, encode}
-use Rattle.model.specs.Marks.{updateDirty, marked}
+use Rattle.model.specs.Record.{encode}
+use Rattle.model.specs.Marks.{marked}
 use Rattle.model.specs.Poke.{ignored, poked, byteRect, inScreen, pokeMark}
 use Rattle.model.specs.Calls.{Lent, lent}
 use Rattle.model.specs.Lists.{marks}
@@ -19,8 +20,7 @@ use Rattle.laws.specs.Tests.{tests, if-cases, by-test, and-true, and-false, eit
 use Rattle.laws.specs.Rects.{Fits}
 use Rattle.laws.specs.Memory.{window-set-in, window-set-out}
 use Rattle.laws.specs.Marks.{AgreeOutside, poke-agrees}
-use Rattle.order.specs.Formed.{marked-formed}
-use Rattle.order.specs.Step.{Glass, Good, Step, known, marks-step}
+use Rattle.order.specs.Step.{Lendable, Step, old, known, rewritten-step}
 
 length-poked : (keys : List ℕ) (a v : ℕ) (m : List ℕ) → length (poked keys a v m) ≡ length m
 unfolding poked
@@ -41,29 +41,25 @@ poked-agrees g keys graphics a v m =
     rw (i, e, window-set-out graphics (screenBytes g) m a v o) (λ x y hx hy n. refl)))
 
 -- the pixels of a byte of the screen lie on it
-byte-fits : (g : Geometry) → Glass g → (i : ℕ) → i < screenBytes g → Fits 256 0 256 (byteRect (g .stride) i)
-byte-fits g k i h =
-    let column : i % g .stride < g .stride = mod-lt i (k .stride) in
-    let line : i / g .stride < height g = div-lt-iff-lt-mul (k .stride) .1 (rw (mul-comm (height g) (g .stride)) h) in
-    inr (omega (arith, k .small))
+byte-fits : (g : Geometry) → IsGlass g → (i : ℕ) → i < screenBytes g → Fits 256 0 256 (byteRect (g .stride) i)
+byte-fits g z i h =
+    let column : i % g .stride < g .stride = mod-lt i (omega (arith, z .columns)) in
+    let line : i / g .stride < height g = div-lt-iff-lt-mul {k = g .stride} (omega (arith, z .columns)) .1 (rw (mul-comm (height g) (g .stride)) h) in
+    inr (omega (arith, z .cursor, z .high))
 
-mark-fits : (g : Geometry) → Glass g → (keys : List ℕ) (graphics a : ℕ) → Fits 256 0 256 (pokeMark g keys graphics a)
+mark-fits : (g : Geometry) → IsGlass g → (keys : List ℕ) (graphics a : ℕ) → Fits 256 0 256 (pokeMark g keys graphics a)
 unfolding pokeMark inScreen
-mark-fits g k keys graphics a =
+mark-fits g z keys graphics a =
     if-cases (Fits 256 0 256) (ignored keys a) (λ i. inl refl)
     (λ i. if-cases (Fits 256 0 256) (inScreen g graphics a)
-    (λ e. let p = and-true (leb graphics a) (ltb a (graphics + screenBytes g)) e in byte-fits g k (a - graphics) (omega (arith, tests)))
+    (λ e. let p = and-true (leb graphics a) (ltb a (graphics + screenBytes g)) e in byte-fits g z (a - graphics) (omega (arith, tests)))
     (λ e. inl refl))
 
-module _ (g : Geometry) (k : Glass g) where
-  pub poke-step : (a v : ℕ) (l : Lent) → Good g l
-      → Step g l (marks (pokeMark g (decode g (l .rec) .keys) (decode g (l .rec) .head .graphics) a))
-      (lent (encode (marked g (pokeMark g (decode g (l .rec) .keys) (decode g (l .rec) .head .graphics) a) (pokeMark g (decode g (l .rec) .keys) (decode g (l .rec) .head .graphics) a) (decode g (l .rec))))
-      (poked (decode g (l .rec) .keys) a v (l .memory)) (l .panel))
-  unfolding marked updateDirty
-  poke-step a v l q =
-      let s = decode g (l .rec) in
-      let m = pokeMark g (s .keys) (s .head .graphics) a in
-      marks-step g k l q (marked g m m s) (poked (s .keys) a v (l .memory))
-      (marked-formed g m m s (mark-fits g k (s .keys) (s .head .graphics) a) (known g k l q))
-      (length-poked (s .keys) a v (l .memory) ∙ q .memory) refl m refl (poked-agrees g (s .keys) (s .head .graphics) a v (l .memory))
+pub poke-step : (g : Geometry) (k : ℕ) → k < g .panels → (a v : ℕ) (l : Lent) → Lendable g l
+    → let m = pokeMark g (old g l .keys) (old g l .head .graphics) a in
+    Step g k l (marks m) (lent (encode g (marked g m m (old g l))) (poked (old g l .keys) a v (l .memory)) (l .panel))
+poke-step g k there a v l q =
+    let s = old g l in
+    let m = pokeMark g (s .keys) (s .head .graphics) a in
+    rewritten-step g k there l q m m s (poked (s .keys) a v (l .memory)) (known g l q) (length-poked (s .keys) a v (l .memory) ∙ q .memory) refl refl
+    (mark-fits g (q .passing .glass) (s .keys) (s .head .graphics) a) (poked-agrees g (s .keys) (s .head .graphics) a v (l .memory))

@@ -3,7 +3,7 @@ use mathlib.Core.Path.{_≡_, refl, ap, _∙_}
 use mathlib.Core.List.{List, [], _∷_}
 use Prim.Native.Nat.{ℕ, _+_, _-_}
 use native.Mathlib.Omega.{arith}
-use Rattle.model.specs.declared.Pending.{Pending}
+use Rattle.model.specs.Record.{Pending}
 use Rattle.model.specs.Geometry.{Geometry}
 use Rattle.model.specs.Lists.{Effect, nothing, marks, opens, sends, affected, linesLeft}
 use Rattle.order.specs.Pending.{lines-send}
@@ -52,7 +52,7 @@ unfolding affected sendsOf
 lines-quiet g s nothing t h f q = omega (arith, ap linesLeft (f .pending))
 lines-quiet g s (marks m) t h f q = absurd q
 lines-quiet g s opens t h f q = absurd q
-lines-quiet g s sends t h f q = ap linesLeft (f .pending) ∙ lines-send g (s .pending) (h .fitting)
+lines-quiet g s sends t h f q = ap linesLeft (f .pending) ∙ lines-send g (s .pending) (h .well)
 
 module _ (g : Geometry) {S C : Type 0} (Good : S → Type 0) (next : S → C → S) (view : S → PanelState) (effect : S → C → Effect) (m : Simulates g Good next view effect) where
   pub good-all : (σ : S) (cs : List C) → Good σ → Good (runAll next σ cs)

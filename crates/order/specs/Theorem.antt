@@ -1,6 +1,6 @@
 -- Calls in any order: what is promised of the record, memory and panel bytes after an accepted open and every list of calls.
--- Call and outcome stand in crates/model/specs/Calls.antt; Item, run, reckoned, linesLeft, InAny, Differs and differing in Lists.antt there; acceptedCalls and
--- leftBy in Accepted.antt here; takes, lentTo and answeredBack in Parts.antt. docs/THEOREM.md says it in words.
+-- Call, takes and outcome stand in crates/model/specs/Calls.antt; Item, run, reckoned, linesLeft, InAny, Differs and differing in Lists.antt there; acceptedCalls and
+-- leftBy in Accepted.antt here; lentTo and answeredBack in Parts.antt. docs/THEOREM.md says it in words.
 use mathlib.Core.Path.{_≡_, refl, _∙_}
 use mathlib.Core.Logic.{_⊎_, _↔_}
 use mathlib.Core.Bool.{true}
@@ -8,22 +8,20 @@ use mathlib.Core.List.{List, [], _∷_}
 use Prim.Native.Nat.{ℕ, _-_, _≤_, _<_}
 use native.Mathlib.Omega.{arith}
 use lib.ListN.{length, replicate}
-use Rattle.model.specs.declared.Pending.{Pending}
 use Rattle.model.specs.Geometry.{base}
 use Rattle.model.specs.Memory.{screenOf}
 use Rattle.model.specs.Rects.{In}
-use Rattle.model.specs.Record.{decode, valid}
-use Rattle.model.specs.Open.{nothingPending}
-use Rattle.model.specs.Calls.{Call, opening, send, Lent, lent, outcome}
+use Rattle.model.specs.Record.{Pending, nothingPending, panelOf, decode, total, valid}
+use Rattle.model.specs.Calls.{Call, opening, send, Lent, lent, takes, outcome}
 use Rattle.model.specs.Lists.{accepted, Typed, Item, here, run, reckoned, linesLeft, InAny, Differs, differing}
-use Rattle.order.specs.Step.{base-glass}
+use Rattle.laws.specs.Glasses.{base-glass}
 use Rattle.order.specs.Accepted.{acceptedCalls, leftBy, left-run}
-use Rattle.order.specs.Parts.{takes, lentTo, answeredBack, outcome-parts}
+use Rattle.order.specs.Parts.{lentTo, answeredBack, outcome-parts}
 use Rattle.order.specs.Order.{Standing, standing-run, standing-open, pending-open, sendable, send-code, bound, idle-lines, none-more, lines-more, level, row-of-sends}
 
 -- owed, in hand and lines sent as the record has them; L; the screen
 abbrev pub pendingIn : Lent → Pending
-pendingIn l = decode base (l .rec) .pending
+pendingIn l = panelOf base (decode base (l .rec)) 0
 
 abbrev pub linesIn : Lent → ℕ
 linesIn l = linesLeft (pendingIn l)
@@ -62,23 +60,24 @@ pub record Promised (start : Lent) (items : List (Item base)) (l : Lent) : Type 
 
 promised : (start : Lent) (items : List (Item base)) (l : Lent) → l ≡ run base start items → pendingIn l ≡ reckoned base (nothingPending base) start items
     → Standing base l → Promised start items l
+unfolding total
 promised start items l e p s =
     record {
-      record-length = s .good .passing .sized;
-      memory-length = s .good .memory;
-      panel-length = s .good .panel;
-      passes = s .good .passing .passes;
-      sendable = sendable base base-glass l s;
+      record-length = s .lendable .passing .sized;
+      memory-length = s .lendable .memory;
+      panel-length = s .lendable .panel;
+      passes = s .lendable .passing .passes;
+      sendable = sendable base l s;
       pending = p;
       left-by = e ∙ left-run base start items;
-      bound = omega (arith, bound base base-glass l s);
+      bound = omega (arith, bound base l s);
       places = s .held .covered;
       idle = λ more n.
-          let i = idle-lines base base-glass l s in
-          rw (none-more base base-glass l more n) (send-code base base-glass l s, (λ e. omega (arith, i .0 e), λ z. i .1 (omega arith)));
-      lines = lines-more base base-glass l s;
-      level = λ more n e h. level base base-glass l s more n e (omega arith);
-      level-row = level base base-glass l s (replicate (linesIn l) (here send tt)) (linesIn l) (row-of-sends base base-glass l s (linesIn l)) (omega arith);
+          let i = idle-lines base l s in
+          rw (none-more base l more n) (send-code base l s, (λ e. omega (arith, i .0 e), λ z. i .1 (omega arith)));
+      lines = lines-more base l s;
+      level = λ more n e h. level base l s more n e (omega arith);
+      level-row = level base l s (replicate (linesIn l) (here send tt)) (linesIn l) (row-of-sends base l s (linesIn l)) (omega arith);
     }
 
 -- the theorem: an accepted open, lent any record r, any memory m and a panel p of any bytes, and then every list of items
@@ -90,7 +89,7 @@ calls-in-any-order graphics text version keys t r m p a n items =
     let list = here (opening graphics text version keys) t ∷ items in
     promised (lent r m p) list (run base (lent r m p) list) refl
     (pending-open base base-glass graphics text version keys t (lent r m p) a n items)
-    (standing-run base base-glass _ items (standing-open base base-glass graphics text version keys t (lent r m p) a n))
+    (standing-run base _ items (standing-open base base-glass graphics text version keys t (lent r m p) a n))
 
 -- A list gives each call all three buffers. A call that is lent only those that it takes answers the same and leaves the same in them, and the others stay.
 pub lent-parts : (c : Call) (l : Lent) → outcome base c l ≡ answeredBack (takes c) l (outcome base c (lentTo (takes c) l))
