@@ -78,9 +78,9 @@ length-no-flags n = length-replicate n false
 
 -- ---- one read
 
-pub flag-read : (c : List ℕ) (i : ℕ) → eqb (getD c i 0) 1 ≡ flagAt (flagsIn (length c) c) i
+pub flag-read : (n : ℕ) (c : List ℕ) (i : ℕ) → length c ≡ flagBytes n → eqb (getD c i 0) 1 ≡ flagAt (flagsIn n c) i
 unfolding flagsIn
-flag-read c i = sym (List·getD-map flagOf c i 0) ∙ ap (λ (l : List ℕ). flagAt (map flagOf l) i) (sym (take-all (length c) c (omega arith)))
+flag-read n c i e = sym (List·getD-map flagOf c i 0) ∙ ap (λ (l : List ℕ). flagAt (map flagOf l) i) (sym (take-all n c (omega arith)))
 
 pub flag-past : (n : ℕ) (c : List ℕ) (i : ℕ) → length c ≡ flagBytes n → n ≤ i → false ≡ flagAt (flagsIn n c) i
 flag-past n c i e h = sym (List·getD-eq-default (flagsIn n c) false (rw (length-flagsIn n c e) h))
