@@ -21,11 +21,15 @@ pub record Sheet (rows columns n : ℕ) (p : Page) : Type 0 where
   pub row : p .row < rows
   pub room : p .column + n ≤ columns
 
-pub length-until : (n i : ℕ) (t : List ℕ) → length (clearUntil n i t) ≡ length t
+length-until : (n i : ℕ) (t : List ℕ) → length (clearUntil n i t) ≡ length t
 unfolding clearUntil
 length-until zero i t = refl
 length-until (suc n) i t =
     if-cases (λ (l : List ℕ). length l ≡ length t) (eqb (getD t i 0) 0) (λ e. refl) (λ e. length-until n (suc i) (set t i 0) ∙ length-set t i 0)
+
+pub length-clear : (i : ℕ) (t : List ℕ) → length (clearFrom i t) ≡ length t
+unfolding clearFrom
+length-clear i t = length-until (length t - suc i) (suc i) (set t i 0) ∙ length-set t i 0
 
 module _ (rows columns : ℕ) where
   row-in : (r : ℕ) → r < rows → columns ≤ rows * columns
@@ -125,14 +129,13 @@ module _ (rows columns : ℕ) where
         (λ e. bytes-sheet (c ∷ bs) (printByte rows columns v b p) (byte-sheet b p s))
 
     pub print-sheet : (bs : List ℕ) (p : Page) → Sheet rows columns 1 p → Sheet rows columns 1 (printOn rows columns v bs p)
-    unfolding printOn clearAfter clearFrom
+    unfolding printOn clearAfter
     print-sheet bs p s =
         let q = printBytes rows columns v bs p in
         let k = bytes-sheet bs p s in
         record {
           wide = k .wide;
-          text = length-until (length (q .text) - suc (cellOf columns q)) (suc (cellOf columns q)) (set (q .text) (cellOf columns q) 0)
-              ∙ length-set (q .text) (cellOf columns q) 0 ∙ k .text;
+          text = length-clear (cellOf columns q) (q .text) ∙ k .text;
           flags = k .flags;
           row = k .row;
           room = k .room;

@@ -8,17 +8,14 @@ use native.Mathlib.Omega.{arith}
 use lib.Dec.{leb, ltb}
 use lib.ListN.{length, getD, set, drop, length-set, List·getD-eq-default}
 use borrow.Author.Tests.{leb-true, ltb-true, eq-eqb, ne-eqb}
-use Rattle.model.specs.declared.Rect.{Rect}
-use Rattle.model.specs.Geometry.{base}
-use Rattle.model.specs.Rects.{none}
-use Rattle.model.specs.Marks.{whole}
-use Rattle.model.specs.Print.{screenScrolls, scrollMark, Page, printByte, printPair, printBytes, scrolled, scrolledTimes, clearUntil, clearFrom, clearAfter, printOn}
+use Rattle.model.specs.Flags.{flagsIn}
+use Rattle.model.specs.Print.{screenScrolls, Page, printByte, printPair, printBytes, scrolled, scrolledTimes, clearUntil, clearFrom, clearAfter, printOn}
 use Rattle.laws.specs.Tests.{and-true}
 use Rattle.laws.specs.Scrolls.{times-most}
-use Rattle.laws.specs.Pages.{byte-sheet, pair-sheet, bytes-sheet}
+use Rattle.laws.specs.Pages.{length-clear, byte-sheet, pair-sheet, bytes-sheet}
 use Rattle.laws.specs.Prints.{byte-turn, pair-turn, bytes-end, isSet, until-start, until-end}
 use Rattle.text.specs.declared.page.Place.{Place}
-use Rattle.text.specs.declared.print.Step.{Step}
+use Rattle.text.specs.declared.print.Turn.{Turn}
 use Rattle.text.specs.Written.{page, Ready, Written}
 use Rattle.text.specs.Printed.{Printed}
 use Rattle.text.proofs.Writing.{has-cell}
@@ -39,7 +36,7 @@ module _ (rows columns : ℕ) (t f : List ℕ) (p : Place) (bs : List ℕ) (i : 
       let h = leads (getD bs i 0) (i + 1) (length bs) e in
       let l = next-in (getD bs i 0) (i + 1) (length bs) e in
       record {
-        ready = record { sheet = rw (w .page) (pair-sheet rows columns v (getD bs i 0) (getD bs (i + 1) 0) (page t f p) h (r .sheet)); fit = w .fit };
+        ready = record { sheet = rw (w .page) (pair-sheet rows columns v (getD bs i 0) (getD bs (i + 1) 0) (page t f p) h (r .sheet)); flags = w .flags };
         more = omega arith;
         within = omega arith;
         scrolls = w .scrolls;
@@ -50,7 +47,7 @@ module _ (rows columns : ℕ) (t f : List ℕ) (p : Place) (bs : List ℕ) (i : 
       → Written (printByte rows columns v (getD bs i 0) (page t f p)) (p .scrolls + 2) s g q
       → Printed rows columns v bs i t f p s g (record { place = q; at = i + 1 })
   byte-taken r l e w = record {
-    ready = record { sheet = rw (w .page) (byte-sheet rows columns v (getD bs i 0) (page t f p) (r .sheet)); fit = w .fit };
+    ready = record { sheet = rw (w .page) (byte-sheet rows columns v (getD bs i 0) (page t f p) (r .sheet)); flags = w .flags };
     more = omega arith;
     within = omega arith;
     scrolls = w .scrolls;
@@ -58,7 +55,7 @@ module _ (rows columns : ℕ) (t f : List ℕ) (p : Place) (bs : List ℕ) (i : 
   }
 
 -- what is left prints the same
-pub same-rest : (rows columns : ℕ) (v : Bool) (bs : List ℕ) (i : ℕ) (t f s g : List ℕ) (p : Place) (e : Step) {q : Page} → Printed rows columns v bs i t f p s g e
+pub same-rest : (rows columns : ℕ) (v : Bool) (bs : List ℕ) (i : ℕ) (t f s g : List ℕ) (p : Place) (e : Turn) {q : Page} → Printed rows columns v bs i t f p s g e
     → printBytes rows columns v (drop i bs) (page t f p) ≡ q → printBytes rows columns v (drop (e .at) bs) (page s g (e .place)) ≡ q
 same-rest rows columns v bs i t f s g p e k h = sym (k .rest) ∙ h
 
@@ -67,7 +64,7 @@ module _ (rows columns : ℕ) (v : Bool) (bs : List ℕ) (t f s g : List ℕ) (p
   pub all-printed : (i : ℕ) → length bs ≤ i → Ready rows columns 1 s g q → q .scrolls ≤ 2 * length bs
       → printBytes rows columns v (drop i bs) (page s g q) ≡ printBytes rows columns v bs (page t f p)
       → Written (printBytes rows columns v bs (page t f p)) (2 * length bs) s g q
-  all-printed i h r l e = record { page = sym (bytes-end rows columns v bs i (page s g q) h) ∙ e; fit = r .fit; scrolls = l }
+  all-printed i h r l e = record { page = sym (bytes-end rows columns v bs i (page s g q) h) ∙ e; flags = r .flags; scrolls = l }
 
 -- ---- the clearing
 
@@ -89,7 +86,7 @@ pub screen-scrolled : (n rows k : ℕ) (s : List ℕ) {g : ℕ} {d : List ℕ} �
     → d ≡ scrolledTimes n k s
 screen-scrolled n rows k s e h f q = q ∙ ap (λ (x : ℕ). scrolled (x * k) 0 s) f ∙ sym (times-most n rows k s e h)
 
--- in Graph it scrolls with the text, and is owed whole
+-- in Graph it scrolls with the text
 pub in-graph : (mode n : ℕ) → mode ≡ 1 → n ≡ screenScrolls mode n
 unfolding screenScrolls
 in-graph mode n e = rw (eq-eqb mode 1 e)
@@ -98,26 +95,20 @@ pub in-text : (mode n : ℕ) → (mode ≡ 1 → ⊥) → 0 ≡ screenScrolls mo
 unfolding screenScrolls
 in-text mode n e = rw (ne-eqb mode 1 e)
 
-pub no-mark : (n : ℕ) {q : Rect} → n ≡ 0 → q ≡ none → q ≡ scrollMark base n
-unfolding scrollMark
-no-mark n e f = f ∙ rw (eq-eqb n 0 e)
-
-pub whole-mark : (n : ℕ) {q : Rect} → (n ≡ 0 → ⊥) → q ≡ whole 20 80 → q ≡ scrollMark base n
-unfolding scrollMark
-whole-mark n e f = f ∙ rw (ne-eqb n 0 e)
-
 -- ---- the whole text
 
 module _ (rows columns : ℕ) (v : Bool) (bs t f : List ℕ) (p : Place) {k : ℕ} {s g : List ℕ} {q : Place} (w : Written (printBytes rows columns v bs (page t f p)) k s g q) where
   pub cell-after : Ready rows columns 1 t f p → q .row * columns + q .column < length s
   cell-after r =
-      let e : Ready rows columns 1 s g q = record { sheet = rw (w .page) (bytes-sheet rows columns v bs (page t f p) (r .sheet)); fit = w .fit } in
+      let e : Ready rows columns 1 s g q = record { sheet = rw (w .page) (bytes-sheet rows columns v bs (page t f p) (r .sheet)); flags = w .flags } in
       has-cell rows columns s g q e .text
 
   pub text-printed : {d : List ℕ} → d ≡ clearFrom (q .row * columns + q .column) s → Written (printOn rows columns v bs (page t f p)) k d g q
   unfolding printOn clearAfter
-  text-printed e = record {
-    page = (λ i. page (e i) g q) ∙ ap (clearAfter columns) (w .page);
-    fit = w .fit;
-    scrolls = w .scrolls;
-  }
+  text-printed {d} e =
+      let k : length d ≡ length s = ap length e ∙ length-clear (q .row * columns + q .column) s in
+      record {
+        page = (λ i. record { text = e i; flags = flagsIn (k i) g; row = q .row; column = q .column; scrolls = q .scrolls }) ∙ ap (clearAfter columns) (w .page);
+        flags = rw k (w .flags);
+        scrolls = w .scrolls;
+      }

@@ -1,90 +1,114 @@
 -- What each step of printing leaves, from what its calls say: the page of the definition, and one that the next step can take.
-use mathlib.Core.Path.{_≡_, ap, _∙_}
+use mathlib.Core.Path.{_≡_, sym, ap, _∙_}
 use mathlib.Core.Bool.{Bool, true, false, _&&_}
-use mathlib.Core.List.{List, map}
-use Prim.Native.Nat.{ℕ, suc, _+_, _*_, _≤_}
+use mathlib.Core.List.{List}
+use Prim.Native.Nat.{ℕ, suc, _+_, _*_, _<_, _≤_}
 use native.Mathlib.Nat.{mul-le-mul-right, one-mul}
 use native.Mathlib.Omega.{arith}
 use lib.Dec.{leb, eqb}
-use lib.ListN.{length, set, length-map}
+use lib.ListN.{length, set, length-set}
 use borrow.Author.Tests.{eq-eqb, ne-eqb}
-use Rattle.model.specs.Record.{flagOf, flagByte, flagsFit}
+use Rattle.model.specs.Flags.{flagBytes, flagsIn, bytesOfFlags, flagsFit}
 use Rattle.model.specs.Print.{scrolled, scrollPage, nextRow, newlineOn, writeCell, wrap, endRow, printByte, printPair}
-use Rattle.laws.specs.Layout.{flags-back, flags-fit}
+use Rattle.laws.specs.Flags.{flags-written, length-flags, length-flagsIn, flags-fit}
+use Rattle.laws.specs.Scrolls.{length-scrolled}
 use Rattle.laws.specs.Pages.{cell-in, write-sheet, wrap-sheet, wrap-pair}
 use Rattle.text.specs.declared.page.Place.{Place}
-use Rattle.text.specs.Written.{page, Cell, Ready, Written}
+use Rattle.text.specs.Written.{page, HasFlags, Cell, Ready, Written}
 
--- flags written as bytes are read back
-flags-read : {g : List ℕ} (fs : List Bool) → g ≡ map flagByte fs → map flagOf g ≡ fs
-flags-read fs e = ap (map flagOf) e ∙ flags-back fs
+-- flags written as the bytes of a page's, one for each of its n cells
+module _ (n : ℕ) (fs : List Bool) {g : List ℕ} (e : g ≡ bytesOfFlags fs) (l : length fs ≡ n) where
+  flags-back : flagsIn n g ≡ fs
+  flags-back = ap (flagsIn n) e ∙ flags-written n fs l
 
-flags-kept : {g : List ℕ} (fs : List Bool) → g ≡ map flagByte fs → flagsFit g ≡ true
-flags-kept fs e = ap flagsFit e ∙ flags-fit fs
+  flags-left : HasFlags n g
+  flags-left = record {
+    sized = ap length e ∙ length-flags fs ∙ ap flagBytes l;
+    fit = (λ i. flagsFit (sym l i) (e i)) ∙ flags-fit fs;
+  }
+
+-- ---- what the calls ask: crate flags counts the flags by their bytes
+
+module _ (t f : List ℕ) (h : HasFlags (length t) f) where
+  same-flags : flagsIn (length f) f ≡ flagsIn (length t) f
+  same-flags = ap (λ (n : ℕ). flagsIn n f) (h .sized)
+
+  pub flags-pass : flagsFit (length f) f ≡ true
+  flags-pass = ap (λ (n : ℕ). flagsFit n f) (h .sized) ∙ h .fit
+
+pub cell-in-flags : (columns : ℕ) (t f : List ℕ) (p : Place) → Cell columns t f p → p .row * columns + p .column < length f
+cell-in-flags columns t f p k = rw (k .flags .sized) (k .text)
 
 module _ (rows columns : ℕ) (t f : List ℕ) (p : Place) where
-  -- ---- what the calls ask
-
   -- a row of cells lies in the text, and in the flags
-  row-of : {n : ℕ} → Ready rows columns n t f p → columns ≤ rows * columns
-  row-of r = let k : 1 * columns ≤ rows * columns = mul-le-mul-right {m = 1} {n = rows} columns (omega (arith, r .sheet .row)) in rw one-mul at k
-
   pub row-in-text : {n : ℕ} → Ready rows columns n t f p → columns ≤ length t
-  row-in-text r = omega (arith, row-of r, r .sheet .text)
+  row-in-text r =
+      let k : 1 * columns ≤ rows * columns = mul-le-mul-right {m = 1} {n = rows} columns (omega (arith, r .sheet .row)) in
+      rw (r .sheet .text) (rw one-mul at k)
 
   pub row-in-flags : {n : ℕ} → Ready rows columns n t f p → columns ≤ length f
-  row-in-flags r = omega (arith, row-of r, r .sheet .flags, length-map f flagOf)
+  row-in-flags r = rw (r .flags .sized) (row-in-text r)
 
   pub has-cell : {n : ℕ} → Ready rows columns (suc n) t f p → Cell columns t f p
-  has-cell {n} r =
-      let k = cell-in rows columns n (page t f p) (r .sheet) in
-      record { text = omega (arith, k, r .sheet .text); flags = omega (arith, k, r .sheet .flags, length-map f flagOf); fit = r .fit }
+  has-cell {n} r = record { text = omega (arith, cell-in rows columns n (page t f p) (r .sheet), r .sheet .text); flags = r .flags }
 
   -- ---- newline
 
   pub newline-none : {n : ℕ} → Ready rows columns n t f p → p .column ≡ 0 → Written (newlineOn rows columns (page t f p)) (p .scrolls + 1) t f p
   unfolding newlineOn
-  newline-none r z = record { page = rw (eq-eqb (p .column) 0 z); fit = r .fit; scrolls = omega arith }
+  newline-none r z = record { page = rw (eq-eqb (p .column) 0 z); flags = r .flags; scrolls = omega arith }
 
-  pub newline-scrolls : {s g : List ℕ} → (p .column ≡ 0 → ⊥) → p .row + 1 ≡ rows → s ≡ scrolled columns 0 t → g ≡ map flagByte (scrolled columns false (map flagOf f))
+  pub newline-scrolls : {n : ℕ} {s g : List ℕ} → Ready rows columns n t f p → (p .column ≡ 0 → ⊥) → p .row + 1 ≡ rows
+      → s ≡ scrolled columns 0 t → g ≡ bytesOfFlags (scrolled columns false (flagsIn (length f) f))
       → Written (newlineOn rows columns (page t f p)) (p .scrolls + 1) s g (record { row = p .row; column = 0; scrolls = p .scrolls + 1 })
   unfolding newlineOn scrollPage
-  newline-scrolls z l d e = record {
-    page = rw (ne-eqb (p .column) 0 z, eq-eqb (p .row + 1) rows l)
-        (λ i. record { text = d i; flags = flags-read (scrolled columns false (map flagOf f)) e i; row = p .row; column = 0; scrolls = p .scrolls + 1 });
-    fit = flags-kept (scrolled columns false (map flagOf f)) e;
-    scrolls = omega arith;
-  }
+  newline-scrolls {s = s} r z l d e =
+      let fs = scrolled columns false (flagsIn (length t) f) in
+      let m = length-flagsIn (length t) f (r .flags .sized) in
+      let k : length fs ≡ length s = length-scrolled columns false (flagsIn (length t) f) (rw m (row-in-text r)) ∙ m
+      ∙ sym (length-scrolled columns 0 t (row-in-text r)) ∙ sym (ap length d) in
+      let q = e ∙ ap (λ (x : List Bool). bytesOfFlags (scrolled columns false x)) (same-flags t f (r .flags)) in
+      record {
+        page = rw (ne-eqb (p .column) 0 z, eq-eqb (p .row + 1) rows l)
+            (λ i. record { text = d i; flags = flags-back (length s) fs q k i; row = p .row; column = 0; scrolls = p .scrolls + 1 });
+        flags = flags-left (length s) fs q k;
+        scrolls = omega arith;
+      }
 
   pub newline-next : {n : ℕ} → Ready rows columns n t f p → (p .column ≡ 0 → ⊥) → (p .row + 1 ≡ rows → ⊥)
       → Written (newlineOn rows columns (page t f p)) (p .scrolls + 1) t f (record { row = p .row + 1; column = 0; scrolls = p .scrolls })
   unfolding newlineOn nextRow
-  newline-next r z l = record { page = rw (ne-eqb (p .column) 0 z, ne-eqb (p .row + 1) rows l); fit = r .fit; scrolls = omega arith }
+  newline-next r z l = record { page = rw (ne-eqb (p .column) 0 z, ne-eqb (p .row + 1) rows l); flags = r .flags; scrolls = omega arith }
 
   -- after the last column
   pub row-ended : {k : ℕ} {s g : List ℕ} {q : Place} → p .column ≡ columns → Written (newlineOn rows columns (page t f p)) k s g q
       → Written (endRow rows columns (page t f p)) k s g q
   unfolding endRow
-  row-ended z w = record { page = rw (eq-eqb (p .column) columns z) (w .page); fit = w .fit; scrolls = w .scrolls }
+  row-ended z w = record { page = rw (eq-eqb (p .column) columns z) (w .page); flags = w .flags; scrolls = w .scrolls }
 
   pub row-goes-on : {n : ℕ} → Ready rows columns n t f p → (p .column ≡ columns → ⊥) → Written (endRow rows columns (page t f p)) (p .scrolls + 1) t f p
   unfolding endRow
-  row-goes-on r z = record { page = rw (ne-eqb (p .column) columns z); fit = r .fit; scrolls = omega arith }
+  row-goes-on r z = record { page = rw (ne-eqb (p .column) columns z); flags = r .flags; scrolls = omega arith }
 
   -- ---- a cell
 
   module _ (v : Bool) (b : ℕ) where
-    pub cell-written : {g : List ℕ} → g ≡ map flagByte (set (map flagOf f) (p .row * columns + p .column) v)
+    pub cell-written : {g : List ℕ} → Cell columns t f p → g ≡ bytesOfFlags (set (flagsIn (length f) f) (p .row * columns + p .column) v)
         → Written (writeCell columns v b (page t f p)) (p .scrolls) (set t (p .row * columns + p .column) b) g (record { row = p .row; column = p .column + 1; scrolls = p .scrolls })
     unfolding writeCell
-    cell-written e = record {
-      page = λ i. record { text = set t (p .row * columns + p .column) b; flags = flags-read (set (map flagOf f) (p .row * columns + p .column) v) e i; row = p .row; column = p .column + 1; scrolls = p .scrolls };
-      fit = flags-kept (set (map flagOf f) (p .row * columns + p .column) v) e;
-      scrolls = omega arith;
-    }
+    cell-written c e =
+        let i = p .row * columns + p .column in
+        let fs = set (flagsIn (length t) f) i v in
+        let k : length fs ≡ length (set t i b) = length-set (flagsIn (length t) f) i v ∙ length-flagsIn (length t) f (c .flags .sized) ∙ sym (length-set t i b) in
+        let q = e ∙ ap (λ (x : List Bool). bytesOfFlags (set x i v)) (same-flags t f (c .flags)) in
+        record {
+          page = λ j. record { text = set t i b; flags = flags-back (length (set t i b)) fs q k j; row = p .row; column = p .column + 1; scrolls = p .scrolls };
+          flags = flags-left (length (set t i b)) fs q k;
+          scrolls = omega arith;
+        }
 
     pub after-cell : {n k : ℕ} {s g : List ℕ} {q : Place} → Ready rows columns (suc n) t f p → Written (writeCell columns v b (page t f p)) k s g q → Ready rows columns n s g q
-    after-cell {n} r w = record { sheet = rw (w .page) (write-sheet rows columns v n b (page t f p) (r .sheet)); fit = w .fit }
+    after-cell {n} r w = record { sheet = rw (w .page) (write-sheet rows columns v n b (page t f p) (r .sheet)); flags = w .flags }
 
     -- ---- a byte >= 128 at the last column
 
@@ -92,19 +116,19 @@ module _ (rows columns : ℕ) (t f : List ℕ) (p : Place) where
         → Written (writeCell columns v 32 (page t f p)) (p .scrolls) s g q → Written (newlineOn rows columns (page s g q)) (q .scrolls + 1) s′ g′ r
         → Written (wrap rows columns v b (page t f p)) (p .scrolls + 1) s′ g′ r
     unfolding wrap
-    wrapped e w u = record { page = rw e (u .page ∙ ap (newlineOn rows columns) (w .page)); fit = u .fit; scrolls = omega (arith, w .scrolls, u .scrolls) }
+    wrapped e w u = record { page = rw e (u .page ∙ ap (newlineOn rows columns) (w .page)); flags = u .flags; scrolls = omega (arith, w .scrolls, u .scrolls) }
 
     pub not-wrapped : {n : ℕ} → Ready rows columns n t f p → (leb 128 b && eqb (p .column + 1) columns) ≡ false
         → Written (wrap rows columns v b (page t f p)) (p .scrolls + 1) t f p
     unfolding wrap
-    not-wrapped r e = record { page = rw e; fit = r .fit; scrolls = omega arith }
+    not-wrapped r e = record { page = rw e; flags = r .flags; scrolls = omega arith }
 
     pub after-wrap : {k : ℕ} {s g : List ℕ} {q : Place} → Ready rows columns 1 t f p → Written (wrap rows columns v b (page t f p)) k s g q → Ready rows columns 1 s g q
-    after-wrap r w = record { sheet = rw (w .page) (wrap-sheet rows columns v b (page t f p) (r .sheet)); fit = w .fit }
+    after-wrap r w = record { sheet = rw (w .page) (wrap-sheet rows columns v b (page t f p) (r .sheet)); flags = w .flags }
 
     pub after-wrap-pair : {k : ℕ} {s g : List ℕ} {q : Place} → 128 ≤ b → Ready rows columns 1 t f p → Written (wrap rows columns v b (page t f p)) k s g q
         → Ready rows columns 2 s g q
-    after-wrap-pair h r w = record { sheet = rw (w .page) (wrap-pair rows columns v b (page t f p) h (r .sheet)); fit = w .fit }
+    after-wrap-pair h r w = record { sheet = rw (w .page) (wrap-pair rows columns v b (page t f p) h (r .sheet)); flags = w .flags }
 
 -- ---- a byte, and a pair
 
@@ -122,7 +146,7 @@ module _ (rows columns : ℕ) (t f : List ℕ) (p : Place) (v : Bool) (b : ℕ) 
   unfolding printByte
   byte-printed w u x = record {
     page = x .page ∙ ap (endRow rows columns) (u .page ∙ ap (writeCell columns v b) (w .page));
-    fit = x .fit;
+    flags = x .flags;
     scrolls = omega (arith, w .scrolls, u .scrolls, x .scrolls);
   }
 
@@ -147,6 +171,6 @@ module _ (rows columns : ℕ) (t f : List ℕ) (p : Place) (v : Bool) (b : ℕ) 
     unfolding printPair
     pair-printed w u x y = record {
       page = y .page ∙ ap (endRow rows columns) (x .page ∙ ap (writeCell columns v c) (u .page ∙ ap (writeCell columns v b) (w .page)));
-      fit = y .fit;
+      flags = y .flags;
       scrolls = omega (arith, w .scrolls, u .scrolls, x .scrolls, y .scrolls);
     }

@@ -1,30 +1,34 @@
 -- The page that lent text and flags hold with a place in it, and what printing asks of it and leaves.
 use mathlib.Core.Path.{_≡_}
 use mathlib.Core.Bool.{true}
-use mathlib.Core.List.{List, map}
+use mathlib.Core.List.{List}
 use Prim.Native.Nat.{ℕ, _+_, _*_, _<_, _≤_}
 use lib.ListN.{length}
-use Rattle.model.specs.Record.{flagOf, flagsFit}
+use Rattle.model.specs.Flags.{flagBytes, flagsIn, flagsFit}
 use Rattle.model.specs.Print.{Page}
 use Rattle.laws.specs.Pages.{Sheet}
 use Rattle.text.specs.declared.page.Place.{Place}
 
 abbrev pub page : List ℕ → List ℕ → Place → Page
-page t f p = record { text = t; flags = map flagOf f; row = p .row; column = p .column; scrolls = p .scrolls }
+page t f p = record { text = t; flags = flagsIn (length t) f; row = p .row; column = p .column; scrolls = p .scrolls }
 
--- the next cell lies in both parts
+-- the bytes f hold the flags of n cells
+pub record HasFlags (n : ℕ) (f : List ℕ) : Type 0 where
+  pub sized : length f ≡ flagBytes n
+  pub fit : flagsFit n f ≡ true
+
+-- the next cell lies in the text
 pub record Cell (columns : ℕ) (t f : List ℕ) (p : Place) : Type 0 where
   pub text : p .row * columns + p .column < length t
-  pub flags : p .row * columns + p .column < length f
-  pub fit : flagsFit f ≡ true
+  pub flags : HasFlags (length t) f
 
 -- a page with room for n more cells in its row
 pub record Ready (rows columns n : ℕ) (t f : List ℕ) (p : Place) : Type 0 where
   pub sheet : Sheet rows columns n (page t f p)
-  pub fit : flagsFit f ≡ true
+  pub flags : HasFlags (length t) f
 
 -- the page that is left, scrolled at most so often
 pub record Written (q : Page) (most : ℕ) (t f : List ℕ) (p : Place) : Type 0 where
   pub page : page t f p ≡ q
-  pub fit : flagsFit f ≡ true
+  pub flags : HasFlags (length t) f
   pub scrolls : p .scrolls ≤ most

@@ -1,6 +1,4 @@
 // Where the next cell is written, and `newline`.
-use record::flags;
-use record::layout;
 ghost use mathlib.Core.Path.{_≡_};
 ghost use Prim.Native.Nat.{_+_, _^_, _<_};
 ghost use Rattle.model.specs.Print.{newlineOn, writeCell};
@@ -48,7 +46,7 @@ pub fn newline(rows: usize, columns: usize, text: &mut [u8], flags: &mut [u8], p
         return p;
     }
     if row + 1 == rows {
-        layout::scroll(text, columns);
+        slices::scroll(text, columns);
         flags::scroll_flags(flags, columns);
         return Place {
             row: row,

@@ -13,7 +13,7 @@ ghost use Rattle.text.specs.Printed.{Printed};
 const SPACE: u8 = 32;
 
 // Where the next byte of a text goes, and which it is.
-pub struct Step {
+pub struct Turn {
     pub place: Place,
     pub at: usize,
 }
@@ -102,7 +102,7 @@ fn print_at(
     from: &[u8],
     at: usize,
     inverse: bool,
-) -> Step
+) -> Turn
     requires { ⌜ Ready rows columns 1 (now text) (now flags) p ⌝ }
     requires { ⌜ (p .scrolls + 2 < 2 ^ 64) × (at < length (now from)) ⌝ }
     ensures { λ r. ⌜ Printed rows columns inverse (now (from .entry)) at (now (text .entry)) (now (flags .entry)) p (now (text .exit)) (now (flags .exit)) r ⌝ }
@@ -111,13 +111,13 @@ fn print_at(
     if (b >= 128) & (at + 1 < from.len()) {
         let c = from[at + 1];
         let q = print_pair(rows, columns, text, flags, p, b, c, inverse);
-        return Step {
+        return Turn {
             place: q,
             at: at + 2,
         };
     }
     let q = print_byte(rows, columns, text, flags, p, b, inverse);
-    Step {
+    Turn {
         place: q,
         at: at + 1,
     }

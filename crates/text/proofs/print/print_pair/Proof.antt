@@ -30,7 +30,7 @@ end-row-requires c κs =
     )
 
 same-length : tie.Need-same-length
-same-length c = search needs
+same-length c = omega (arith, c .before .before .before .before .before .before .before .before .before .before .before .before .before .before .before .before .before .before .before .before .before .before .before .before .before .wrap-byte .kept)
 
 same-length-2 : tie.Need-same-length-2
 same-length-2 c = search needs
