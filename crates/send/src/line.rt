@@ -18,18 +18,6 @@ fn copy_masked(screen: &[u8], panel: &mut [u8], at: usize, mask: u8)
     panel[at] = (screen[at] & mask) | (panel[at] & !mask);
 }
 
-// Copies whole bytes.
-fn copy_bytes(from: &[u8], onto: &mut [u8])
-    requires { ⌜ length (now from) ≡ length (now onto) ⌝ }
-    ensures { λ _. ⌜ now (onto .exit) ≡ now (from .entry) ⌝ }
-{
-    let mut i: usize = 0;
-    while i < from.len() {
-        onto[i] = from[i];
-        i += 1;
-    }
-}
-
 // Copies the pixels of the rectangle's top line, from its left to its right; all other bits of the panel stay.
 pub fn copy_line(canvas: Canvas, screen: &[u8], panel: &mut [u8], r: Rect)
     requires { ⌜ LineOn (canvas .stride) (canvas .height) (now screen) (now panel) r ⌝ }
@@ -47,6 +35,6 @@ pub fn copy_line(canvas: Canvas, screen: &[u8], panel: &mut [u8], r: Rect)
     }
     copy_masked(screen, panel, first, start_mask(left));
     let from = first + 1;
-    copy_bytes(&screen[from..end], &mut panel[from..end]);
+    slices::copy_bytes(&screen[from..end], &mut panel[from..end]);
     copy_masked(screen, panel, end, end_mask(last));
 }

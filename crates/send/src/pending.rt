@@ -1,32 +1,33 @@
-// What a send does to the pending part of the record, by value.
+// What a send does to one panel's part of the lent record.
 use marks::rect;
-use model::Pending;
 use model::Rect;
+use model::glass::Glass;
+use record::layout;
+use record::owed;
+use record::panels;
 ghost use mathlib.Core.Path.{_≡_};
-ghost use Prim.Native.Nat.{_+_, _<_, min};
+ghost use Prim.Native.Nat.{_+_, _*_, _<_, _≤_, min};
 ghost use lib.ListN.{length};
-ghost use Rattle.model.specs.Sends.{takeOwed, nextLine, lineSent};
+ghost use Rattle.model.specs.Glass.{geometry};
+ghost use Rattle.model.specs.Sends.{nextLine};
+ghost use Rattle.laws.specs.Panels.{Known};
+ghost use Rattle.laws.specs.Sending.{InHand, SentOn};
 
-// With nothing in hand, what is owed moves into hand.
-pub fn take_owed(p: Pending) -> Pending
-    requires { ⌜ length (p .owed) ≡ 1 ⌝ }
-    ensures { λ r. ⌜ r ≡ takeOwed p ⌝ }
+// With nothing in hand, the first band that owes anything moves into hand. The panel's part begins at byte `at`.
+fn take_hand(rec: &mut [u8], glass: Glass, at: usize) -> Rect
+    requires { ⌜ at + 8 * glass .bands + 12 ≤ length (now rec) ⌝ }
+    ensures { λ r. ⌜ InHand (geometry glass) at (now (rec .entry)) r (now (rec .exit)) ⌝ }
 {
-    let hand = p.hand;
+    let bands = glass.bands;
+    let hand = layout::load_rect(rec, at + 8 * bands);
     if rect::is_empty(hand) {
-        let bands = p.owed;
-        let owed = bands[0];
-        return Pending {
-            owed: [rect::empty()],
-            hand: owed,
-            sent: p.sent,
-        };
+        return owed::take_owed(rec, at, bands);
     }
-    p
+    hand
 }
 
 // The top raised; empty after the last line.
-pub fn next_line(q: Rect) -> Rect
+fn next_line(q: Rect) -> Rect
     requires { ⌜ q .top < 65535 ⌝ }
     ensures { λ r. ⌜ r ≡ nextLine q ⌝ }
 {
@@ -49,16 +50,20 @@ fn count_line(sent: u32) -> u32
     if sent < 4294967295 { sent + 1 } else { sent }
 }
 
-// The line in hand counts as sent.
-pub fn line_sent(p: Pending) -> Pending
-    requires { ⌜ p .hand .top < 65535 ⌝ }
-    ensures { λ r. ⌜ r ≡ lineSent p ⌝ }
+// One line of panel k counts as sent: the rectangle whose top line it is, empty where there is none.
+pub fn send_panel(rec: &mut [u8], glass: Glass, k: usize) -> Rect
+    requires { ⌜ Known glass (now rec) ⌝ }
+    requires { ⌜ k < glass .panels ⌝ }
+    ensures { λ r. ⌜ SentOn glass k (now (rec .entry)) r (now (rec .exit)) ⌝ }
 {
-    let owed = p.owed;
-    let hand = p.hand;
-    Pending {
-        owed: owed,
-        hand: next_line(hand),
-        sent: count_line(p.sent),
+    let at = panels::panel_at(glass, k);
+    let bands = glass.bands;
+    let sent = slices::load_four(rec, at + 8 * bands + 8);
+    let hand = take_hand(rec, glass, at);
+    if rect::is_empty(hand) {
+        return hand;
     }
+    layout::store_rect(rec, at + 8 * bands, next_line(hand));
+    slices::store_four(rec, at + 8 * bands + 8, count_line(sent));
+    hand
 }
