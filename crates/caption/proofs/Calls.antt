@@ -1,60 +1,135 @@
--- The ends of every call after its entry: refused there, refused for a value, done.
-use mathlib.Core.Path.{_≡_, sym, ap, _∙_}
-use mathlib.Core.List.{List, [], _∷_}
-use mathlib.Core.Bool.{Bool}
-use Prim.Native.Nat.{ℕ, zero, suc}
+-- The ends of a call, once for all calls: refused at the entry, refused by a test of its own, done. All over the glass that the record's length chooses.
+use mathlib.Core.Path.{_≡_, refl, sym, ap, _∙_}
+use mathlib.Core.List.{List, [], _∷_, _++_}
+use mathlib.Core.Bool.{Bool, true, false}
+use Prim.Native.Nat.{ℕ, zero, suc, _<_, _≤_}
 use native.Mathlib.Omega.{arith}
-use Rattle.model.specs.Geometry.{base}
-use Rattle.model.specs.Record.{valid}
-use Rattle.model.specs.Refusals.{Test, refusal, ruled}
-use Rattle.model.specs.Calls.{Call, Lent, Outcome, lentTest, stateTest, refusals, refused, done, outcome}
+use borrow.Author.Tests.{eqb-true, lt-ltb, le-ltb}
+use lib.Dec.{eqb, ltb}
+use lib.ListN.{length}
+use Rattle.model.specs.declared.Head.{Head}
+use Rattle.model.specs.declared.glass.Glass.{Glass}
+use Rattle.model.specs.Geometry.{Geometry, rows, columns}
+use Rattle.model.specs.Glass.{geometry, glassOf}
+use Rattle.model.specs.Record.{decode, encode, withHead}
+use Rattle.model.specs.Refusals.{Test, test, refusal, ruled}
+use Rattle.model.specs.Calls.{Call, Lent, Outcome, lent, answered, takes, lengthsFit, lentTest, stateTest, stateTests, ownTests, refusals, numbers, nought, refused, changed, done, outcome}
 use Rattle.laws.specs.Tests.{by-test}
+use Rattle.laws.specs.Record.{Passing}
+use Rattle.laws.specs.Panels.{Known}
 use Rattle.record.specs.declared.entry.Entry.{Entry}
-use Rattle.record.specs.Entry.{Known, Entered}
+use Rattle.record.specs.Entry.{Chosen, Entered}
+use Rattle.accepted.specs.Given.{Given}
 
--- a number that is not 0 refuses, and 0 goes on
-pub refuses : {A : Type 0} (k j : ℕ) (f : ℕ → A) (x : A) → j ≡ k → (j ≡ 0 → ⊥) → f j ≡ ruled k f x
-unfolding ruled
-refuses zero j f x e h = absurd (h e)
-refuses (suc k) j f x e h = ap f e
+-- ---- tests
 
-pub goes : {A : Type 0} (k : ℕ) (f : ℕ → A) (x y : A) → k ≡ 0 → y ≡ x → y ≡ ruled k f x
-unfolding ruled
-goes k f x y e h = h ∙ sym (ap (λ (n : ℕ). ruled n f x) e)
+-- two tests before others: they refuse, or the others decide
+before-stops : (s t : Test) (l : List Test) (k : ℕ) → k ≡ refusal (s ∷ t ∷ []) → (k ≡ 0 → ⊥) → refusal (s ∷ t ∷ l) ≡ k
+unfolding refusal
+before-stops s t l k e n =
+    by-test (s .passes)
+    (λ p. by-test (t .passes) (λ q. absurd (n (e ∙ rw (p, q)))) (λ q. rw (p, q) (sym (e ∙ rw (p, q)))))
+    (λ p. rw p (sym (e ∙ rw p)))
 
--- the entry's two tests, with others after them
-module _ (g : List ℕ) (others : Bool) (rest : List Test) where
-  stop : (k : ℕ) → k ≡ refusal (lentTest base g others ∷ stateTest base g ∷ []) → (k ≡ 0 → ⊥) → k ≡ refusal (lentTest base g others ∷ stateTest base g ∷ rest)
-  unfolding refusal
-  stop k e n =
-      by-test (lentTest base g others .passes)
-      (λ a. by-test (valid base g) (λ b. absurd (n (e ∙ rw (a, b)))) (λ b. e ∙ rw (a, b)))
-      (λ a. e ∙ rw a)
+before-passes : (s t : Test) (l : List Test) → 0 ≡ refusal (s ∷ t ∷ []) → (s .number ≡ 0 → ⊥) → (t .number ≡ 0 → ⊥) → refusal (s ∷ t ∷ l) ≡ refusal l
+unfolding refusal
+before-passes s t l e a b =
+    by-test (s .passes)
+    (λ p. by-test (t .passes) (λ q. rw (p, q)) (λ q. absurd (b (sym (e ∙ rw (p, q))))))
+    (λ p. absurd (a (sym (e ∙ rw p))))
 
-  pass : refusal (lentTest base g others ∷ stateTest base g ∷ []) ≡ 0 → refusal (lentTest base g others ∷ stateTest base g ∷ rest) ≡ refusal rest
-  unfolding refusal
-  pass e =
-      by-test (lentTest base g others .passes)
-      (λ a. by-test (valid base g) (λ b. rw (a, b)) (λ b. let z : _≡_ {A = ℕ} 2 0 = rw (a, b) at e in absurd (omega arith)))
-      (λ a. let z : _≡_ {A = ℕ} 1 0 = rw a at e in absurd (omega arith))
+-- the first test fails; it passes, and the others decide
+pub fails : {n : ℕ} {b : Bool} (ts : List Test) → b ≡ false → refusal (test n b ∷ ts) ≡ n
+unfolding refusal
+fails ts e = rw e
 
-module _ (c : Call) (l : Lent) (others : Bool) (rest : List Test) (t : refusals base c l ≡ (lentTest base (l .rec) others ∷ stateTest base (l .rec) ∷ rest)) where
-  pub stops : {e : Entry} → Entered others (l .rec) e → (e .code ≡ 0 → ⊥) → refused c l (e .code) ≡ outcome base c l
-  unfolding outcome
-  stops n h = refuses (refusal (refusals base c l)) _ (refused c l) (done base c l) (stop (l .rec) others rest _ (n .code) h ∙ sym (ap refusal t)) h
+pub passes : (n : ℕ) {b : Bool} (ts : List Test) {k : ℕ} → b ≡ true → refusal ts ≡ k → refusal (test n b ∷ ts) ≡ k
+unfolding refusal
+passes n ts e r = rw e r
 
-  passed : {e : Entry} → Entered others (l .rec) e → e .code ≡ 0 → refusal (refusals base c l) ≡ refusal rest
-  passed n z = ap refusal t ∙ pass (l .rec) others rest (sym (n .code) ∙ z)
+pub none-left : refusal [] ≡ 0
+unfolding refusal
+none-left = refl
 
-  pub ends : {e : Entry} {o : Outcome} → Entered others (l .rec) e → e .code ≡ 0 → refusal rest ≡ 0 → o ≡ done base c l → o ≡ outcome base c l
-  unfolding outcome
-  ends n z p d = goes (refusal (refusals base c l)) (refused c l) (done base c l) _ (passed n z ∙ p) d
+-- ---- outcomes by the refusal's number
 
-  -- a number that the tests after the entry give
-  pub stops-later : {e : Entry} (k : ℕ) → Entered others (l .rec) e → e .code ≡ 0 → k ≡ refusal rest → (k ≡ 0 → ⊥) → refused c l k ≡ outcome base c l
-  unfolding outcome
-  stops-later k n z p h = refuses (refusal (refusals base c l)) k (refused c l) (done base c l) (p ∙ sym (passed n z)) h
+is-refused : (g : Geometry) (c : Call) (l : Lent) (k : ℕ) → refusal (refusals g c l) ≡ k → (k ≡ 0 → ⊥) → answered k (nought (numbers c)) l ≡ outcome g c l
+unfolding outcome ruled refused
+is-refused g c l zero e n = absurd (n refl)
+is-refused g c l (suc k) e n = rw e
 
--- what an entry tells where the call goes on
-pub knows : {others : Bool} {r : List ℕ} {e : Entry} → Entered others r e → e .code ≡ 0 → Known r (e .head)
-knows n z = n .known z
+is-done : (g : Geometry) (c : Call) (l : Lent) → refusal (refusals g c l) ≡ 0 → done g c l ≡ outcome g c l
+unfolding outcome ruled
+is-done g c l e = rw e
+
+-- ---- every call but open
+
+-- the call's record is read: STATE is asked of it
+abbrev pub Reads : Call → Lent → Type 0
+Reads c l = stateTests (glassOf (length (l .rec))) (takes c) l ≡ stateTest (glassOf (length (l .rec))) (l .rec) ∷ []
+
+module _ (c : Call) (l : Lent) (s : Reads c l) {e : Entry} (n : Entered (lengthsFit (glassOf (length (l .rec))) (takes c) l) (l .rec) e) where
+  abbrev g : Geometry
+  g = glassOf (length (l .rec))
+
+  entry-then : refusal (refusals g c l) ≡ refusal (lentTest g (l .rec) (lengthsFit g (takes c) l) ∷ stateTest g (l .rec) ∷ ownTests g c l)
+  unfolding refusals
+  entry-then = ap (λ (t : List Test). refusal (lentTest g (l .rec) (lengthsFit g (takes c) l) ∷ (t ++ ownTests g c l))) s
+
+  -- refused at the entry
+  pub stops : (e .code ≡ 0 → ⊥) → answered (e .code) (nought (numbers c)) l ≡ outcome g c l
+  stops h =
+      is-refused g c l (e .code)
+      (entry-then ∙ before-stops (lentTest g (l .rec) (lengthsFit g (takes c) l)) (stateTest g (l .rec)) (ownTests g c l) (e .code) (n .code) h) h
+
+  module _ (z : e .code ≡ 0) where
+    own : refusal (refusals g c l) ≡ refusal (ownTests g c l)
+    own =
+        entry-then ∙ before-passes (lentTest g (l .rec) (lengthsFit g (takes c) l)) (stateTest g (l .rec)) (ownTests g c l) (sym z ∙ n .code) (λ k. omega arith) (λ k. omega arith)
+
+    -- refused by a test of its own
+    pub stops-later : (k : ℕ) → refusal (ownTests g c l) ≡ k → (k ≡ 0 → ⊥) → answered k (nought (numbers c)) l ≡ outcome g c l
+    stops-later k t h = is-refused g c l k (own ∙ t) h
+
+    pub ends : {v : Glass} {o : Outcome} → Chosen (length (l .rec)) v → refusal (ownTests g c l) ≡ 0 → o ≡ done (geometry v) c l → o ≡ outcome g c l
+    ends k t d = d ∙ ap (λ (x : Geometry). done x c l) (k .glass) ∙ is-done g c l (own ∙ t)
+
+-- ---- what an entry tells where the call goes on
+
+pub knows : {others : Bool} {r : List ℕ} {e : Entry} {v : Glass} → Chosen (length r) v → Entered others r e → e .code ≡ 0 → Known v r
+knows {r = r} k n z = record { suits = k .suits; passing = rw (k .glass) (n .passing z) }
+
+pub loads : {others : Bool} {r : List ℕ} {e : Entry} {v : Glass} → Chosen (length r) v → Entered others r e → e .code ≡ 0 → e .head ≡ decode (geometry v) r .head
+loads {r = r} k n z = n .head z ∙ ap (λ (g : Geometry). decode g r .head) (sym (k .glass))
+
+pub given : {r m : List ℕ} {e : Entry} {v : Glass} → Chosen (length r) v → Entered (eqb (length m) 65536) r e → e .code ≡ 0 → Given v r (e .head) m
+given {m = m} k n z = record { known = knows k n z; head = loads k n z; memory = eqb-true (length m) 65536 (n .lent z) }
+
+-- the head that the entry has loaded, changed by f, is stored
+pub stores-head : {v : Glass} (f : Head → Head) {others : Bool} {r m p s : List ℕ} {n : Head} {e : Entry} → Chosen (length r) v → Entered others r e → e .code ≡ 0 → n ≡ f (e .head)
+    → s ≡ encode (geometry v) (withHead n (decode (geometry v) r)) → lent s m p ≡ changed (geometry v) f (lent r m p)
+unfolding changed
+stores-head {v} f {r = r} {m} {p} k i z q t =
+    let g = geometry v in
+    λ j. lent ((t ∙ ap (λ (x : Head). encode g (withHead x (decode g r))) (q ∙ ap f (loads k i z))) j) m p
+
+-- ---- a place beyond the rows or columns of the glass, or on it
+
+module _ {n : ℕ} {v : Glass} (k : Chosen n v) where
+  row-of : v .rows ≡ rows (glassOf n)
+  row-of = k .suits .is-rows ∙ ap rows (k .glass)
+
+  column-of : v .columns ≡ columns (glassOf n)
+  column-of = k .suits .is-columns ∙ ap columns (k .glass)
+
+  pub no-row : (i : ℕ) → v .rows ≤ i → ltb i (rows (glassOf n)) ≡ false
+  no-row i h = le-ltb i (rows (glassOf n)) (rw (← row-of) h)
+
+  pub a-row : (i : ℕ) → i < v .rows → ltb i (rows (glassOf n)) ≡ true
+  a-row i h = lt-ltb i (rows (glassOf n)) (rw (← row-of) h)
+
+  pub no-column : (i : ℕ) → v .columns ≤ i → ltb i (columns (glassOf n)) ≡ false
+  no-column i h = le-ltb i (columns (glassOf n)) (rw (← column-of) h)
+
+  pub a-column : (i : ℕ) → i < v .columns → ltb i (columns (glassOf n)) ≡ true
+  a-column i h = lt-ltb i (columns (glassOf n)) (rw (← column-of) h)

@@ -58,5 +58,10 @@ pub fn reset_record(rec: &mut [u8], glass: Glass, h: Head)
     ensures { λ _. ⌜ now (rec .exit) ≡ encode (geometry glass) (resetState (geometry glass) (decode (geometry glass) (now (rec .entry)))) ⌝ }
 {
     let n = layout::clear_head(h.graphics, h.text, h.version);
-    clear_record(rec, glass, n, mark::owed_marks(mark::whole_screen(glass::canvas_of(glass))));
+    clear_record(
+        rec,
+        glass,
+        n,
+        mark::owed_marks(mark::whole_screen(glass::canvas_of(glass))),
+    );
 }

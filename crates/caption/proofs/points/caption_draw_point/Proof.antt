@@ -1,6 +1,9 @@
-use Rattle.caption.proofs.Drawing.{point-stops, point-value, point-ends}
-use Rattle.caption.proofs.Calls.{knows}
-use Rattle.caption.proofs.Opening.{whole-memory}
+use native.Mathlib.Omega.{arith}
+use mathlib.Core.Path.{refl}
+use mathlib.Core.List.{[]}
+use borrow.Author.Tests.{lt-leb, le-leb}
+use Rattle.model.specs.Refusals.{VALUE}
+use Rattle.caption.proofs.Calls.{fails, passes, none-left, stops, stops-later, ends, given}
 use borrow.Author.Needs.{needs}
 use Rattle.caption.proofs.points.caption_draw_point.Statement.{statement}
 use Rattle.caption.proofs.points.caption_draw_point.Tie as tie
@@ -12,16 +15,19 @@ same-length : tie.Need-same-length
 same-length c = search needs
 
 returns : tie.Need-returns
-returns c = search point-stops
+returns c = stops _ _ refl (c .before .enter .ensures) (c .if1 .taken)
 
 same-length-2 : tie.Need-same-length-2
 same-length-2 c = search needs
 
 returns-2 : tie.Need-returns-2
-returns-2 c = search point-value
+returns-2 c = stops-later _ _ refl (c .before .before .enter .ensures) (c .before .if1 .left) VALUE (fails [] (lt-leb _ _ (c .if2 .taken))) (λ z. omega arith)
 
-point-done-requires : tie.Need-point-done-requires
-point-done-requires c κs = (search knows, search whole-memory)
+glass-of-requires : tie.Need-glass-of-requires
+glass-of-requires c κs = search needs
+
+draw-point-requires : tie.Need-draw-point-requires
+draw-point-requires c κs = given (c .glass-of .ensures) (c .before .before .before .before .before .enter .ensures) (c .before .before .before .before .if1 .left)
 
 same-length-3 : tie.Need-same-length-3
 same-length-3 c = search needs
@@ -30,7 +36,7 @@ same-length-4 : tie.Need-same-length-4
 same-length-4 c = search needs
 
 returns-3 : tie.Need-returns-3
-returns-3 c = search point-ends
+returns-3 c = ends _ _ refl (c .before .before .before .before .before .before .before .before .before .before .enter .ensures) (c .before .before .before .before .before .before .before .before .before .if1 .left) (c .before .before .before .before .before .glass-of .ensures) (passes VALUE [] (le-leb _ _ (c .before .before .before .before .before .before .before .before .if2 .left)) none-left) (c .before .before .before .before .draw-point .ensures)
 
 pub caption-draw-point-spec : {M : Type 1} → statement M
 caption-draw-point-spec =
@@ -41,7 +47,8 @@ caption-draw-point-spec =
     returns
     same-length-2
     returns-2
-    point-done-requires
+    glass-of-requires
+    draw-point-requires
     same-length-3
     same-length-4
     returns-3)

@@ -40,7 +40,7 @@ loop-less : tie.Need-loop-less Inv-loop μ-loop
 loop-less c = search needs
 
 loop-again : tie.Need-loop-again Inv-loop μ-loop
-loop-again c = 
+loop-again c =
     let l = c .before .before .before .before .before .loop in
     let k = c .before .before .before .before .before .before .before in
     (search needs, search needs, words-turn (k .args .at) (l .i) (k .args .t3) (k .args .rec .now) (l .rec) (omega (arith, k .pre .1)) (omega (arith, k .pre .0)) (l .inv .2) refl (c .before .before .store-four .ensures))

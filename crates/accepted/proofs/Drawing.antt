@@ -1,0 +1,96 @@
+-- Drawings over the screen part of memory, lent and come back, for any glass.
+use mathlib.Core.Path.{_≡_, refl, sym, ap, _∙_}
+use mathlib.Core.List.{List, []}
+use Prim.Native.Nat.{ℕ, zero, suc, _+_, _-_, _*_, _≤_}
+use native.Mathlib.Omega.{arith}
+use borrow.Rule.Slice.PartMut.{putMid}
+use lib.ListN.{length, take, drop, length-take, length-drop}
+use Rattle.model.specs.declared.Canvas.{Canvas}
+use Rattle.model.specs.declared.DrawMode.the-variants.{Unknown}
+use Rattle.model.specs.declared.Head.{Head}
+use Rattle.model.specs.declared.Marks.{Marks}
+use Rattle.model.specs.declared.glass.Glass.{Glass}
+use Rattle.model.specs.Geometry.{height, screenBytes, cells}
+use Rattle.model.specs.Glass.{geometry, canvas}
+use Rattle.model.specs.Pixels.{Screen, seen}
+use Rattle.model.specs.Memory.{window, withWindow}
+use Rattle.model.specs.Record.{decode, encode, withHead}
+use Rattle.model.specs.Marks.{Drawing, Drawn, drawn, drawnOn, marked}
+use Rattle.model.specs.Points.{drawMode}
+use Rattle.model.specs.Calls.{lent, answered, drawingWith, drawing}
+use Rattle.laws.specs.Pixels.{length-draw}
+use Rattle.laws.specs.Parts.{part-window, part-back}
+use Rattle.laws.specs.Updates.{head-numbers}
+use Rattle.accepted.specs.Given.{Given}
+
+pub unknown-mode : (n : ℕ) → 3 ≤ n → Unknown ≡ drawMode n
+unknown-mode zero h = absurd (omega arith)
+unknown-mode (suc zero) h = absurd (omega arith)
+unknown-mode (suc (suc zero)) h = absurd (omega arith)
+unknown-mode (suc (suc (suc n))) h = refl
+
+-- ---- the lent parts
+
+pub part-length : (a n : ℕ) (m : List ℕ) → a + n ≤ length m → length (take (a + n - a) (drop a m)) ≡ n
+part-length a n m h = simp (length-take, length-drop) (omega arith)
+
+drawn-length : (st h : ℕ) (d : Drawing) (s : List ℕ) → length (drawnOn st h d s .screen) ≡ length s
+unfolding drawnOn
+drawn-length st h d s = length-draw st (seen st h (d .writes)) s
+
+module _ {v : Glass} {r : List ℕ} {h : Head} {m : List ℕ} (w : Given v r h m) where
+  -- screen and text end within memory
+  pub screen-in : h .graphics + v .screen ≤ 65535
+  screen-in = let z = w .known .suits in omega (arith, head-numbers v r h (w .known) (w .head), z .is-screen, z .glass .screen)
+
+  pub text-in : h .text + v .cells ≤ 65535
+  text-in = let z = w .known .suits in omega (arith, head-numbers v r h (w .known) (w .head), z .is-cells, z .glass .text)
+
+  pub screen-room : h .graphics + v .screen ≤ length m
+  screen-room = omega (arith, screen-in, w .memory)
+
+  pub text-room : h .text + v .cells ≤ length m
+  text-room = omega (arith, text-in, w .memory)
+
+  pub screen-part : {k : Canvas} → k ≡ canvas v → Screen (k .stride) (k .height) (take (h .graphics + v .screen - h .graphics) (drop (h .graphics) m))
+  screen-part e =
+      let z = w .known .suits in
+      rw e (record {
+        wide = omega (arith, z .glass .columns);
+        narrow = omega (arith, z .glass .cursor);
+        high = omega (arith, z .is-height, z .glass .row);
+        low = omega (arith, z .is-height, z .glass .high);
+        sized = part-length (h .graphics) (v .screen) m screen-room ∙ z .is-screen ∙ ap (λ (n : ℕ). v .stride * n) (sym (z .is-height));
+      })
+
+  -- what a drawing on the lent part leaves of record and memory, with the head that f makes; a and b are the mode as the code and as the definition has it
+  pub drew-with : {A : Type 0} (f : Head → Head) (shape : ℕ → ℕ → A → Drawing) (c : Marks) (s : List ℕ) {a b : A} {k : Canvas} {t : List ℕ} {n : Head} → a ≡ b → k ≡ canvas v
+      → drawn c s ≡ drawnOn (k .stride) (k .height) (shape (k .stride) (k .height) a) (take (h .graphics + v .screen - h .graphics) (drop (h .graphics) m))
+      → n ≡ f h → t ≡ encode (geometry v) (marked (geometry v) (c .dirty) (c .owed) (withHead n (decode (geometry v) r)))
+      → lent t (putMid (h .graphics) (h .graphics + v .screen - h .graphics) m s) [] ≡ drawingWith (geometry v) f (shape (v .stride) (height (geometry v)) b) (lent r m [])
+  unfolding drawingWith drawn
+  drew-with f shape c s {a} {b} {k} p q e j t =
+      let g = geometry v in
+      let z = w .known .suits in
+      let at = h .graphics in
+      let d = shape (v .stride) (height g) b in
+      let part = take (at + v .screen - at) (drop at m) in
+      let o : drawn c s ≡ drawnOn (v .stride) (height g) d (window at (screenBytes g) m) =
+      e ∙ (λ i. drawnOn (q i .stride) (q i .height) (shape (q i .stride) (q i .height) (p i)) (part-window at (v .screen) m i))
+      ∙ (λ i. drawnOn (v .stride) (z .is-height i) (shape (v .stride) (z .is-height i) b) (window at (z .is-screen i) m)) in
+      let long : length s ≡ at + v .screen - at =
+      ap (λ (x : Drawn). length (x .screen)) e ∙ drawn-length (k .stride) (k .height) (shape (k .stride) (k .height) a) part ∙ part-length at (v .screen) m screen-room ∙ omega arith in
+      let back = part-back at (at + v .screen) m s (omega arith) long ∙ ap (λ (x : Drawn). withWindow at (x .screen) m) o in
+      let rec = t ∙ (λ i. encode g (marked g (o i .dirty) (o i .owed) (withHead (j i) (decode g r)))) in
+      (λ i. lent (rec i) (back i) [])
+      ∙ ap (λ (x : Head). lent (encode g (marked g (drawnOn (v .stride) (height g) d (window (x .graphics) (screenBytes g) m) .dirty) (drawnOn (v .stride) (height g) d (window (x .graphics) (screenBytes g) m) .owed) (withHead (f x) (decode g r))))
+      (withWindow (x .graphics) (drawnOn (v .stride) (height g) d (window (x .graphics) (screenBytes g) m) .screen) m) []) (w .head)
+
+  -- with the head that stands there
+  pub drew : {A : Type 0} (shape : ℕ → ℕ → A → Drawing) (c : Marks) (s : List ℕ) {a b : A} {k : Canvas} {t : List ℕ} → a ≡ b → k ≡ canvas v
+      → drawn c s ≡ drawnOn (k .stride) (k .height) (shape (k .stride) (k .height) a) (take (h .graphics + v .screen - h .graphics) (drop (h .graphics) m))
+      → t ≡ encode (geometry v) (marked (geometry v) (c .dirty) (c .owed) (decode (geometry v) r))
+      → answered 0 [] (lent t (putMid (h .graphics) (h .graphics + v .screen - h .graphics) m s) []) ≡ answered 0 [] (drawing (geometry v) (shape (v .stride) (height (geometry v)) b) (lent r m []))
+  drew shape c s p q e t =
+      let g = geometry v in
+      ap (answered 0 []) (drew-with (λ x. x) shape c s p q e refl (t ∙ ap (λ (x : Head). encode g (marked g (c .dirty) (c .owed) (withHead x (decode g r)))) (sym (w .head))))

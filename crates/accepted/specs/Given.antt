@@ -1,0 +1,16 @@
+-- What an accepted call is given: a glass, a record for it that passes, the record's head, and a memory of its length.
+use mathlib.Core.Path.{_≡_}
+use mathlib.Core.List.{List}
+use Prim.Native.Nat.{ℕ}
+use lib.ListN.{length}
+use Rattle.model.specs.declared.Head.{Head}
+use Rattle.model.specs.declared.glass.Glass.{Glass}
+use Rattle.model.specs.Geometry.{memoryBytes}
+use Rattle.model.specs.Glass.{geometry}
+use Rattle.model.specs.Record.{decode}
+use Rattle.laws.specs.Panels.{Known}
+
+pub record Given (v : Glass) (r : List ℕ) (h : Head) (m : List ℕ) : Type 0 where
+  pub known : Known v r
+  pub head : h ≡ decode (geometry v) r .head
+  pub memory : length m ≡ memoryBytes

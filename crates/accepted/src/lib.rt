@@ -1,0 +1,2 @@
+// What each accepted call does to the lent bytes, proved equal to `done` of the definitions.
+pub mod points;

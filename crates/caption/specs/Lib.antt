@@ -1,4 +1,0 @@
-pub mod Opened
-pub mod Ready
-pub mod Glyphs
-pub mod Placed
