@@ -1,1 +1,3 @@
 pub mod Drawing
+pub mod Sending
+pub mod Opening

@@ -20,6 +20,11 @@ getD-replicate zero k x = refl
 getD-replicate (suc n) zero x = refl
 getD-replicate (suc n) (suc k) x = getD-replicate n k x
 
+pub getD-in : {A : Type 0} (n k : ℕ) (x d : A) → k < n → getD (replicate n x) k d ≡ x
+getD-in zero k x d h = absurd (omega arith)
+getD-in (suc n) zero x d h = refl
+getD-in (suc n) (suc k) x d h = getD-in n k x d (omega arith)
+
 pub map-replicate : {A B : Type 0} (f : A → B) (n : ℕ) (a : A) → map f (replicate n a) ≡ replicate n (f a)
 map-replicate f zero a = refl
 map-replicate f (suc n) a = ap (λ m. f a ∷ m) (map-replicate f n a)

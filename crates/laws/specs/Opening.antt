@@ -12,16 +12,16 @@ use Rattle.model.specs.Geometry.{Geometry, height, cells}
 use Rattle.model.specs.Glass.{geometry, Suits}
 use Rattle.model.specs.Memory.{zeros, withWindow}
 use Rattle.model.specs.Rects.{none}
-use Rattle.model.specs.Bytes.{rectsBytes, rectBytes, wordsBytes, fourBytes}
-use Rattle.model.specs.Record.{Part, head, panel, keys, flags, offset, written, total, layout, size, pendingBytes, recordBytes, Pending, State, encode, bytesOf, bytesOfHead, bytesOfPending, panelOf, nothingPending}
+use Rattle.model.specs.Bytes.{rectsBytes, rectBytes, wordsBytes, fourBytes, Words}
+use Rattle.model.specs.Record.{Part, head, panel, keys, flags, offset, written, total, layout, size, pendingBytes, recordBytes, Pending, State, decode, encode, bytesOf, bytesOfHead, bytesOfPending, panelOf, nothingPending}
 use Rattle.model.specs.Marks.{whole, owing}
 use Rattle.model.specs.Open.{clearHead, clearFlags, openPending, openState}
-use Rattle.laws.specs.ListLaws.{getD-replicate, map-replicate}
-use Rattle.laws.specs.Flags.{no-flags}
+use Rattle.laws.specs.ListLaws.{getD-replicate, getD-in, map-replicate}
+use Rattle.laws.specs.Flags.{no-flags, length-no-flags}
 use Rattle.laws.specs.Layout.{AllShort}
-use Rattle.laws.specs.PartLists.{written-same}
-use Rattle.laws.specs.Record.{Sized, has-head, has-keys, part-in, put-head, put-keys}
-use Rattle.laws.specs.Panels.{markFrom, marks-state}
+use Rattle.laws.specs.PartLists.{written-same, length-written}
+use Rattle.laws.specs.Record.{Sized, all-owed, sizes, keys-back, has-head, has-keys, part-in, put-head, put-keys}
+use Rattle.laws.specs.Panels.{markFrom, marks-state, length-owing}
 
 -- ---- zeros
 
@@ -99,3 +99,25 @@ opens {v} {h = h} {w = w} r graphics text version ks z n m e t f k q j =
   where
     short : (i : ℕ) → 0 ≤ i → i < v .panels → AllShort (panelOf (geometry v) (blank (geometry v) h ks) i .owed)
     short i o l = rw (getD-replicate (v .panels) i (nothingPending (geometry v))) (none-short (v .bands))
+
+-- ---- what open wrote: its length, and its keys read again
+
+open-sized : (g : Geometry) (graphics text version : ℕ) (ks : List ℕ) → length ks ≡ 8 → Sized g (openState g graphics text version ks)
+unfolding openState openPending nothingPending
+open-sized g graphics text version ks n =
+    record {
+      owed = all-owed g (openState g graphics text version ks) (length-replicate (g .panels) (openPending g)) (λ k h. ap (λ (p : Pending). length (p .owed)) (getD-in (g .panels) k (openPending g) (nothingPending g) h)
+          ∙ length-owing g (whole (g .stride) (height g)) (nothingPending g) ∙ length-replicate (g .bands) none);
+      keys = n;
+      flags = length-no-flags (cells g);
+    }
+
+pub open-length : (g : Geometry) (graphics text version : ℕ) (ks : List ℕ) → length ks ≡ 8 → length (encode g (openState g graphics text version ks)) ≡ recordBytes g
+unfolding encode
+open-length g graphics text version ks n =
+    let s = openState g graphics text version ks in
+    length-written (size g) (bytesOf g s) (layout g) (sizes g s (open-sized g graphics text version ks n))
+
+pub open-keys : (g : Geometry) (graphics text version : ℕ) (ks : List ℕ) → length ks ≡ 8 → Words ks → decode g (encode g (openState g graphics text version ks)) .keys ≡ ks
+unfolding openState
+open-keys g graphics text version ks n w = keys-back g (openState g graphics text version ks) (open-sized g graphics text version ks n) w

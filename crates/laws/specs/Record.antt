@@ -14,7 +14,7 @@ use Rattle.model.specs.declared.Head.{Head}
 use Rattle.model.specs.Geometry.{Geometry, width, height, rows, columns, cells, screenBytes}
 use Rattle.model.specs.Memory.{window, withWindow}
 use Rattle.model.specs.Rects.{none, fits}
-use Rattle.model.specs.Bytes.{four, rectAt, rectsAt, wordsAt, rectBytes, rectsBytes, wordsBytes, fourBytes, Bytes}
+use Rattle.model.specs.Bytes.{four, rectAt, rectsAt, wordsAt, rectBytes, rectsBytes, wordsBytes, fourBytes, Bytes, Words}
 use Rattle.model.specs.Flags.{flagsIn, bytesOfFlags}
 use Rattle.model.specs.Record.{Part, head, panel, keys, flags, tag, same, has, written, total, offset, panelsFrom, layout, size, at, part, recordBytes, pendingBytes, Pending, State, decode, encode, listing, headOf, pendingOf, bytesOfHead, bytesOfPending, bytesOf, panelOf, nothingPending, bandsFit, windows, windowTests, headTests, headFits, pendingFits, partFits, valid, withHead, withPanel, withKeyWords, withFlags, WellPending, WellFormed}
 use Rattle.model.specs.Glass.{IsGlass}
@@ -337,6 +337,13 @@ listing-is f n l d e h =
     ext-getD d (listing f 0 n) l (length-listing f 0 n ∙ sym e)
     (λ i b. let c : i < n = omega (arith, length-listing f 0 n) in getD-listing f 0 n i d c ∙ ap f (zero-add i) ∙ h i c)
 
+pub keys-back : (g : Geometry) (s : State) → Sized g s → Words (s .keys) → decode g (encode g s) .keys ≡ s .keys
+unfolding decode bytesOf
+keys-back g s z k =
+    ap (λ (c : List ℕ). wordsAt 8 c 0) (part-encode g s z keys (has-keys g))
+    ∙ ap (λ (n : ℕ). wordsAt n (wordsBytes (s .keys)) 0) (sym (z .keys)) ∙ ap (λ (l : List ℕ). wordsAt (length (s .keys)) l 0) (sym (append-nil (wordsBytes (s .keys))))
+    ∙ words-back (s .keys) [] k
+
 pub decode-encode : (g : Geometry) (s : State) → IsGlass g → WellFormed g s → decode g (encode g s) ≡ s
 unfolding decode bytesOf
 decode-encode g s k f =
@@ -346,9 +353,7 @@ decode-encode g s k f =
       head = (ap headOf (b head (has-head g)) ∙ head-back g (s .head) (f .head)) i;
       panels = listing-is (λ j. pendingOf g (part g (panel j) (encode g s)) 0) (g .panels) (s .panels) (nothingPending g) (f .count)
           (λ j h. ap (λ (c : List ℕ). pendingOf g c 0) (b (panel j) (has-panel g j h)) ∙ pending-back g (panelOf g s j) k (f .panels j h)) i;
-      keys = (ap (λ (c : List ℕ). wordsAt 8 c 0) (b keys (has-keys g))
-          ∙ ap (λ (n : ℕ). wordsAt n (wordsBytes (s .keys)) 0) (sym (f .words)) ∙ ap (λ (l : List ℕ). wordsAt (length (s .keys)) l 0) (sym (append-nil (wordsBytes (s .keys))))
-          ∙ words-back (s .keys) [] (f .keys)) i;
+      keys = keys-back g s z (f .keys) i;
       flags = (ap (flagsIn (cells g)) (b flags (has-flags g)) ∙ flags-written (cells g) (s .flags) (f .flags)) i;
     }
 

@@ -9,19 +9,21 @@ use lib.Seq.{set-getD}
 use Rattle.model.specs.declared.Rect.{Rect}
 use Rattle.model.specs.declared.glass.Glass.{Glass}
 use Rattle.model.specs.Geometry.{Geometry, width, height}
-use Rattle.model.specs.Glass.{geometry, IsGlass}
+use Rattle.model.specs.Glass.{geometry}
 use Rattle.model.specs.Memory.{withWindow}
-use Rattle.model.specs.Rects.{none, isEmpty, fits}
+use Rattle.model.specs.Rects.{none, isEmpty}
 use Rattle.model.specs.Bytes.{rectAt, rectsAt, rectBytes, rectsBytes, four, fourBytes, Bytes}
-use Rattle.model.specs.Record.{panel, at, part, Pending, decode, encode, pendingOf, panelOf, nothingPending, bandsFit, pendingFits, partFits, withPanel, withPanels}
+use Rattle.model.specs.Record.{panel, at, part, Pending, decode, encode, pendingOf, panelOf, nothingPending, withPanel, withPanels}
 use Rattle.model.specs.Sends.{firstOwed, restOwed, takeOwed, nextLine, lineSent, sendPending}
-use Rattle.laws.specs.Tests.{by-test, if-cases, either, and-true, clash}
-use Rattle.laws.specs.Rects.{passes-fits}
+use Rattle.laws.specs.Tests.{by-test, either, clash}
+use Rattle.laws.specs.Rects.{Proper}
 use Rattle.laws.specs.Memory.{window-extend}
 use Rattle.laws.specs.Layout.{length-rects, length-rectsAt, rects-again}
 use Rattle.laws.specs.Bands.{length-restOwed}
-use Rattle.laws.specs.Record.{encode-decode, panel-decoded, part-passes, has-panel, put-panel, sized-decode, count-decode}
+use Rattle.laws.specs.Record.{encode-decode, panel-decoded, put-panel, sized-decode, count-decode}
 use Rattle.laws.specs.Windows.{pending-part}
+use Rattle.laws.specs.States.{well-formed}
+use Rattle.laws.specs.Pendings.{hand-fits, well-take, to-send}
 use Rattle.laws.specs.Owed.{Took, rested, window-again}
 use Rattle.laws.specs.Panels.{Known, panel-room}
 
@@ -94,25 +96,6 @@ three a n x y z d e f h =
     ∙ window-extend a (8 * n + 8) (x ++ y) z d (omega (arith, length-append x y)) h
     ∙ ap (λ (u : List ℕ). withWindow a u d) (append-assoc x y z)
 
--- ---- the line in hand has a line after it
-
-first-top : (w band lo : ℕ) (rs : List Rect) → bandsFit w band lo rs ≡ true → lo + length rs * band ≤ 65535 → firstOwed rs .top < 65535
-unfolding bandsFit firstOwed
-first-top w band lo [] e h = omega arith
-first-top w band lo (r ∷ rs) e h =
-    let p = and-true (fits w lo (lo + band) r) (bandsFit w band (lo + band) rs) e in
-    if-cases (λ (q : Rect). q .top < 65535) (isEmpty r)
-    (λ t. first-top w band (lo + band) rs (p .1) (omega arith))
-    (λ t. either (passes-fits w lo (lo + band) r (p .0)) (λ z. rw z (omega arith)) (λ z. omega (arith, z)))
-
-hand-top : (g : Geometry) (p : Pending) → IsGlass g → pendingFits g p ≡ true → length (p .owed) ≡ g .bands → takeOwed p .hand .top < 65535
-unfolding takeOwed pendingFits
-hand-top g p z e n =
-    let t = and-true (bandsFit (width g) (g .band) 0 (p .owed)) (fits (width g) 0 (height g) (p .hand)) e in
-    by-test (isEmpty (p .hand))
-    (λ y. rw y (first-top (width g) (g .band) 0 (p .owed) (t .0) (rw n (omega (arith, z .high)))))
-    (λ y. rw y (either (passes-fits (width g) 0 (height g) (p .hand) (t .1)) (λ x. rw x (omega arith)) (λ x. omega (arith, x, z .high))))
-
 -- ---- as the code goes, with the glass by value
 
 module _ {v : Glass} {r : List ℕ} (k : ℕ) (w : Known v r) (h : k < v .panels) where
@@ -120,13 +103,13 @@ module _ {v : Glass} {r : List ℕ} (k : ℕ) (w : Known v r) (h : k < v .panels
   pub panel-here : panelOf (geometry v) (decode (geometry v) r) k ≡ pendingOf (geometry v) r (at (geometry v) (panel k))
   panel-here = panel-decoded (geometry v) r k h ∙ pending-part (geometry v) r k
 
+  -- what is in hand lies on the screen, so that a line can follow its top
   pub line-follows : {a : ℕ} {q : Rect} {r′ : List ℕ} → a ≡ at (geometry v) (panel k) → InHand (geometry v) a r q r′ → q .top < 65535
-  unfolding partFits
   line-follows {a} e i =
       let g = geometry v in
-      let p = pendingOf g r (at g (panel k)) in
-      rw (i .hand ∙ ap (λ (x : ℕ). takeOwed (pendingOf g r x) .hand) e)
-      (hand-top g p (w .suits .glass) (ap (pendingFits g) (sym (pending-part g r k)) ∙ part-passes g r (w .passing) (panel k) (has-panel g k h)) (length-rectsAt (g .bands) r (at g (panel k))))
+      let p = panelOf g (decode g r) k in
+      rw (i .hand ∙ ap (λ (x : ℕ). takeOwed (pendingOf g r x) .hand) e ∙ ap (λ (x : Pending). takeOwed x .hand) (sym panel-here))
+      (either (hand-fits g (takeOwed p) (well-take g p (well-formed g r (w .passing) .panels k h))) (λ z. rw z (omega arith)) (λ z. omega (arith, z, w .suits .glass .high)))
 
   -- idle: the record stays
   pub idle : {a : ℕ} {q : Rect} {r′ : List ℕ} {t : Bool} → a ≡ at (geometry v) (panel k) → InHand (geometry v) a r q r′ → t ≡ isEmpty q → t ≡ true
@@ -184,3 +167,11 @@ pub line-sent : {v : Glass} {r : List ℕ} (k : ℕ) → Known v r → k < v .pa
     → InHand (geometry v) a r q r′ → q ≡ takeOwed (panelOf (geometry v) (decode (geometry v) r) k) .hand
 line-sent {v} {r} k w h e i =
     i .hand ∙ ap (λ (x : ℕ). takeOwed (pendingOf (geometry v) r x) .hand) e ∙ ap (λ (x : Pending). takeOwed x .hand) (sym (panel-here k w h))
+
+-- the line that is sent lies on the screen
+pub sent-proper : {v : Glass} {k : ℕ} {r : List ℕ} {q : Rect} {r′ : List ℕ} {t : Bool} → Known v r → k < v .panels → SentOn v k r q r′ → t ≡ isEmpty q → t ≡ false
+    → Proper (width (geometry v)) 0 (height (geometry v)) q
+sent-proper {v} {k} {r} w h i e f =
+    let g = geometry v in
+    let p = panelOf g (decode g r) k in
+    rw (i .line) (to-send g p (well-formed g r (w .passing) .panels k h) (ap isEmpty (sym (i .line)) ∙ sym e ∙ f))

@@ -1,0 +1,57 @@
+-- A send: idle, or the line in hand copied and counted.
+use mathlib.Core.Path.{_≡_, sym, ap, _∙_}
+use mathlib.Core.List.{List, [], _∷_}
+use mathlib.Core.Bool.{Bool, true, false}
+use Prim.Native.Nat.{ℕ, _+_, _-_, _*_, _≤_}
+use native.Mathlib.Omega.{arith}
+use lib.ListN.{length, take, drop}
+use Rattle.model.specs.declared.Canvas.{Canvas}
+use Rattle.model.specs.declared.Rect.{Rect}
+use Rattle.model.specs.declared.Head.{Head}
+use Rattle.model.specs.declared.Sent.{Sent}
+use Rattle.model.specs.declared.glass.Glass.{Glass}
+use Rattle.model.specs.Geometry.{height, screenBytes}
+use Rattle.model.specs.Glass.{geometry, canvas}
+use Rattle.model.specs.Memory.{window}
+use Rattle.model.specs.Rects.{isEmpty}
+use Rattle.model.specs.Record.{decode, panelOf}
+use Rattle.model.specs.Sends.{takeOwed, lineNumbers, sendNumbers, copyLine, sendPanel}
+use Rattle.model.specs.Calls.{send, lent, answered, sentNumbers, done}
+use Rattle.laws.specs.Parts.{part-window}
+use Rattle.laws.specs.Sending.{SentOn, sent-proper}
+use Rattle.send.specs.Line.{LineOn}
+use Rattle.accepted.specs.Given.{Given}
+use Rattle.accepted.specs.NoLine.{noLine}
+use Rattle.accepted.proofs.Drawing.{screen-part}
+
+module _ {v : Glass} {r : List ℕ} {h : Head} {m : List ℕ} (w : Given v r h m) {q : Rect} {s : List ℕ} (i : SentOn v 0 r q s) {t : Bool} (e : t ≡ isEmpty q) where
+  empty-as : {u : Bool} → t ≡ u → isEmpty (takeOwed (panelOf (geometry v) (decode (geometry v) r) 0) .hand) ≡ u
+  empty-as f = ap isEmpty (sym (i .line)) ∙ sym e ∙ f
+
+  pub idles : (p : List ℕ) {a : Sent} → t ≡ true → a ≡ noLine 0 → answered (a .code) (sentNumbers a) (lent s m p) ≡ done (geometry v) send (lent r m p)
+  unfolding done sendNumbers sendPanel
+  idles p f a = rw (empty-as f) (λ j. answered (a j .code) (sentNumbers (a j)) (lent (i .left j) m p))
+
+  pub may-copy : {k : Canvas} {p : List ℕ} → t ≡ false → k ≡ canvas v → length p ≡ screenBytes (geometry v)
+      → LineOn (k .stride) (k .height) (take (h .graphics + v .screen - h .graphics) (drop (h .graphics) m)) p q
+  may-copy f c l =
+      let z = w .known .suits in
+      let n = sent-proper (w .known) (z .glass .one) i e f in
+      rw c (record {
+        screen = screen-part w refl;
+        panel = l ∙ ap (λ (x : ℕ). v .stride * x) (sym (z .is-height));
+        wide = n .wide;
+        inside = n .right-in;
+        above = omega (arith, n, z .is-height);
+      })
+
+  pub sends-line : {k : Canvas} {p b : List ℕ} {a : Sent} → t ≡ false → k ≡ canvas v → b ≡ copyLine (k .stride) q (take (h .graphics + v .screen - h .graphics) (drop (h .graphics) m)) p
+      → a .code ≡ 0 → sentNumbers a ≡ lineNumbers q → answered (a .code) (sentNumbers a) (lent s m b) ≡ done (geometry v) send (lent r m p)
+  unfolding done sendNumbers sendPanel
+  sends-line {k} {p} f c d o l =
+      let g = geometry v in
+      let screen = λ (x : Head). window (x .graphics) (screenBytes g) m in
+      rw (empty-as f)
+      ((λ j. answered (o j) (l j) (lent (i .left j) m ((d ∙ (λ y. copyLine (c y .stride) q (part-window (h .graphics) (v .screen) m y) p) ∙ (λ y. copyLine (v .stride) q (window (h .graphics) (w .known .suits .is-screen y) m) p)
+      ∙ ap (λ (x : Head). copyLine (v .stride) q (window (x .graphics) (screenBytes g) m) p) (w .head)) j)))
+      ∙ ap (λ (x : Rect). answered 0 (lineNumbers x) (lent (done g send (lent r m p) .left .rec) m (copyLine (v .stride) x (window (decode g r .head .graphics) (screenBytes g) m) p))) (i .line))

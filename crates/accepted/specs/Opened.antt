@@ -1,0 +1,17 @@
+-- What an accepted open is given: a glass, a record and a memory of their lengths, whatever their bytes, and eight key words.
+use mathlib.Core.Path.{_≡_}
+use mathlib.Core.List.{List}
+use Prim.Native.Nat.{ℕ}
+use lib.ListN.{length}
+use Rattle.model.specs.declared.glass.Glass.{Glass}
+use Rattle.model.specs.Geometry.{memoryBytes}
+use Rattle.model.specs.Bytes.{Words}
+use Rattle.model.specs.Glass.{geometry, Suits}
+use Rattle.model.specs.Record.{recordBytes}
+
+pub record Opened (v : Glass) (r m : List ℕ) (keys : List ℕ) : Type 0 where
+  pub suits : Suits v
+  pub sized : length r ≡ recordBytes (geometry v)
+  pub memory : length m ≡ memoryBytes
+  pub count : length keys ≡ 8
+  pub words : Words keys

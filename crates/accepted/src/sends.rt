@@ -1,0 +1,59 @@
+// Sends: what the record gives, then the copy of that line.
+use marks::rect;
+use model::Head;
+use model::Rect;
+use model::Sent;
+use model::glass::Glass;
+use record::glass::canvas_of;
+use send::line;
+use send::pending;
+ghost use mathlib.Core.Path.{_≡_};
+ghost use lib.ListN.{length};
+ghost use Rattle.model.specs.Geometry.{screenBytes};
+ghost use Rattle.model.specs.Glass.{geometry};
+ghost use Rattle.model.specs.Sends.{lineNumbers};
+ghost use Rattle.model.specs.Calls.{lent, answered, sentNumbers, done};
+ghost use Rattle.model.specs.Calls as calls;
+ghost use Rattle.accepted.specs.Given.{Given};
+ghost use Rattle.accepted.specs.NoLine.{noLine};
+
+// No line: idle, or a refusal.
+pub fn no_line(code: u32) -> Sent
+    ensures { λ r. ⌜ r ≡ noLine code ⌝ }
+{
+    Sent {
+        code: code,
+        sent: 0,
+        line: 0,
+        left: 0,
+        right: 0,
+    }
+}
+
+// The line that a rectangle in hand gives.
+fn sent_line(q: Rect) -> Sent
+    ensures { λ r. ⌜ (r .code ≡ 0) × (sentNumbers r ≡ lineNumbers q) ⌝ }
+{
+    Sent {
+        code: 0,
+        sent: 1,
+        line: q.top as u32,
+        left: q.left as u32,
+        right: q.right as u32,
+    }
+}
+
+pub fn send(rec: &mut [u8], memory: &[u8], panel: &mut [u8], glass: Glass, h: Head) -> Sent
+    requires { ⌜ Given glass (now rec) h (now memory) ⌝ }
+    requires { ⌜ length (now panel) ≡ screenBytes (geometry glass) ⌝ }
+    ensures { λ r. ⌜ answered (r .code) (sentNumbers r) (lent (now (rec .exit)) (now (memory .entry)) (now (panel .exit))) ≡ done (geometry glass) calls.send (lent (now (rec .entry)) (now (memory .entry)) (now (panel .entry))) ⌝ }
+{
+    let q = pending::send_panel(rec, glass, 0);
+    if rect::is_empty(q) {
+        return no_line(0);
+    }
+    let from = h.graphics as usize;
+    let to = from + glass.screen;
+    line::copy_line(canvas_of(glass), &memory[from..to], panel, q);
+    sent_line(q)
+}
