@@ -49,7 +49,7 @@ module _ (g : Geometry) where
       → Step g 0 l opens (done g (opening graphics text version keys) l .left)
   unfolding done answered
   opening-step z graphics text version keys l t a p =
-      let b = accepted-call g (opening graphics text version keys) l (omega arith) a .own in
+      let b = accepted-call g (opening graphics text version keys) l (omega arith) a .1 in
       open-step g 0 (z .one) z graphics text version keys l (b .0) (b .1 .0) (t .0) (t .1) p
 
   ellipse-mark : IsGlass g → (x y rx ry : ℕ) (fill : Bool) (d : DrawMode) → x < 256 → y < 256 → fits 256 0 256 (ellipse (g .stride) (height g) x y rx ry fill d .dirty) ≡ true
@@ -97,12 +97,12 @@ module _ (g : Geometry) where
     call-step (flush f) t a = flush-step g 0 (z .one) f l q
     call-step getRow t a = same-step g 0 l q
     call-step getColumn t a = same-step g 0 l q
-    call-step (setRow n) t a = changed-step g 0 (withRow n) l q (row-fits g (old g l .head) fit n (accepted-call g (setRow n) l (omega arith) a .own .0)) refl
-    call-step (setColumn n) t a = changed-step g 0 (withColumn n) l q (column-fits g (old g l .head) fit n (accepted-call g (setColumn n) l (omega arith) a .own .0)) refl
-    call-step (setScreenMode n) t a = cleared-step g l q 0 (z .one) n (accepted-call g (setScreenMode n) l (omega arith) a .own .0)
+    call-step (setRow n) t a = changed-step g 0 (withRow n) l q (row-fits g (old g l .head) fit n (accepted-call g (setRow n) l (omega arith) a .1 .0)) refl
+    call-step (setColumn n) t a = changed-step g 0 (withColumn n) l q (column-fits g (old g l .head) fit n (accepted-call g (setColumn n) l (omega arith) a .1 .0)) refl
+    call-step (setScreenMode n) t a = cleared-step g l q 0 (z .one) n (accepted-call g (setScreenMode n) l (omega arith) a .1 .0)
     call-step (setPrintMode n) t a =
         changed-step g 0 (withPrintMode n) l q
-        (print-fits g (old g l .head) fit n (print-listed (old g l .head .print) n (accepted-call g (setPrintMode n) l (omega arith) a .own .0))) refl
+        (print-fits g (old g l .head) fit n (print-listed (old g l .head .print) n (accepted-call g (setPrintMode n) l (omega arith) a .1 .0))) refl
     call-step blinkCursor t a = blink-step g 0 (z .one) l q
     call-step clearCursor t a = clear-cursor-step g 0 (z .one) l q
     call-step takeDirtyArea t a = changed-step g 0 (withDirty none) l q (dirty-fits g (old g l .head) fit none (none-fits 256 0 256)) refl

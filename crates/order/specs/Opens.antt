@@ -39,23 +39,25 @@ clear-fits g z graphics text version a b =
     true-all (headTests g (clearHead graphics text version))
     (a, (lt-ltb 0 (rows g) (z .row), (lt-ltb 0 (columns g) (omega (arith, z .columns)), (refl, (refl, (refl, (b, (refl, tt))))))))
 
+pub open-formed : (g : Geometry) → IsGlass g → (graphics text version : ℕ) (keys : List ℕ) → windows g graphics text ≡ true → leb version 1 ≡ true → length keys ≡ 8 → Words keys
+    → WellFormed g (openState g graphics text version keys)
+unfolding openState
+open-formed g z graphics text version keys a b n ws = record {
+  head = clear-fits g z graphics text version a b;
+  count = length-replicate (g .panels) (openPending g);
+  panels = λ k h. rw (getD-replicate (g .panels) k (openPending g) (nothingPending g) h) (well-open g);
+  words = n;
+  keys = ws;
+  flags = length-no-flags (cells g);
+}
+
 -- over any record, and any memory
 pub open-step : (g : Geometry) (k : ℕ) → k < g .panels → IsGlass g → (graphics text version : ℕ) (keys : List ℕ) (l : Lent) → windows g graphics text ≡ true → leb version 1 ≡ true
     → length keys ≡ 8 → Words keys → length (l .panel) ≡ screenBytes g → Step g k l opens (lent (encode g (openState g graphics text version keys)) (clearMemory keys) (l .panel))
 unfolding openState affected
 open-step g k there z graphics text version keys l a b n ws p =
-    stored g k z l opens (openState g graphics text version keys) (clearMemory keys) (l .panel) formed (length-clear keys) p
+    stored g k z l opens (openState g graphics text version keys) (clearMemory keys) (l .panel) (open-formed g z graphics text version keys a b n ws) (length-clear keys) p
     (record { pending = getD-replicate (g .panels) k (openPending g) (nothingPending g) there; panel = refl; screen = whole-agrees (g .stride) (height g) _ _ })
-  where
-    formed : WellFormed g (openState g graphics text version keys)
-    formed = record {
-      head = clear-fits g z graphics text version a b;
-      count = length-replicate (g .panels) (openPending g);
-      panels = λ i h. rw (getD-replicate (g .panels) i (openPending g) (nothingPending g) h) (well-open g);
-      words = n;
-      keys = ws;
-      flags = length-no-flags (cells g);
-    }
 
 pub reset-step : (g : Geometry) (k : ℕ) → k < g .panels → (l : Lent) → Lendable g l
     → Step g k l (marks (whole (g .stride) (height g))) (lent (encode g (resetState g (old g l))) (clearMemory (old g l .keys)) (l .panel))

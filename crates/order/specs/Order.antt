@@ -9,22 +9,18 @@ use lib.ListN.{length, replicate}
 use borrow.Author.Tests.{eq-eqb}
 use Rattle.model.specs.Geometry.{Geometry, height, screenBytes, memoryBytes}
 use Rattle.model.specs.Glass.{IsGlass}
-use Rattle.model.specs.Record.{Pending, decode, panelOf, nothingPending}
-use Rattle.model.specs.Refusals.{ruled}
+use Rattle.model.specs.Record.{Pending, nothingPending}
+use Rattle.model.specs.Refusals.{refusal, ruled}
 use Rattle.model.specs.Sends.{sendNumbers}
 use Rattle.model.specs.Calls.{Call, opening, send, Lent, answered, done, outcome}
 use Rattle.model.specs.Lists.{accepted, Typed, Item, here, after, run, opens, effect, itemEffect, affected, reckoned, linesLeft, differing}
-use Rattle.laws.specs.Calls.{call-accepted}
+use Rattle.laws.specs.Calls.{own-decide}
 use Rattle.order.specs.Pending.{idle-iff, lines-bound}
 use Rattle.order.specs.Held.{Held, held-open, none-left}
 use Rattle.order.specs.Sim.{good-all, held-all, pending-all, lines-all}
 use Rattle.order.specs.Step.{Lendable, Step, view}
 use Rattle.order.specs.EachCall.{opening-step, simulates}
 use Rattle.order.specs.Accepted.{acceptedCall, acceptedCalls, leftBy, left-run, run-all, reckoned-all, only-sends, after-accepted, effect-accepted}
-
--- what panel 0 has still to be sent, where a send goes
-abbrev pub pendingIn : Geometry → Lent → Pending
-pendingIn g l = panelOf g (decode g (l .rec)) 0
 
 -- what holds of the lent bytes between calls
 pub record Standing (g : Geometry) (l : Lent) : Type 0 where
@@ -42,11 +38,11 @@ module _ (g : Geometry) where
         held = held-all g (Lendable g) (after g) (view g 0) (itemEffect g) (simulates g) l is (s .lendable) (s .held);
       })
 
-  pub pending-run : (l : Lent) (is : List (Item g)) → Standing g l → pendingIn g (run g l is) ≡ reckoned g (pendingIn g l) l is
+  pub pending-run : (l : Lent) (is : List (Item g)) → Standing g l → view g 0 (run g l is) .pending ≡ reckoned g (view g 0 l .pending) l is
   pending-run l is s =
-      ap (pendingIn g) (run-all g l is)
+      ap (λ (m : Lent). view g 0 m .pending) (run-all g l is)
       ∙ pending-all g (Lendable g) (after g) (view g 0) (itemEffect g) (simulates g) l is (s .lendable)
-      ∙ sym (reckoned-all g (pendingIn g l) l is)
+      ∙ sym (reckoned-all g (view g 0 l .pending) l is)
 
   -- ---- after the opening, lent any record, any memory and a panel
 
@@ -59,7 +55,7 @@ module _ (g : Geometry) where
     standing-open = record { lendable = first .lendable; held = held-open g (view g 0 (after g l (here (opening graphics text version keys) t))) (first .lendable .panel) (first .follows .pending) }
 
     -- owed and in hand are empty at first; the opening is the first item of the list
-    pub pending-open : (is : List (Item g)) → pendingIn g (run g l (here (opening graphics text version keys) t ∷ is))
+    pub pending-open : (is : List (Item g)) → view g 0 (run g l (here (opening graphics text version keys) t ∷ is)) .pending
         ≡ reckoned g (nothingPending g) l (here (opening graphics text version keys) t ∷ is)
     unfolding run reckoned affected effect
     pending-open is =
@@ -73,27 +69,27 @@ module _ (g : Geometry) where
   module _ (l : Lent) (s : Standing g l) where
     -- a send is accepted
     pub sendable : accepted g send l
-    sendable = call-accepted g send l (record {
+    unfolding refusal
+    sendable = own-decide g send l (record {
       sized = s .lendable .passing .sized;
       lengths = λ i. eq-eqb (length (l .memory)) memoryBytes (s .lendable .memory) i && eq-eqb (length (l .panel)) (screenBytes g) (s .lendable .panel) i;
       state = (s .lendable .passing .passes, tt);
-      own = tt;
     })
 
     pub send-code : outcome g send l .code ≡ 0
     unfolding outcome ruled done answered
     send-code = rw sendable
 
-    pub send-numbers : outcome g send l .numbers ≡ sendNumbers (pendingIn g l)
+    pub send-numbers : outcome g send l .numbers ≡ sendNumbers (view g 0 l .pending)
     unfolding outcome ruled done answered
     send-numbers = rw sendable
 
-    pub bound : linesLeft (pendingIn g l) ≤ (g .band - 1) + height g
-    bound = lines-bound g (pendingIn g l) (s .held .well) (s .held .low)
+    pub bound : linesLeft (view g 0 l .pending) ≤ (g .band - 1) + height g
+    bound = lines-bound g (view g 0 l .pending) (s .held .well) (s .held .low)
 
     -- and answers four zeros exactly where no line is left
-    pub idle-lines : (outcome g send l .numbers ≡ 0 ∷ 0 ∷ 0 ∷ 0 ∷ []) ↔ (linesLeft (pendingIn g l) ≡ 0)
-    idle-lines = rw send-numbers (idle-iff g (pendingIn g l) (s .held .well))
+    pub idle-lines : (outcome g send l .numbers ≡ 0 ∷ 0 ∷ 0 ∷ 0 ∷ []) ↔ (linesLeft (view g 0 l .pending) ≡ 0)
+    idle-lines = rw send-numbers (idle-iff g (view g 0 l .pending) (s .held .well))
 
   -- ---- a further list whose accepted calls are sends
 
@@ -109,13 +105,13 @@ module _ (g : Geometry) where
   none-more l more e = left-run g l more ∙ ap (leftBy g l) e
 
   module _ (l : Lent) (s : Standing g l) (more : List (Item g)) (n : ℕ) (e : acceptedCalls g l more ≡ replicate n send) where
-    pub lines-more : linesLeft (pendingIn g (run g l more)) ≡ linesLeft (pendingIn g l) - n
+    pub lines-more : linesLeft (view g 0 (run g l more) .pending) ≡ linesLeft (view g 0 l .pending) - n
     lines-more =
         let q = only-sends g l more n e in
-        ap (λ (m : Lent). linesLeft (pendingIn g m)) (run-all g l more)
+        ap (λ (m : Lent). linesLeft (view g 0 m .pending)) (run-all g l more)
         ∙ lines-all g (Lendable g) (after g) (view g 0) (itemEffect g) (simulates g) l more (s .lendable) (s .held) (q .quiet)
-        ∙ ap (λ (c : ℕ). linesLeft (pendingIn g l) - c) (q .counted)
+        ∙ ap (λ (c : ℕ). linesLeft (view g 0 l .pending) - c) (q .counted)
 
-    pub level : linesLeft (pendingIn g l) ≤ n → differing g (view g 0 (run g l more) .screen) (view g 0 (run g l more) .panel) ≡ 0
+    pub level : linesLeft (view g 0 l .pending) ≤ n → differing g (view g 0 (run g l more) .screen) (view g 0 (run g l more) .panel) ≡ 0
     level h =
         none-left g (view g 0 (run g l more)) (standing-run l more s .held) (omega (arith, lines-more))
