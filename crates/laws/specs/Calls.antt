@@ -1,16 +1,16 @@
 -- Refusals: a call is accepted exactly where all its tests pass.
-use mathlib.Core.Path.{_≡_, refl}
+use mathlib.Core.Path.{_≡_, refl, ap}
 use mathlib.Core.Bool.{true}
 use mathlib.Core.List.{List, [], _∷_, _++_}
-use Prim.Native.Nat.{_<_}
+use Prim.Native.Nat.{ℕ, _<_}
 use native.Mathlib.Omega.{arith}
 use lib.Dec.{eqb}
 use lib.ListN.{length}
 use borrow.Author.Tests.{eqb-true, eq-eqb}
 use Rattle.model.specs.Geometry.{Geometry}
 use Rattle.model.specs.Record.{recordBytes}
-use Rattle.model.specs.Refusals.{Test, refusal}
-use Rattle.model.specs.Calls.{Call, Lent, Lending, to-open, record-only, with-memory, with-fonts, with-panel, takes, lengthsFit, stateTests, ownTests, refusals}
+use Rattle.model.specs.Refusals.{Test, refusal, ruled}
+use Rattle.model.specs.Calls.{Call, Lent, Lending, to-open, record-only, with-memory, with-fonts, with-panel, takes, lengthsFit, stateTests, ownTests, refusals, refused, done, outcome}
 use Rattle.model.specs.Lists.{accepted}
 use Rattle.laws.specs.Tests.{by-test, and-true}
 
@@ -80,3 +80,7 @@ accepted-call g c l n a =
     let k = and-true (eqb (length (l .rec)) (recordBytes g)) (lengthsFit g (takes c) l) (p .0) in
     let b = append-pass (stateTests g (takes c) l) (ownTests g c l) (p .1) in
     (record { sized = eqb-true (length (l .rec)) (recordBytes g) (k .0); lengths = k .1; state = b .0 }, b .1)
+
+pub outcome-done : (g : Geometry) (c : Call) (l : Lent) → accepted g c l → outcome g c l ≡ done g c l
+unfolding outcome ruled
+outcome-done g c l a = ap (λ (n : ℕ). ruled n (refused c l) (done g c l)) a

@@ -30,8 +30,7 @@ use Rattle.laws.specs.EllipseMarks.{ellipse-fits}
 use Rattle.laws.specs.Bitmaps.{bitmap-fits}
 use Rattle.laws.specs.Pages.{newline-sheet, print-sheet}
 use Rattle.laws.specs.Calls.{accepted-call}
-use Rattle.order.specs.Sim.{Simulates}
-use Rattle.order.specs.Step.{Lendable, Step, old, view, known, same-step}
+use Rattle.order.specs.Step.{Lendable, Step, old, known, same-step}
 use Rattle.order.specs.Formed.{row-fits, column-fits, print-fits, dirty-fits}
 use Rattle.order.specs.Opens.{open-step, reset-step}
 use Rattle.order.specs.Draws.{drawing-step}
@@ -117,6 +116,3 @@ module _ (g : Geometry) where
         go zero e = call-step c t e
         go (suc n) e = same-step g 0 l q
     item-step (elsewhere c o r) = same-step g 0 l q
-
-  pub simulates : Simulates g (Lendable g) (after g) (view g 0) (itemEffect g)
-  simulates = record { good = λ l i q. item-step l q i .lendable; follows = λ l i q. item-step l q i .follows }

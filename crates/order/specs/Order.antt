@@ -12,15 +12,15 @@ use Rattle.model.specs.Glass.{IsGlass}
 use Rattle.model.specs.Record.{Pending, nothingPending}
 use Rattle.model.specs.Refusals.{refusal, ruled}
 use Rattle.model.specs.Sends.{sendNumbers}
-use Rattle.model.specs.Calls.{Call, opening, send, Lent, answered, done, outcome}
+use Rattle.model.specs.Calls.{Call, opening, send, Lent, Outcome, answered, done, outcome}
 use Rattle.model.specs.Lists.{accepted, Typed, Item, here, after, run, opens, effect, itemEffect, affected, reckoned, linesLeft, differing}
-use Rattle.laws.specs.Calls.{own-decide}
-use Rattle.order.specs.Pending.{idle-iff, lines-bound}
-use Rattle.order.specs.Held.{Held, held-open, none-left}
-use Rattle.order.specs.Sim.{good-all, held-all, pending-all, lines-all}
+use Rattle.laws.specs.Tests.{either}
+use Rattle.laws.specs.Calls.{own-decide, outcome-done}
+use Rattle.order.specs.Pending.{lines-send, idle-iff, lines-bound}
+use Rattle.order.specs.Held.{Held, held-open, held-after, none-left}
 use Rattle.order.specs.Step.{Lendable, Step, view}
-use Rattle.order.specs.EachCall.{opening-step, simulates}
-use Rattle.order.specs.Accepted.{acceptedCall, acceptedCalls, leftBy, left-run, run-all, reckoned-all, only-sends, after-accepted, effect-accepted}
+use Rattle.order.specs.EachCall.{opening-step, item-step}
+use Rattle.order.specs.Accepted.{acceptedCall, acceptedCalls, leftBy, left-run, after-accepted, effect-accepted, sent-item, none-sent}
 
 -- what holds of the lent bytes between calls
 pub record Standing (g : Geometry) (l : Lent) : Type 0 where
@@ -30,19 +30,23 @@ pub record Standing (g : Geometry) (l : Lent) : Type 0 where
 module _ (g : Geometry) where
   -- ---- after every list
 
-  pub standing-run : (l : Lent) (is : List (Item g)) → Standing g l → Standing g (run g l is)
-  standing-run l is s =
-      rw (run-all g l is)
-      (record {
-        lendable = good-all g (Lendable g) (after g) (view g 0) (itemEffect g) (simulates g) l is (s .lendable);
-        held = held-all g (Lendable g) (after g) (view g 0) (itemEffect g) (simulates g) l is (s .lendable) (s .held);
-      })
+  standing-item : (l : Lent) (i : Item g) → Standing g l → Standing g (after g l i)
+  standing-item l i s =
+      let f = item-step g l (s .lendable) i in
+      record { lendable = f .lendable; held = held-after g (view g 0 l) (itemEffect g l i) (view g 0 (after g l i)) (s .held) (f .follows) }
 
+  pub standing-run : (l : Lent) (is : List (Item g)) → Standing g l → Standing g (run g l is)
+  unfolding run
+  standing-run l [] s = s
+  standing-run l (i ∷ is) s = standing-run (after g l i) is (standing-item l i s)
+
+  -- owed, in hand and lines sent are those that are reckoned from the effects
   pub pending-run : (l : Lent) (is : List (Item g)) → Standing g l → view g 0 (run g l is) .pending ≡ reckoned g (view g 0 l .pending) l is
-  pending-run l is s =
-      ap (λ (m : Lent). view g 0 m .pending) (run-all g l is)
-      ∙ pending-all g (Lendable g) (after g) (view g 0) (itemEffect g) (simulates g) l is (s .lendable)
-      ∙ sym (reckoned-all g (view g 0 l .pending) l is)
+  unfolding run reckoned
+  pending-run l [] s = refl
+  pending-run l (i ∷ is) s =
+      pending-run (after g l i) is (standing-item l i s)
+      ∙ ap (λ (p : Pending). reckoned g p (after g l i) is) (item-step g l (s .lendable) i .follows .pending)
 
   -- ---- after the opening, lent any record, any memory and a panel
 
@@ -77,12 +81,12 @@ module _ (g : Geometry) where
     })
 
     pub send-code : outcome g send l .code ≡ 0
-    unfolding outcome ruled done answered
-    send-code = rw sendable
+    unfolding done answered
+    send-code = ap (λ (o : Outcome). o .code) (outcome-done g send l sendable)
 
-    pub send-numbers : outcome g send l .numbers ≡ sendNumbers (view g 0 l .pending)
-    unfolding outcome ruled done answered
-    send-numbers = rw sendable
+    send-numbers : outcome g send l .numbers ≡ sendNumbers (view g 0 l .pending)
+    unfolding done answered
+    send-numbers = ap (λ (o : Outcome). o .numbers) (outcome-done g send l sendable)
 
     pub bound : linesLeft (view g 0 l .pending) ≤ (g .band - 1) + height g
     bound = lines-bound g (view g 0 l .pending) (s .held .well) (s .held .low)
@@ -104,14 +108,19 @@ module _ (g : Geometry) where
   unfolding leftBy
   none-more l more e = left-run g l more ∙ ap (leftBy g l) e
 
-  module _ (l : Lent) (s : Standing g l) (more : List (Item g)) (n : ℕ) (e : acceptedCalls g l more ≡ replicate n send) where
-    pub lines-more : linesLeft (view g 0 (run g l more) .pending) ≡ linesLeft (view g 0 l .pending) - n
-    lines-more =
-        let q = only-sends g l more n e in
-        ap (λ (m : Lent). linesLeft (view g 0 m .pending)) (run-all g l more)
-        ∙ lines-all g (Lendable g) (after g) (view g 0) (itemEffect g) (simulates g) l more (s .lendable) (s .held) (q .quiet)
-        ∙ ap (λ (c : ℕ). linesLeft (view g 0 l .pending) - c) (q .counted)
+  -- each send takes a line, as long as there are any
+  pub lines-more : (l : Lent) → Standing g l → (more : List (Item g)) (n : ℕ) → acceptedCalls g l more ≡ replicate n send
+      → linesLeft (view g 0 (run g l more) .pending) ≡ linesLeft (view g 0 l .pending) - n
+  unfolding run acceptedCalls affected
+  lines-more l s [] n e = omega (arith, none-sent g n e)
+  lines-more l s (i ∷ is) n e =
+      let t = sent-item g l i (acceptedCalls g (after g l i) is) n e in
+      let p = item-step g l (s .lendable) i .follows .pending in
+      let r = lines-more (after g l i) (standing-item l i s) is (t .others) (t .rest) in
+      either (t .own)
+      (λ o. let c = ap linesLeft (p ∙ ap (affected g (view g 0 l .pending)) (o .0)) in omega (arith, o .1))
+      (λ o. let c = ap linesLeft (p ∙ ap (affected g (view g 0 l .pending)) (o .0)) ∙ lines-send g (view g 0 l .pending) (s .held .well) in omega (arith, o .1))
 
-    pub level : linesLeft (view g 0 l .pending) ≤ n → differing g (view g 0 (run g l more) .screen) (view g 0 (run g l more) .panel) ≡ 0
-    level h =
-        none-left g (view g 0 (run g l more)) (standing-run l more s .held) (omega (arith, lines-more))
+  pub level : (l : Lent) → Standing g l → (more : List (Item g)) (n : ℕ) → acceptedCalls g l more ≡ replicate n send → linesLeft (view g 0 l .pending) ≤ n
+      → differing g (view g 0 (run g l more) .screen) (view g 0 (run g l more) .panel) ≡ 0
+  level l s more n e h = none-left g (view g 0 (run g l more)) (standing-run l more s .held) (omega (arith, lines-more l s more n e))

@@ -20,7 +20,7 @@ use Rattle.model.specs.Calls.{paintBitmap, Lent, Outcome, answered, refusals, r
 use Rattle.laws.specs.Calls.{own-decide}
 use Rattle.pictures.specs.Picture.{rect, sets, clears, Unmarked, Drew}
 use Rattle.pictures.specs.Writes.{hits, made, same, alike, allOn, eachMade, names, othersKept, pictured}
-use Rattle.pictures.specs.Drawings.{entered, accepted-on, outcome-done, drew}
+use Rattle.pictures.specs.Drawings.{entered, done-on, drew}
 
 -- the pixels of the byte's last seven bits
 abbrev pub leftOf81 : List PixelWrite
@@ -56,6 +56,4 @@ module _ (x y : ℤ) (mode : ℕ) (h : mode ≤ 4) (l : Lent) (u : Unmarked l) w
 
   pub source-accepted : outcome base (paintBitmap 65534 x y 9 1 mode) l .code ≡ 0
   unfolding sourceFits done answered
-  source-accepted =
-      let c = paintBitmap 65534 x y 9 1 mode in
-      ap (λ (o : Outcome). o .code) (outcome-done l u c (accepted-on l u c refl (le-leb mode 4 h, (refl, tt))))
+  source-accepted = ap (λ (o : Outcome). o .code) (done-on l u (paintBitmap 65534 x y 9 1 mode) refl (le-leb mode 4 h, (refl, tt)))

@@ -11,12 +11,10 @@ use Rattle.model.specs.Pixels.{PixelWrite, draw, seen}
 use Rattle.model.specs.Rects.{isEmpty, join, cut}
 use Rattle.model.specs.Memory.{screenOf, withScreen}
 use Rattle.model.specs.Record.{State, WellFormed, panelOf, listing, total, decode, encode}
-use Rattle.model.specs.Refusals.{ruled}
 use Rattle.model.specs.Marks.{Drawing, updateDirty, joinOwed, owing, owes, marked, drawnOn, withDirty}
-use Rattle.model.specs.Calls.{Call, Lent, Lending, with-memory, takes, lengthsFit, ownTests, answered, drawingWith, drawing, refused, done, outcome}
-use Rattle.model.specs.Lists.{accepted}
+use Rattle.model.specs.Calls.{Call, Lent, Lending, with-memory, takes, lengthsFit, ownTests, answered, drawingWith, drawing, done, outcome}
 use Rattle.laws.specs.Rects.{Fits}
-use Rattle.laws.specs.Calls.{AllPass, pass-accepted, Entered, own-decide}
+use Rattle.laws.specs.Calls.{AllPass, pass-accepted, Entered, own-decide, outcome-done}
 use Rattle.laws.specs.Memory.{window-same}
 use Rattle.laws.specs.Pixels.{length-draw}
 use Rattle.laws.specs.Record.{Passing, decode-encode}
@@ -24,7 +22,7 @@ use Rattle.laws.specs.Glasses.{base-glass}
 use Rattle.laws.specs.States.{well-formed}
 use Rattle.order.specs.Formed.{marked-formed}
 use Rattle.order.specs.Step.{screen-in, screen-long}
-use Rattle.pictures.specs.Picture.{Unmarked, Drew, withMarks, owedIn, graphicsIn, screenIn}
+use Rattle.pictures.specs.Picture.{Unmarked, Drew, withMarks, graphicsIn, screenIn}
 use Rattle.pictures.specs.Writes.{pictured, changed}
 
 -- what a drawing owes on the screen
@@ -52,13 +50,9 @@ module _ (l : Lent) (u : Unmarked l) where
     state = rw e (u .passes, tt);
   }
 
-  -- a call is accepted where its own tests pass
-  pub accepted-on : (c : Call) → takes c ≡ with-memory → AllPass (ownTests base c l) → accepted base c l
-  accepted-on c e a = own-decide base c l (entered c e) ∙ pass-accepted (ownTests base c l) a
-
-  pub outcome-done : (c : Call) → accepted base c l → outcome base c l ≡ done base c l
-  unfolding outcome ruled
-  outcome-done c a = ap (λ (n : ℕ). ruled n (refused c l) (done base c l)) a
+  -- a call is done where its own tests pass
+  pub done-on : (c : Call) → takes c ≡ with-memory → AllPass (ownTests base c l) → outcome base c l ≡ done base c l
+  done-on c e a = outcome-done base c l (own-decide base c l (entered c e) ∙ pass-accepted (ownTests base c l) a)
 
   -- nothing was marked, so its own marks are what stands
   marks-only : (m o dirty owed : Rect) → m ≡ dirty → cut 160 0 80 o ≡ owed → marked base m o (decode base (l .rec)) ≡ withMarks dirty owed (decode base (l .rec))
@@ -95,23 +89,19 @@ module _ (l : Lent) (u : Unmarked l) where
         ap (λ (t : State). screenOf base (t .head .graphics) (withScreen (graphicsIn l) new (l .memory))) left-state
         ∙ window-same (graphicsIn l) 1600 new (l .memory) (length-draw 20 (seen 20 80 (d .writes)) (screenIn l) ∙ long) screen-fits
 
-    left-owed : owedIn (drawing base d l) ≡ owed ∷ []
-    unfolding decode listing
-    left-owed = ap (λ (z : State). panelOf base z 0 .owed) left-state
-
   pub drew : (c : Call) (d : Drawing) (ps : List PixelWrite) (dirty owed : Rect) → takes c ≡ with-memory → AllPass (ownTests base c l)
       → done base c l ≡ answered 0 [] (drawing base d l) → Fits 256 0 256 dirty → d .dirty ≡ dirty → cut 160 0 80 (owedBy d) ≡ owed
       → pictured (seen 20 80 (d .writes)) ps ≡ true → Drew l ps dirty owed (outcome base c l)
-  unfolding answered drawingWith drawnOn
+  unfolding answered drawingWith drawnOn decode listing
   drew c d ps dirty owed t a k f e o p =
-      let q : outcome base c l ≡ answered 0 [] (drawing base d l) = outcome-done c (accepted-on c t a) ∙ k in
+      let q : outcome base c l ≡ answered 0 [] (drawing base d l) = done-on c t a ∙ k in
       let screen = left-screen d dirty owed f e o in
       rw q
       (record {
         code = refl;
         numbers = refl;
         dirty = ap (λ (z : State). z .head .dirty) (left-state d dirty owed f e o);
-        owed = left-owed d dirty owed f e o;
+        owed = ap (λ (z : State). panelOf base z 0 .owed) (left-state d dirty owed f e o);
         pixels = rw screen (changed (seen 20 80 (d .writes)) ps (screenIn l) long p);
         rec = left-rec d dirty owed f e o;
         memory = ap (λ (z : List ℕ). withScreen (graphicsIn l) z (l .memory)) (sym screen);

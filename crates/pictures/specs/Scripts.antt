@@ -14,18 +14,18 @@ use Rattle.model.specs.Pixels.{bit, put, onScreen, writePixel, draw, seen, copy
 use Rattle.model.specs.Rects.{isEmpty, join, cut, inside}
 use Rattle.model.specs.Memory.{window, zeros, screenOf, withScreen}
 use Rattle.model.specs.Record.{State, WellFormed, decode, encode, panelOf, nothingPending, windows, withPanel}
-use Rattle.model.specs.Refusals.{refusal, ruled}
+use Rattle.model.specs.Refusals.{refusal}
 use Rattle.model.specs.Marks.{updateDirty, joinOwed, owing, within, owes, marked, drawnOn}
 use Rattle.model.specs.Open.{isKey, withKeys, clearMemory, openPending, openState}
 use Rattle.model.specs.Points.{pointOp, pointRect, point}
 use Rattle.model.specs.Sends.{firstOwed, restOwed, takeOwed, nextLine, lineSent, sendPending, lineNumbers, sendNumbers, copyLine, sendPanel}
-use Rattle.model.specs.Calls.{Call, drawPoint, send, Lent, lent, Outcome, answered, drawingWith, refused, done, outcome}
+use Rattle.model.specs.Calls.{Call, drawPoint, send, Lent, lent, Outcome, answered, drawingWith, done, outcome}
 use Rattle.model.specs.Lists.{owedLines, linesLeft, differing}
 use Rattle.model.specs.Script.Read.{onFirst, lines, isDigit, goesOn, digits, atMost, number, word, orElse, mode, piece, isField, kept, andThen, matched, Line, call, choose, form, read}
 use Rattle.model.specs.Script.Run.{spelled, spaced, printed, endWord, said, answer, leaves, noKeys, opened, ending, runFrom, run, text}
 use Rattle.laws.specs.Tests.{by-eq, clash}
 use Rattle.laws.specs.Tables.{every-at}
-use Rattle.laws.specs.Calls.{own-decide}
+use Rattle.laws.specs.Calls.{own-decide, outcome-done}
 use Rattle.laws.specs.Glasses.{base-glass}
 use Rattle.laws.specs.Record.{Passing, decode-encode}
 use Rattle.laws.specs.States.{encode-passing}
@@ -93,22 +93,20 @@ module _ (s : State) (w : WellFormed base s) (m p : List ℕ) (hm : length m ≡
 
   point-done : outcome base (drawPoint 3 0 1) (lent (encode base s) m p)
       ≡ answered 0 [] (lent (encode base (pointed s)) (withScreen (s .head .graphics) (dotted (screenOf base (s .head .graphics) m)) m) p)
-  unfolding outcome ruled refusal done drawingWith drawnOn point pointRect pointOp onScreen seen draw writePixel owes within inside dotted pointed
+  unfolding refusal done drawingWith drawnOn point pointRect pointOp onScreen seen draw writePixel owes within inside dotted pointed
   point-done =
       let l = lent (encode base s) m p in
-      let c = drawPoint 3 0 1 in
-      let a = own-decide base c l (record { sized = passing .sized; lengths = eq-eqb (length m) 65536 hm; state = (passing .passes, tt) }) in
-      ap (λ (n : ℕ). ruled n (refused c l) (done base c l)) a
+      outcome-done base (drawPoint 3 0 1) l
+      (own-decide base (drawPoint 3 0 1) l (record { sized = passing .sized; lengths = eq-eqb (length m) 65536 hm; state = (passing .passes, tt) }))
       ∙ ap (λ (t : State). answered 0 [] (lent (encode base (pointed t)) (withScreen (t .head .graphics) (dotted (screenOf base (t .head .graphics) m)) m) p)) means
 
   send-done : length p ≡ 1600 → outcome base send (lent (encode base s) m p)
       ≡ answered 0 (sendNumbers (panelOf base s 0)) (lent (encode base (sentOf s)) m (sendPanel 20 (panelOf base s 0) (screenOf base (s .head .graphics) m) p))
-  unfolding outcome ruled refusal done sentOf
+  unfolding refusal done sentOf
   send-done hp =
       let l = lent (encode base s) m p in
-      let a = own-decide base send l
-      (record { sized = passing .sized; lengths = λ i. eq-eqb (length m) 65536 hm i && eq-eqb (length p) 1600 hp i; state = (passing .passes, tt) }) in
-      ap (λ (n : ℕ). ruled n (refused send l) (done base send l)) a
+      outcome-done base send l
+      (own-decide base send l (record { sized = passing .sized; lengths = λ i. eq-eqb (length m) 65536 hm i && eq-eqb (length p) 1600 hp i; state = (passing .passes, tt) }))
       ∙ ap (λ (t : State). answered 0 (sendNumbers (panelOf base t 0)) (lent (encode base (sentOf t)) m (sendPanel 20 (panelOf base t 0) (screenOf base (t .head .graphics) m) p))) means
 
 -- ---- the screen and the panel

@@ -21,7 +21,7 @@ use Rattle.model.specs.Calls.{drawPoint, drawLine, drawBox, drawCircle, Lent, l
 use Rattle.laws.specs.Updates.{unmarked}
 use Rattle.pictures.specs.Picture.{rect, sets, inverts, Unmarked, Picture, screenIn, graphicsIn}
 use Rattle.pictures.specs.Writes.{hits, made, same, alike, allOn, eachMade, names, othersKept, pictured}
-use Rattle.pictures.specs.Drawings.{passing, screen-fits, accepted-on, outcome-done, drew}
+use Rattle.pictures.specs.Drawings.{passing, screen-fits, done-on, drew}
 
 -- ---- points
 
@@ -37,7 +37,7 @@ window-back b n m h =
 pub point-off : (mode : ℕ) → mode ≤ 3 → (l : Lent) → Unmarked l → outcome base (drawPoint 160 0 mode) l ≡ answered 0 [] l
 unfolding done drawingWith drawnOn point pointRect onScreen seen draw owes within answered
 point-off mode h l u =
-    outcome-done l u (drawPoint 160 0 mode) (accepted-on l u (drawPoint 160 0 mode) refl (le-leb mode 3 h, tt))
+    done-on l u (drawPoint 160 0 mode) refl (le-leb mode 3 h, tt)
     ∙ (λ i. answered 0 [] (lent (unmarked base (l .rec) (passing l u) i) (window-back (graphicsIn l) 1600 (l .memory) (screen-fits l u) i) (l .panel)))
 
 pub point-unknown : Picture (drawPoint 5 5 3) [] (rect 5 5 6 6) (rect 5 5 6 6)
