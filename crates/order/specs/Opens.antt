@@ -6,7 +6,7 @@ use Prim.Native.Nat.{ℕ, _<_}
 use native.Mathlib.Omega.{arith}
 use lib.Dec.{leb}
 use lib.ListN.{length, set, length-set, length-replicate, getD-replicate}
-use borrow.Author.Tests.{lt-ltb}
+use borrow.Author.Tests.{lt-ltb, le-leb}
 use Rattle.model.specs.Geometry.{Geometry, height, rows, columns, cells, screenBytes, memoryBytes}
 use Rattle.model.specs.Glass.{IsGlass}
 use Rattle.model.specs.Memory.{zeros}
@@ -21,10 +21,11 @@ use Rattle.laws.specs.Tests.{true-all}
 use Rattle.laws.specs.Marks.{whole-agrees}
 use Rattle.laws.specs.Loops.{length-zeros}
 use Rattle.laws.specs.Keys.{length-withKeys}
+use Rattle.laws.specs.Record.{numbers}
 use Rattle.laws.specs.Flags.{length-no-flags}
 use Rattle.laws.specs.Updates.{flags-formed}
 use Rattle.order.specs.Pending.{well-open}
-use Rattle.order.specs.Formed.{bases-fit, version-fits, head-formed, owing-formed}
+use Rattle.order.specs.Formed.{bases-fit, head-formed, owing-formed}
 use Rattle.order.specs.Step.{Lendable, Step, old, known, stored, marks-step}
 
 pub length-clear : (keys : List ℕ) → length (clearMemory keys) ≡ memoryBytes
@@ -71,6 +72,6 @@ reset-step g k there l q =
     marks-step g k there l q m (resetState g s) (clearMemory (s .keys))
     (flags-formed g (clearFlags g) _
     (head-formed g owed (owing-formed g s w m) (clearHead (h .graphics) (h .text) (h .version))
-    (clear-fits g (q .passing .glass) (h .graphics) (h .text) (h .version) (bases-fit g h (w .head)) (version-fits g h (w .head))))
+    (clear-fits g (q .passing .glass) (h .graphics) (h .text) (h .version) (bases-fit g h (w .head)) (le-leb (h .version) 1 (numbers g h (w .head) .version))))
     (length-no-flags (cells g)))
     (length-clear (s .keys)) refl refl (whole-agrees (g .stride) (height g) _ _)

@@ -17,6 +17,7 @@ use Rattle.model.specs.Lists.{accepted, Typed, Item, here, after, run, opens, e
 use Rattle.laws.specs.Tests.{either}
 use Rattle.laws.specs.Calls.{own-decide, outcome-done}
 use Rattle.order.specs.Pending.{lines-send, idle-iff, lines-bound}
+use Rattle.order.specs.PanelState.{PanelState}
 use Rattle.order.specs.Held.{Held, held-open, held-after, none-left}
 use Rattle.order.specs.Step.{Lendable, Step, view}
 use Rattle.order.specs.EachCall.{opening-step, item-step}
@@ -28,12 +29,16 @@ pub record Standing (g : Geometry) (l : Lent) : Type 0 where
   pub held : Held g (view g 0 l)
 
 module _ (g : Geometry) where
+  -- the state of the panel where a send goes
+  abbrev state : Lent → PanelState
+  state l = view g 0 l
+
   -- ---- after every list
 
   standing-item : (l : Lent) (i : Item g) → Standing g l → Standing g (after g l i)
   standing-item l i s =
       let f = item-step g l (s .lendable) i in
-      record { lendable = f .lendable; held = held-after g (view g 0 l) (itemEffect g l i) (view g 0 (after g l i)) (s .held) (f .follows) }
+      record { lendable = f .lendable; held = held-after g (state l) (itemEffect g l i) (state (after g l i)) (s .held) (f .follows) }
 
   pub standing-run : (l : Lent) (is : List (Item g)) → Standing g l → Standing g (run g l is)
   unfolding run
@@ -41,7 +46,7 @@ module _ (g : Geometry) where
   standing-run l (i ∷ is) s = standing-run (after g l i) is (standing-item l i s)
 
   -- owed, in hand and lines sent are those that are reckoned from the effects
-  pub pending-run : (l : Lent) (is : List (Item g)) → Standing g l → view g 0 (run g l is) .pending ≡ reckoned g (view g 0 l .pending) l is
+  pub pending-run : (l : Lent) (is : List (Item g)) → Standing g l → state (run g l is) .pending ≡ reckoned g (state l .pending) l is
   unfolding run reckoned
   pending-run l [] s = refl
   pending-run l (i ∷ is) s =
@@ -51,21 +56,26 @@ module _ (g : Geometry) where
   -- ---- after the opening, lent any record, any memory and a panel
 
   module _ (z : IsGlass g) (graphics text version : ℕ) (keys : List ℕ) (t : Typed (opening graphics text version keys)) (l : Lent) (a : accepted g (opening graphics text version keys) l) (p : length (l .panel) ≡ screenBytes g) where
-    first : Step g 0 l opens (after g l (here (opening graphics text version keys) t))
+    abbrev opened : Item g
+    opened = here (opening graphics text version keys) t
+
+    abbrev left : Lent
+    left = after g l opened
+
+    first : Step g 0 l opens left
     first = rw (after-accepted g (opening graphics text version keys) t l a) (opening-step g z graphics text version keys l t a p)
 
-    pub standing-open : Standing g (after g l (here (opening graphics text version keys) t))
+    pub standing-open : Standing g left
     unfolding affected
-    standing-open = record { lendable = first .lendable; held = held-open g (view g 0 (after g l (here (opening graphics text version keys) t))) (first .lendable .panel) (first .follows .pending) }
+    standing-open = record { lendable = first .lendable; held = held-open g (state left) (first .lendable .panel) (first .follows .pending) }
 
     -- owed and in hand are empty at first; the opening is the first item of the list
-    pub pending-open : (is : List (Item g)) → view g 0 (run g l (here (opening graphics text version keys) t ∷ is)) .pending
-        ≡ reckoned g (nothingPending g) l (here (opening graphics text version keys) t ∷ is)
+    pub pending-open : (is : List (Item g)) → state (run g l (opened ∷ is)) .pending
+        ≡ reckoned g (nothingPending g) l (opened ∷ is)
     unfolding run reckoned affected effect
     pending-open is =
-        let l′ = after g l (here (opening graphics text version keys) t) in
-        pending-run l′ is standing-open
-        ∙ ap (λ (q : Pending). reckoned g q l′ is)
+        pending-run left is standing-open
+        ∙ ap (λ (q : Pending). reckoned g q left is)
         (first .follows .pending ∙ sym (ap (affected g (nothingPending g)) (effect-accepted g (opening graphics text version keys) t l a)))
 
   -- ---- what holds then
@@ -84,16 +94,16 @@ module _ (g : Geometry) where
     unfolding done answered
     send-code = ap (λ (o : Outcome). o .code) (outcome-done g send l sendable)
 
-    send-numbers : outcome g send l .numbers ≡ sendNumbers (view g 0 l .pending)
+    send-numbers : outcome g send l .numbers ≡ sendNumbers (state l .pending)
     unfolding done answered
     send-numbers = ap (λ (o : Outcome). o .numbers) (outcome-done g send l sendable)
 
-    pub bound : linesLeft (view g 0 l .pending) ≤ (g .band - 1) + height g
-    bound = lines-bound g (view g 0 l .pending) (s .held .well) (s .held .low)
+    pub bound : linesLeft (state l .pending) ≤ (g .band - 1) + height g
+    bound = lines-bound g (state l .pending) (s .held .well) (s .held .low)
 
     -- and answers four zeros exactly where no line is left
-    pub idle-lines : (outcome g send l .numbers ≡ 0 ∷ 0 ∷ 0 ∷ 0 ∷ []) ↔ (linesLeft (view g 0 l .pending) ≡ 0)
-    idle-lines = rw send-numbers (idle-iff g (view g 0 l .pending) (s .held .well))
+    pub idle-lines : (outcome g send l .numbers ≡ 0 ∷ 0 ∷ 0 ∷ 0 ∷ []) ↔ (linesLeft (state l .pending) ≡ 0)
+    idle-lines = rw send-numbers (idle-iff g (state l .pending) (s .held .well))
 
   -- ---- a further list whose accepted calls are sends
 
@@ -110,7 +120,7 @@ module _ (g : Geometry) where
 
   -- each send takes a line, as long as there are any
   pub lines-more : (l : Lent) → Standing g l → (more : List (Item g)) (n : ℕ) → acceptedCalls g l more ≡ replicate n send
-      → linesLeft (view g 0 (run g l more) .pending) ≡ linesLeft (view g 0 l .pending) - n
+      → linesLeft (state (run g l more) .pending) ≡ linesLeft (state l .pending) - n
   unfolding run acceptedCalls affected
   lines-more l s [] n e = omega (arith, none-sent g n e)
   lines-more l s (i ∷ is) n e =
@@ -118,9 +128,9 @@ module _ (g : Geometry) where
       let p = item-step g l (s .lendable) i .follows .pending in
       let r = lines-more (after g l i) (standing-item l i s) is (t .others) (t .rest) in
       either (t .own)
-      (λ o. let c = ap linesLeft (p ∙ ap (affected g (view g 0 l .pending)) (o .0)) in omega (arith, o .1))
-      (λ o. let c = ap linesLeft (p ∙ ap (affected g (view g 0 l .pending)) (o .0)) ∙ lines-send g (view g 0 l .pending) (s .held .well) in omega (arith, o .1))
+      (λ o. let c = ap linesLeft (p ∙ ap (affected g (state l .pending)) (o .0)) in omega (arith, o .1))
+      (λ o. let c = ap linesLeft (p ∙ ap (affected g (state l .pending)) (o .0)) ∙ lines-send g (state l .pending) (s .held .well) in omega (arith, o .1))
 
-  pub level : (l : Lent) → Standing g l → (more : List (Item g)) (n : ℕ) → acceptedCalls g l more ≡ replicate n send → linesLeft (view g 0 l .pending) ≤ n
-      → differing g (view g 0 (run g l more) .screen) (view g 0 (run g l more) .panel) ≡ 0
-  level l s more n e h = none-left g (view g 0 (run g l more)) (standing-run l more s .held) (omega (arith, lines-more l s more n e))
+  pub level : (l : Lent) → Standing g l → (more : List (Item g)) (n : ℕ) → acceptedCalls g l more ≡ replicate n send → linesLeft (state l .pending) ≤ n
+      → differing g (state (run g l more) .screen) (state (run g l more) .panel) ≡ 0
+  level l s more n e h = none-left g (state (run g l more)) (standing-run l more s .held) (omega (arith, lines-more l s more n e))
