@@ -63,7 +63,7 @@ bands-none : (w b lo n : ℕ) → BandsFit w b lo (replicate n none)
 bands-none w b lo zero = tt
 bands-none w b lo (suc n) = (inl refl, bands-none w b (lo + b) n)
 
-well-nothing : (g : Geometry) → WellPending g (nothingPending g)
+pub well-nothing : (g : Geometry) → WellPending g (nothingPending g)
 unfolding nothingPending
 well-nothing g = well-pending g (nothingPending g) (length-replicate (g .bands) none) (bands-none (width g) (g .band) 0 (g .bands)) (inl refl) (omega arith)
 

@@ -1,15 +1,16 @@
 -- States that stay well formed: with another head, a mark, another panel.
 use mathlib.Core.Path.{_≡_, _∙_}
-use mathlib.Core.Bool.{true}
-use mathlib.Core.List.{map}
-use Prim.Native.Nat.{ℕ, _<_}
+use mathlib.Core.Bool.{Bool, true}
+use mathlib.Core.List.{List, [], _∷_, map}
+use Prim.Native.Nat.{ℕ, zero, suc, _<_}
 use native.Mathlib.Omega.{arith}
 use lib.Dec.{leb, ltb}
-use lib.ListN.{length-map, length-set}
+use lib.ListN.{set, length-map, length-set}
 use lib.Seq.{getD-set-same, getD-set-other}
 use Rattle.model.specs.declared.Rect.{Rect}
 use Rattle.model.specs.declared.Head.{Head}
 use Rattle.model.specs.Geometry.{Geometry, rows, columns}
+use Rattle.model.specs.Rects.{every, fits}
 use Rattle.model.specs.Record.{Pending, State, panelOf, nothingPending, windows, headTests, headFits, withHead, withPanels, withPanel, WellPending, WellFormed}
 use Rattle.model.specs.Marks.{withDirty, updateDirty, owing, marked}
 use Rattle.model.specs.Text.{withRow, withColumn, withScreenMode, withPrintMode, withCursor, printMode}
@@ -17,50 +18,49 @@ use Rattle.laws.specs.Tests.{AllTrue, all-true, true-all, by-eq}
 use Rattle.laws.specs.Rects.{Fits, fits-passes, passes-fits, join-fits}
 use Rattle.laws.specs.ListLaws.{getD-map}
 use Rattle.laws.specs.Record.{numbers}
-use Rattle.order.specs.Pending.{well-owing}
+use Rattle.laws.specs.Pendings.{well-owing}
 
 -- ---- a head that passes STATE passes with another number that does
 
+-- tests that pass, with another in place i that does
+all-set : (l : List Bool) (i : ℕ) (t : Bool) → AllTrue l → t ≡ true → AllTrue (set l i t)
+all-set [] i t h e = h
+all-set (s ∷ l) zero t h e = (e, h .1)
+all-set (s ∷ l) (suc i) t h e = (h .0, all-set l i t (h .1) e)
+
 module _ (g : Geometry) (h : Head) (e : headFits g h ≡ true) where
-  -- bases, row, column, screen mode, print mode, cursor, version, dirty
-  passed : AllTrue (headTests g h)
-  unfolding headFits
-  passed = all-true (headTests g h) e
-
   pub bases-fit : windows g (h .graphics) (h .text) ≡ true
-  bases-fit = passed .0
+  unfolding headFits
+  bases-fit = all-true (headTests g h) e .0
 
-  pub version-fits : leb (h .version) 1 ≡ true
-  version-fits = passed .1 .1 .1 .1 .1 .1 .0
+  -- by their places in `headTests`
+  passing : (i : ℕ) (t : Bool) → t ≡ true → every (set (headTests g h) i t) ≡ true
+  unfolding headFits
+  passing i t p = true-all (set (headTests g h) i t) (all-set (headTests g h) i t (all-true (headTests g h) e) p)
 
   pub row-fits : (n : ℕ) → ltb n (rows g) ≡ true → headFits g (withRow n h) ≡ true
   unfolding headFits withRow
-  row-fits n t = let p = passed in true-all (headTests g (withRow n h)) (p .0, (t, p .1 .1))
+  row-fits n p = passing 1 (ltb n (rows g)) p
 
   pub column-fits : (n : ℕ) → ltb n (columns g) ≡ true → headFits g (withColumn n h) ≡ true
   unfolding headFits withColumn
-  column-fits n t = let p = passed in true-all (headTests g (withColumn n h)) (p .0, (p .1 .0, (t, p .1 .1 .1)))
+  column-fits n p = passing 2 (ltb n (columns g)) p
 
   pub screen-fits : (n : ℕ) → leb n 1 ≡ true → headFits g (withScreenMode n h) ≡ true
   unfolding headFits withScreenMode
-  screen-fits n t = let p = passed in true-all (headTests g (withScreenMode n h)) (p .0, (p .1 .0, (p .1 .1 .0, (t, p .1 .1 .1 .1))))
+  screen-fits n p = passing 3 (leb n 1) p
 
   pub print-fits : (n : ℕ) → leb (printMode (h .print) n) 2 ≡ true → headFits g (withPrintMode n h) ≡ true
   unfolding headFits withPrintMode
-  print-fits n t = let p = passed in true-all (headTests g (withPrintMode n h)) (p .0, (p .1 .0, (p .1 .1 .0, (p .1 .1 .1 .0, (t, p .1 .1 .1 .1 .1)))))
+  print-fits n p = passing 4 (leb (printMode (h .print) n) 2) p
 
   pub cursor-fits : (n : ℕ) → leb n 2 ≡ true → headFits g (withCursor n h) ≡ true
   unfolding headFits withCursor
-  cursor-fits n t =
-      let p = passed in
-      true-all (headTests g (withCursor n h)) (p .0, (p .1 .0, (p .1 .1 .0, (p .1 .1 .1 .0, (p .1 .1 .1 .1 .0, (t, p .1 .1 .1 .1 .1 .1))))))
+  cursor-fits n p = passing 5 (leb n 2) p
 
   pub dirty-fits : (q : Rect) → Fits 256 0 256 q → headFits g (withDirty q h) ≡ true
   unfolding headFits
-  dirty-fits q f =
-      let p = passed in
-      true-all (headTests g (withDirty q h))
-      (p .0, (p .1 .0, (p .1 .1 .0, (p .1 .1 .1 .0, (p .1 .1 .1 .1 .0, (p .1 .1 .1 .1 .1 .0, (p .1 .1 .1 .1 .1 .1 .0, (fits-passes 256 0 256 q f, tt))))))))
+  dirty-fits q f = passing 7 (fits 256 0 256 q) (fits-passes 256 0 256 q f)
 
 -- ---- states
 

@@ -21,7 +21,7 @@ use Rattle.laws.specs.Rects.{Proper, decIn, in-not-none, not-in-none}
 use Rattle.laws.specs.Bands.{joinOwed-keeps, joinOwed-marks, in-split}
 use Rattle.laws.specs.Marks.{AgreeOutside}
 use Rattle.laws.specs.Counts.{none-differ}
-use Rattle.order.specs.Pending.{well-owing, well-open, well-send, low-send, to-send}
+use Rattle.laws.specs.Pendings.{well-owing, well-open, well-send, low-send, to-send}
 use Rattle.order.specs.PanelState.{PanelState, Follows}
 
 -- every pixel that differs lies in hand or is owed

@@ -1,9 +1,7 @@
--- Pending, PanelState, Held and Sim speak of one panel and of effects on it, over any geometry; Formed to EachCall of the calls, a file for each family;
+-- PanelState and Held speak of one panel and of effects on it, over any geometry; Formed to EachCall of the calls, a file for each family;
 -- Accepted and Order of their lists. Theorem is what a reader wants.
-pub mod Pending
 pub mod PanelState
 pub mod Held
-pub mod Sim
 pub mod Formed
 pub mod Step
 pub mod Opens

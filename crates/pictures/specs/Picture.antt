@@ -10,7 +10,8 @@ use Rattle.model.specs.Geometry.{base}
 use Rattle.model.specs.Pixels.{PixelWrite, bit}
 use Rattle.model.specs.Rects.{none}
 use Rattle.model.specs.Memory.{screenOf, withScreen}
-use Rattle.model.specs.Record.{State, Bytes, decode, encode, valid}
+use Rattle.model.specs.Bytes.{Bytes}
+use Rattle.model.specs.Record.{State, panelOf, decode, encode, valid, withHead, withPanel}
 use Rattle.model.specs.Marks.{withDirty}
 use Rattle.model.specs.Calls.{Call, Lent, Outcome, outcome}
 use Rattle.laws.specs.Pixels.{Each}
@@ -41,7 +42,7 @@ abbrev pub dirtyIn : Lent → Rect
 dirtyIn l = decode base (l .rec) .head .dirty
 
 abbrev pub owedIn : Lent → List Rect
-owedIn l = decode base (l .rec) .pending .owed
+owedIn l = panelOf base (decode base (l .rec)) 0 .owed
 
 abbrev pub graphicsIn : Lent → ℕ
 graphicsIn l = decode base (l .rec) .head .graphics
@@ -60,12 +61,7 @@ pub record Unmarked (l : Lent) : Type 0 where
 
 -- a state with another dirty and another owed
 abbrev pub withMarks : Rect → Rect → State → State
-withMarks d o s = record {
-  head = withDirty d (s .head);
-  pending = record { owed = o ∷ []; hand = s .pending .hand; sent = s .pending .sent };
-  keys = s .keys;
-  flags = s .flags;
-}
+withMarks d o s = withHead (withDirty d (s .head)) (withPanel 0 (record { owed = o ∷ []; hand = panelOf base s 0 .hand; sent = panelOf base s 0 .sent }) s)
 
 -- ---- pictures
 
@@ -77,7 +73,7 @@ pub record Drew (l : Lent) (ps : List PixelWrite) (d o : Rect) (out : Outcome) :
   pub owed : owedIn (out .left) ≡ o ∷ []
   pub pixels : Changed ps (screenIn l) (screenIn (out .left))
   -- no other field of the record changes, no byte of memory outside the screen, and no byte of the panel
-  pub rec : out .left .rec ≡ encode (withMarks d o (decode base (l .rec)))
+  pub rec : out .left .rec ≡ encode base (withMarks d o (decode base (l .rec)))
   pub memory : out .left .memory ≡ withScreen (graphicsIn l) (screenIn (out .left)) (l .memory)
   pub panel : out .left .panel ≡ l .panel
 

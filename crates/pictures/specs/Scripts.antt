@@ -1,36 +1,41 @@
--- The two scripts: the record is found by computing, the screen and the panel by laws of windows and pixels.
+-- The two scripts: the record is found by its laws, the screen and the panel by those of windows and pixels.
 use mathlib.Core.Path.{_≡_, refl, sym, ap, _∙_}
 use mathlib.Core.Logic.{_≢_, _⊎_, inl, inr}
 use mathlib.Core.Bool.{true, false, not, _&&_}
 use mathlib.Core.List.{List, [], _∷_, _++_}
 use Prim.Native.Nat.{ℕ, zero, suc, _+_, _≤_, _<_}
 use native.Mathlib.Omega.{arith}
-use lib.ListN.{length, take, set, getD-replicate, length-set}
+use lib.ListN.{length, take, set, getD-replicate}
 use borrow.Author.Tests.{eq-eqb, not-true}
 use Rattle.model.specs.declared.Rect.{Rect}
 use Rattle.model.specs.Geometry.{base}
 use Rattle.model.specs.Bits.{bitAt}
 use Rattle.model.specs.Pixels.{bit, put, onScreen, writePixel, draw, seen, copyRun}
-use Rattle.model.specs.Rects.{isEmpty, fits, join, cut, inside}
+use Rattle.model.specs.Rects.{isEmpty, join, cut, inside}
 use Rattle.model.specs.Memory.{window, zeros, screenOf, withScreen}
-use Rattle.model.specs.Record.{State, decode, encode, valid, windows, bandsFit, stateFits, flagsFit, withPending}
-use Rattle.model.specs.Refusals.{ruled}
+use Rattle.model.specs.Record.{State, WellFormed, decode, encode, panelOf, nothingPending, windows, withPanel}
+use Rattle.model.specs.Refusals.{refusal}
 use Rattle.model.specs.Marks.{updateDirty, joinOwed, owing, within, owes, marked, drawnOn}
-use Rattle.model.specs.Open.{isKey, withKeys, clearMemory, nothingPending, openPending, openState}
+use Rattle.model.specs.Open.{isKey, withKeys, clearMemory, openPending, openState}
 use Rattle.model.specs.Points.{pointOp, pointRect, point}
 use Rattle.model.specs.Sends.{firstOwed, restOwed, takeOwed, nextLine, lineSent, sendPending, lineNumbers, sendNumbers, copyLine, sendPanel}
-use Rattle.model.specs.Calls.{Call, drawPoint, send, Lent, lent, Outcome, answered, refusals, drawingWith, drawing, refused, done, outcome}
+use Rattle.model.specs.Calls.{Call, drawPoint, send, Lent, lent, Outcome, answered, drawingWith, done, outcome}
 use Rattle.model.specs.Lists.{owedLines, linesLeft, differing}
 use Rattle.model.specs.Script.Read.{onFirst, lines, isDigit, goesOn, digits, atMost, number, word, orElse, mode, piece, isField, kept, andThen, matched, Line, call, choose, form, read}
 use Rattle.model.specs.Script.Run.{spelled, spaced, printed, endWord, said, answer, leaves, noKeys, opened, ending, runFrom, run, text}
 use Rattle.laws.specs.Tests.{by-eq, clash}
 use Rattle.laws.specs.Tables.{every-at}
-use Rattle.laws.specs.Calls.{pass-accepted}
+use Rattle.laws.specs.Calls.{own-decide, outcome-done}
+use Rattle.laws.specs.Glasses.{base-glass}
+use Rattle.laws.specs.Record.{Passing, decode-encode}
+use Rattle.laws.specs.States.{encode-passing}
 use Rattle.laws.specs.Memory.{length-withWindow, window-same, window-set-out}
 use Rattle.laws.specs.Pixels.{length-put, put-same, put-other, copyRun-same, copyRun-other}
-use Rattle.laws.specs.Keys.{length-withKeys}
 use Rattle.laws.specs.Loops.{length-zeros}
 use Rattle.laws.specs.Counts.{none-differ}
+use Rattle.laws.specs.Pendings.{well-send}
+use Rattle.order.specs.Formed.{marked-formed, panel-formed}
+use Rattle.order.specs.Opens.{length-clear, open-formed}
 use Rattle.pictures.specs.Picture.{rect}
 use Rattle.pictures.specs.Texts.{bytesOf}
 use Rattle.pictures.specs.Differing.{one-differs}
@@ -47,12 +52,6 @@ send-then-point = refl
 
 -- ---- the record
 
--- the bytes of a state mean it and pass
-record Encoded (s : State) : Type 0 where
-  sized : length (encode s) ≡ 170
-  means : decode base (encode s) ≡ s
-  passes : valid base (encode s) ≡ true
-
 -- as the program opens it
 unfoldable openedState : State
 openedState = openState base 4096 8192 1 noKeys
@@ -65,19 +64,19 @@ unfoldable pointed : State → State
 pointed s = marked base mark mark s
 
 unfoldable sentOf : State → State
-sentOf s = withPending (sendPending (s .pending)) s
+sentOf s = withPanel 0 (sendPending (panelOf base s 0)) s
 
-encoded-opened : Encoded openedState
-unfolding openedState openState openPending nothingPending owing joinOwed join isEmpty cut encode decode valid stateFits windows fits bandsFit flagsFit
-encoded-opened = record { sized = refl; means = refl; passes = refl }
+opened-formed : WellFormed base openedState
+unfolding openedState windows
+opened-formed = open-formed base base-glass 4096 8192 1 noKeys refl refl refl (omega arith)
 
-encoded-pointed : Encoded (pointed openedState)
-unfolding pointed marked updateDirty openedState openState openPending nothingPending owing joinOwed join isEmpty cut encode decode valid stateFits windows fits bandsFit flagsFit
-encoded-pointed = record { sized = refl; means = refl; passes = refl }
+pointed-formed : (s : State) → WellFormed base s → WellFormed base (pointed s)
+unfolding pointed
+pointed-formed s w = marked-formed base mark mark s (inr (omega arith)) w
 
-encoded-sent : Encoded (sentOf openedState)
-unfolding sentOf sendPending lineSent takeOwed firstOwed restOwed nextLine openedState openState openPending nothingPending owing joinOwed join isEmpty cut encode decode valid stateFits windows fits bandsFit flagsFit
-encoded-sent = record { sized = refl; means = refl; passes = refl }
+sent-formed : (s : State) → WellFormed base s → WellFormed base (sentOf s)
+unfolding sentOf
+sent-formed s w = panel-formed base s w 0 (sendPending (panelOf base s 0)) (omega arith) (well-send base (panelOf base s 0) (w .panels 0 (omega arith)))
 
 -- ---- the calls
 
@@ -85,26 +84,30 @@ encoded-sent = record { sized = refl; means = refl; passes = refl }
 unfoldable dotted : List ℕ → List ℕ
 dotted s = put 20 s 3 0 true
 
-module _ (s : State) (k : Encoded s) (m p : List ℕ) (hm : length m ≡ 65536) where
-  point-done : outcome base (drawPoint 3 0 1) (lent (encode s) m p)
-      ≡ answered 0 [] (lent (encode (pointed s)) (withScreen (s .head .graphics) (dotted (screenOf base (s .head .graphics) m)) m) p)
-  unfolding outcome ruled refusals done drawingWith drawnOn point pointRect pointOp onScreen seen draw writePixel owes within inside dotted pointed
-  point-done =
-      let l = lent (encode s) m p in
-      let c = drawPoint 3 0 1 in
-      let a = pass-accepted (refusals base c l) ((λ i. eq-eqb (length (encode s)) 170 (k .sized) i && eq-eqb (length m) 65536 hm i), (k .passes, (refl, tt))) in
-      ap (λ (n : ℕ). ruled n (refused c l) (done base c l)) a
-      ∙ ap (λ (t : State). answered 0 [] (lent (encode (pointed t)) (withScreen (t .head .graphics) (dotted (screenOf base (t .head .graphics) m)) m) p)) (k .means)
+module _ (s : State) (w : WellFormed base s) (m p : List ℕ) (hm : length m ≡ 65536) where
+  means : decode base (encode base s) ≡ s
+  means = decode-encode base s base-glass w
 
-  send-done : length p ≡ 1600 → outcome base send (lent (encode s) m p)
-      ≡ answered 0 (sendNumbers (s .pending)) (lent (encode (sentOf s)) m (sendPanel 20 (s .pending) (screenOf base (s .head .graphics) m) p))
-  unfolding outcome ruled refusals done sentOf
+  passing : Passing base (encode base s)
+  passing = encode-passing base base-glass s w
+
+  point-done : outcome base (drawPoint 3 0 1) (lent (encode base s) m p)
+      ≡ answered 0 [] (lent (encode base (pointed s)) (withScreen (s .head .graphics) (dotted (screenOf base (s .head .graphics) m)) m) p)
+  unfolding refusal done drawingWith drawnOn point pointRect pointOp onScreen seen draw writePixel owes within inside dotted pointed
+  point-done =
+      let l = lent (encode base s) m p in
+      outcome-done base (drawPoint 3 0 1) l
+      (own-decide base (drawPoint 3 0 1) l (record { sized = passing .sized; lengths = eq-eqb (length m) 65536 hm; state = (passing .passes, tt) }))
+      ∙ ap (λ (t : State). answered 0 [] (lent (encode base (pointed t)) (withScreen (t .head .graphics) (dotted (screenOf base (t .head .graphics) m)) m) p)) means
+
+  send-done : length p ≡ 1600 → outcome base send (lent (encode base s) m p)
+      ≡ answered 0 (sendNumbers (panelOf base s 0)) (lent (encode base (sentOf s)) m (sendPanel 20 (panelOf base s 0) (screenOf base (s .head .graphics) m) p))
+  unfolding refusal done sentOf
   send-done hp =
-      let l = lent (encode s) m p in
-      let a = pass-accepted (refusals base send l)
-      ((λ i. eq-eqb (length (encode s)) 170 (k .sized) i && (eq-eqb (length m) 65536 hm i && eq-eqb (length p) 1600 hp i)), (k .passes, tt)) in
-      ap (λ (n : ℕ). ruled n (refused send l) (done base send l)) a
-      ∙ ap (λ (t : State). answered 0 (sendNumbers (t .pending)) (lent (encode (sentOf t)) m (sendPanel 20 (t .pending) (screenOf base (t .head .graphics) m) p))) (k .means)
+      let l = lent (encode base s) m p in
+      outcome-done base send l
+      (own-decide base send l (record { sized = passing .sized; lengths = λ i. eq-eqb (length m) 65536 hm i && eq-eqb (length p) 1600 hp i; state = (passing .passes, tt) }))
+      ∙ ap (λ (t : State). answered 0 (sendNumbers (panelOf base t 0)) (lent (encode base (sentOf t)) m (sendPanel 20 (panelOf base t 0) (screenOf base (t .head .graphics) m) p))) means
 
 -- ---- the screen and the panel
 
@@ -135,10 +138,6 @@ cleared-screen =
     ap (window 4096 1600) (no-keys (set (zeros 65536) 65535 64) 256 (omega arith))
     ∙ window-set-out 4096 1600 (zeros 65536) 65535 64 (inr (omega arith))
     ∙ window-zeros 4096 1600 65536 (omega arith)
-
-cleared-length : length (clearMemory noKeys) ≡ 65536
-unfolding clearMemory
-cleared-length = length-withKeys noKeys 256 (set (zeros 65536) 65535 64) ∙ length-set (zeros 65536) 65535 64 ∙ length-zeros 65536
 
 blank-bit : bit 20 (zeros 1600) 3 0 ≡ false
 unfolding bit bitAt zeros
@@ -184,10 +183,11 @@ two-lines c d l m n ms ns e f =
     ∙ ap (λ (o : Outcome). said 0 ms ++ (said (o .code) (o .numbers) ++ ending (o .left))) f
 
 -- the end line of a screen z that stands at 4,096
-ended : (s : State) (m p z : List ℕ) (d n : ℕ) → screenOf base 4096 m ≡ z → differing base z p ≡ d → linesLeft (decode base (encode s) .pending) ≡ n
-    → ending (lent (encode s) m p) ≡ printed endWord (d ∷ n ∷ [])
+ended : (s : State) → WellFormed base s → (m p z : List ℕ) (d n : ℕ) → screenOf base 4096 m ≡ z → differing base z p ≡ d → linesLeft (panelOf base s 0) ≡ n
+    → ending (lent (encode base s) m p) ≡ printed endWord (d ∷ n ∷ [])
 unfolding ending
-ended s m p z d n e f g = λ i. printed endWord ((ap (λ (t : List ℕ). differing base t p) e ∙ f) i ∷ g i ∷ [])
+ended s w m p z d n e f g =
+    λ i. printed endWord ((ap (λ (t : List ℕ). differing base t p) e ∙ f) i ∷ (ap (λ (t : State). linesLeft (panelOf base t 0)) (decode-encode base s base-glass w) ∙ g) i ∷ [])
 
 module _ (m : List ℕ) (hm : length m ≡ 65536) (e : screenOf base 4096 m ≡ zeros 1600) where
   dotted-long : length (dotted (screenOf base 4096 m)) ≡ 1600
@@ -201,41 +201,41 @@ module _ (m : List ℕ) (hm : length m ≡ 65536) (e : screenOf base 4096 m ≡ 
   dotted-memory = length-withWindow 4096 (dotted (screenOf base 4096 m)) m (rw dotted-long (omega arith)) ∙ hm
 
   -- the point, then the send
-  point-first : run (call (drawPoint 3 0 1) ∷ call send ∷ []) (lent (encode openedState) m (zeros 1600))
+  point-first : run (call (drawPoint 3 0 1) ∷ call send ∷ []) (lent (encode base openedState) m (zeros 1600))
       ≡ said 0 [] ++ (said 0 (1 ∷ 0 ∷ 0 ∷ 160 ∷ []) ++ printed endWord (0 ∷ 79 ∷ []))
-  unfolding pointed marked updateDirty openedState openState openPending nothingPending owing joinOwed join isEmpty cut sentOf sendPending lineSent takeOwed firstOwed restOwed nextLine sendNumbers lineNumbers sendPanel copyLine encode decode linesLeft owedLines
+  unfolding pointed marked updateDirty openedState openState openPending nothingPending owing joinOwed join isEmpty cut sentOf sendPending lineSent takeOwed firstOwed restOwed nextLine sendNumbers lineNumbers sendPanel copyLine linesLeft owedLines
   point-first =
       let s = pointed openedState in
       let m′ = withScreen 4096 (dotted (screenOf base 4096 m)) m in
       let p = copyRun 20 (screenOf base 4096 m′) 0 0 160 (zeros 1600) in
-      two-lines (drawPoint 3 0 1) send (lent (encode openedState) m (zeros 1600)) (lent (encode s) m′ (zeros 1600)) (lent (encode (sentOf s)) m′ p) [] (1 ∷ 0 ∷ 0 ∷ 160 ∷ [])
-      (point-done openedState encoded-opened m (zeros 1600) hm)
-      (send-done s encoded-pointed m′ (zeros 1600) dotted-memory (length-zeros 1600))
+      two-lines (drawPoint 3 0 1) send (lent (encode base openedState) m (zeros 1600)) (lent (encode base s) m′ (zeros 1600)) (lent (encode base (sentOf s)) m′ p) [] (1 ∷ 0 ∷ 0 ∷ 160 ∷ [])
+      (point-done openedState opened-formed m (zeros 1600) hm)
+      (send-done s (pointed-formed openedState opened-formed) m′ (zeros 1600) dotted-memory (length-zeros 1600))
       ∙ ap (λ (t : List ℕ). said 0 [] ++ (said 0 (1 ∷ 0 ∷ 0 ∷ 160 ∷ []) ++ t))
-      (ended (sentOf s) m′ p (dotted (zeros 1600)) 0 79 dotted-screen
+      (ended (sentOf s) (sent-formed s (pointed-formed openedState opened-formed)) m′ p (dotted (zeros 1600)) 0 79 dotted-screen
       (ap (λ (t : List ℕ). differing base (dotted (zeros 1600)) (copyRun 20 t 0 0 160 (zeros 1600))) dotted-screen ∙ none-left (zeros 1600) (length-zeros 1600)) refl)
 
   -- the send, then the point
-  send-first : run (call send ∷ call (drawPoint 3 0 1) ∷ []) (lent (encode openedState) m (zeros 1600))
+  send-first : run (call send ∷ call (drawPoint 3 0 1) ∷ []) (lent (encode base openedState) m (zeros 1600))
       ≡ said 0 (1 ∷ 0 ∷ 0 ∷ 160 ∷ []) ++ (said 0 [] ++ printed endWord (1 ∷ 80 ∷ []))
-  unfolding pointed marked updateDirty openedState openState openPending nothingPending owing joinOwed join isEmpty cut sentOf sendPending lineSent takeOwed firstOwed restOwed nextLine sendNumbers lineNumbers sendPanel copyLine encode decode linesLeft owedLines
+  unfolding pointed marked updateDirty openedState openState openPending nothingPending owing joinOwed join isEmpty cut sentOf sendPending lineSent takeOwed firstOwed restOwed nextLine sendNumbers lineNumbers sendPanel copyLine linesLeft owedLines
   send-first =
       let s = sentOf openedState in
       let m′ = withScreen 4096 (dotted (screenOf base 4096 m)) m in
       let p = copyRun 20 (screenOf base 4096 m) 0 0 160 (zeros 1600) in
-      two-lines send (drawPoint 3 0 1) (lent (encode openedState) m (zeros 1600)) (lent (encode s) m p) (lent (encode (pointed s)) m′ p) (1 ∷ 0 ∷ 0 ∷ 160 ∷ []) []
-      (send-done openedState encoded-opened m (zeros 1600) hm (length-zeros 1600))
-      (point-done s encoded-sent m p hm)
+      two-lines send (drawPoint 3 0 1) (lent (encode base openedState) m (zeros 1600)) (lent (encode base s) m p) (lent (encode base (pointed s)) m′ p) (1 ∷ 0 ∷ 0 ∷ 160 ∷ []) []
+      (send-done openedState opened-formed m (zeros 1600) hm (length-zeros 1600))
+      (point-done s (sent-formed openedState opened-formed) m p hm)
       ∙ ap (λ (t : List ℕ). said 0 (1 ∷ 0 ∷ 0 ∷ 160 ∷ []) ++ (said 0 [] ++ t))
-      (ended (pointed s) m′ p (dotted (zeros 1600)) 1 80 dotted-screen
+      (ended (pointed s) (pointed-formed s (sent-formed openedState opened-formed)) m′ p (dotted (zeros 1600)) 1 80 dotted-screen
       (ap (λ (t : List ℕ). differing base (dotted (zeros 1600)) (copyRun 20 t 0 0 160 (zeros 1600))) e ∙ point-left (zeros 1600) (length-zeros 1600) blank-bit) refl)
 
 -- ---- the scripts
 
 pub point-send : text (bytesOf "(point (3 0) or)\n(send)\n") ≡ bytesOf "(done)\n(sent 0 0 160)\n(end 0 79)\n"
 unfolding text bytesOf printed spaced spelled said opened openedState
-point-send = ap (λ (xs : List Line). run xs opened) point-then-send ∙ point-first (clearMemory noKeys) cleared-length cleared-screen
+point-send = ap (λ (xs : List Line). run xs opened) point-then-send ∙ point-first (clearMemory noKeys) (length-clear noKeys) cleared-screen
 
 pub send-point : text (bytesOf "(send)\n(point (3 0) or)\n") ≡ bytesOf "(sent 0 0 160)\n(done)\n(end 1 80)\n"
 unfolding text bytesOf printed spaced spelled said opened openedState
-send-point = ap (λ (xs : List Line). run xs opened) send-then-point ∙ send-first (clearMemory noKeys) cleared-length cleared-screen
+send-point = ap (λ (xs : List Line). run xs opened) send-then-point ∙ send-first (clearMemory noKeys) (length-clear noKeys) cleared-screen
