@@ -1,5 +1,5 @@
 -- A send: idle, or the line in hand copied and counted.
-use mathlib.Core.Path.{_≡_, sym, ap, _∙_}
+use mathlib.Core.Path.{_≡_, refl, sym, ap, _∙_}
 use mathlib.Core.List.{List, [], _∷_}
 use mathlib.Core.Bool.{Bool, true, false}
 use Prim.Native.Nat.{ℕ, _+_, _-_, _*_, _≤_}
@@ -14,8 +14,8 @@ use Rattle.model.specs.Geometry.{height, screenBytes}
 use Rattle.model.specs.Glass.{geometry, canvas}
 use Rattle.model.specs.Memory.{window}
 use Rattle.model.specs.Rects.{isEmpty}
-use Rattle.model.specs.Record.{decode, panelOf}
-use Rattle.model.specs.Sends.{takeOwed, lineNumbers, sendNumbers, copyLine, sendPanel}
+use Rattle.model.specs.Record.{decode, encode, panelOf, withPanel}
+use Rattle.model.specs.Sends.{takeOwed, sendPending, lineNumbers, sendNumbers, copyLine, sendPanel}
 use Rattle.model.specs.Calls.{send, lent, answered, sentNumbers, done}
 use Rattle.laws.specs.Parts.{part-window}
 use Rattle.laws.specs.Sending.{SentOn, sent-proper}
@@ -38,20 +38,19 @@ module _ {v : Glass} {r : List ℕ} {h : Head} {m : List ℕ} (w : Given v r h m
       let z = w .known .suits in
       let n = sent-proper (w .known) (z .glass .one) i e f in
       rw c (record {
-        screen = screen-part w refl;
+        screen = screen-part w {k = canvas v} refl;
         panel = l ∙ ap (λ (x : ℕ). v .stride * x) (sym (z .is-height));
         wide = n .wide;
         inside = n .right-in;
         above = omega (arith, n, z .is-height);
       })
 
-  pub sends-line : {k : Canvas} {p b : List ℕ} {a : Sent} → t ≡ false → k ≡ canvas v → b ≡ copyLine (k .stride) q (take (h .graphics + v .screen - h .graphics) (drop (h .graphics) m)) p
+  pub sends-line : (p : List ℕ) {k : Canvas} {b : List ℕ} {a : Sent} → t ≡ false → k ≡ canvas v → b ≡ copyLine (k .stride) q (take (h .graphics + v .screen - h .graphics) (drop (h .graphics) m)) p
       → a .code ≡ 0 → sentNumbers a ≡ lineNumbers q → answered (a .code) (sentNumbers a) (lent s m b) ≡ done (geometry v) send (lent r m p)
   unfolding done sendNumbers sendPanel
-  sends-line {k} {p} f c d o l =
+  sends-line p f c d o l =
       let g = geometry v in
-      let screen = λ (x : Head). window (x .graphics) (screenBytes g) m in
       rw (empty-as f)
       ((λ j. answered (o j) (l j) (lent (i .left j) m ((d ∙ (λ y. copyLine (c y .stride) q (part-window (h .graphics) (v .screen) m y) p) ∙ (λ y. copyLine (v .stride) q (window (h .graphics) (w .known .suits .is-screen y) m) p)
       ∙ ap (λ (x : Head). copyLine (v .stride) q (window (x .graphics) (screenBytes g) m) p) (w .head)) j)))
-      ∙ ap (λ (x : Rect). answered 0 (lineNumbers x) (lent (done g send (lent r m p) .left .rec) m (copyLine (v .stride) x (window (decode g r .head .graphics) (screenBytes g) m) p))) (i .line))
+      ∙ ap (λ (x : Rect). answered 0 (lineNumbers x) (lent (encode g (withPanel 0 (sendPending (panelOf g (decode g r) 0)) (decode g r))) m (copyLine (v .stride) x (window (decode g r .head .graphics) (screenBytes g) m) p))) (i .line))

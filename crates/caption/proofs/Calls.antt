@@ -1,7 +1,7 @@
 -- The ends of a call, once for all calls: refused at the entry, refused by a test of its own, done. All over the glass that the record's length chooses.
 use mathlib.Core.Path.{_≡_, refl, sym, ap, _∙_}
 use mathlib.Core.List.{List, [], _∷_, _++_}
-use mathlib.Core.Bool.{Bool, true, false}
+use mathlib.Core.Bool.{Bool, true, false, _&&_}
 use Prim.Native.Nat.{ℕ, zero, suc, _<_, _≤_}
 use native.Mathlib.Omega.{arith}
 use borrow.Author.Tests.{eqb-true, lt-ltb, le-ltb}
@@ -9,12 +9,12 @@ use lib.Dec.{eqb, ltb}
 use lib.ListN.{length}
 use Rattle.model.specs.declared.Head.{Head}
 use Rattle.model.specs.declared.glass.Glass.{Glass}
-use Rattle.model.specs.Geometry.{Geometry, rows, columns}
+use Rattle.model.specs.Geometry.{Geometry, rows, columns, screenBytes}
 use Rattle.model.specs.Glass.{geometry, glassOf}
 use Rattle.model.specs.Record.{decode, encode, withHead}
 use Rattle.model.specs.Refusals.{Test, test, refusal, ruled}
 use Rattle.model.specs.Calls.{Call, Lent, Outcome, lent, answered, takes, lengthsFit, lentTest, stateTest, stateTests, ownTests, refusals, numbers, nought, refused, changed, done, outcome}
-use Rattle.laws.specs.Tests.{by-test}
+use Rattle.laws.specs.Tests.{by-test, and-true}
 use Rattle.laws.specs.Record.{Passing}
 use Rattle.laws.specs.Panels.{Known}
 use Rattle.record.specs.declared.entry.Entry.{Entry}
@@ -53,12 +53,16 @@ none-left = refl
 
 -- ---- outcomes by the refusal's number
 
-is-refused : (g : Geometry) (c : Call) (l : Lent) (k : ℕ) → refusal (refusals g c l) ≡ k → (k ≡ 0 → ⊥) → answered k (nought (numbers c)) l ≡ outcome g c l
+-- a code and numbers that are equal to those
+pub as-answered : {j k : ℕ} {ms ns : List ℕ} (l : Lent) {o : Outcome} → j ≡ k → ms ≡ ns → answered k ns l ≡ o → answered j ms l ≡ o
+as-answered l e f d = (λ i. answered (e i) (f i) l) ∙ d
+
+pub is-refused : (g : Geometry) (c : Call) (l : Lent) (k : ℕ) → refusal (refusals g c l) ≡ k → (k ≡ 0 → ⊥) → answered k (nought (numbers c)) l ≡ outcome g c l
 unfolding outcome ruled refused
 is-refused g c l zero e n = absurd (n refl)
 is-refused g c l (suc k) e n = rw e
 
-is-done : (g : Geometry) (c : Call) (l : Lent) → refusal (refusals g c l) ≡ 0 → done g c l ≡ outcome g c l
+pub is-done : (g : Geometry) (c : Call) (l : Lent) → refusal (refusals g c l) ≡ 0 → done g c l ≡ outcome g c l
 unfolding outcome ruled
 is-done g c l e = rw e
 
@@ -91,8 +95,12 @@ module _ (c : Call) (l : Lent) (s : Reads c l) {e : Entry} (n : Entered (lengths
     pub stops-later : (k : ℕ) → refusal (ownTests g c l) ≡ k → (k ≡ 0 → ⊥) → answered k (nought (numbers c)) l ≡ outcome g c l
     stops-later k t h = is-refused g c l k (own ∙ t) h
 
+    pub finishes : {o : Outcome} → refusal (ownTests g c l) ≡ 0 → o ≡ done g c l → o ≡ outcome g c l
+    finishes t d = d ∙ is-done g c l (own ∙ t)
+
+    -- done for the glass that the call has chosen
     pub ends : {v : Glass} {o : Outcome} → Chosen (length (l .rec)) v → refusal (ownTests g c l) ≡ 0 → o ≡ done (geometry v) c l → o ≡ outcome g c l
-    ends k t d = d ∙ ap (λ (x : Geometry). done x c l) (k .glass) ∙ is-done g c l (own ∙ t)
+    ends k t d = finishes t (d ∙ ap (λ (x : Geometry). done x c l) (k .glass))
 
 -- ---- what an entry tells where the call goes on
 
@@ -133,3 +141,14 @@ module _ {n : ℕ} {v : Glass} (k : Chosen n v) where
 
   pub a-column : (i : ℕ) → i < v .columns → ltb i (columns (glassOf n)) ≡ true
   a-column i h = lt-ltb i (columns (glassOf n)) (rw (← column-of) h)
+
+-- ---- a send: the panel's length is the glass's
+
+module _ {r : List ℕ} (m p : List ℕ) {e : Entry} {v : Glass} (k : Chosen (length r) v) (n : Entered (eqb (length m) 65536 && eqb (length p) (v .screen)) r e) where
+  pub entered-panel : Entered (eqb (length m) 65536 && eqb (length p) (screenBytes (glassOf (length r)))) r e
+  entered-panel = rw (k .suits .is-screen ∙ ap screenBytes (k .glass)) at n
+
+  pub given-panel : e .code ≡ 0 → Given v r (e .head) m × (length p ≡ screenBytes (geometry v))
+  given-panel z =
+      let l = and-true (eqb (length m) 65536) (eqb (length p) (v .screen)) (n .lent z) in
+      (record { known = knows k n z; head = loads k n z; memory = eqb-true (length m) 65536 (l .0) }, eqb-true (length p) (v .screen) (l .1) ∙ k .suits .is-screen)

@@ -1,0 +1,74 @@
+use Rattle.accepted.proofs.Drawing.{screen-room}
+use Rattle.accepted.proofs.Sending.{idles, may-copy, sends-line}
+use borrow.Author.Needs.{needs}
+use Rattle.accepted.proofs.sends.send.Statement.{statement}
+use Rattle.accepted.proofs.sends.send.Tie as tie
+
+send-panel-requires : tie.Need-send-panel-requires
+send-panel-requires c κs = search needs
+
+is-empty-requires : tie.Need-is-empty-requires
+is-empty-requires c κs = search needs
+
+no-line-requires : tie.Need-no-line-requires
+no-line-requires c κs = search needs
+
+same-length : tie.Need-same-length
+same-length c = search needs
+
+returns : tie.Need-returns
+returns c = idles (c .before .before .before .before .before .before .before .before .before .before .pre .0) (c .before .before .before .before .before .send-panel .ensures) (c .before .before .is-empty .ensures) _ (c .before .if1 .taken) (c .no-line .ensures)
+
+cast-from : tie.Need-cast-from
+cast-from c = search needs
+
+add-to : tie.Need-add-to
+add-to c = search needs
+
+canvas-of-requires : tie.Need-canvas-of-requires
+canvas-of-requires c κs = search needs
+
+sub-copy-line : tie.Need-sub-copy-line
+sub-copy-line c = search needs
+
+part-copy-line-start : tie.Need-part-copy-line-start
+part-copy-line-start c = search needs
+
+part-copy-line-end : tie.Need-part-copy-line-end
+part-copy-line-end c = screen-room (c .before .before .before .before .before .before .before .before .before .before .before .before .pre .0)
+
+copy-line-requires : tie.Need-copy-line-requires
+copy-line-requires c κs = may-copy (c .before .before .before .before .before .before .before .before .before .before .before .before .before .before .pre .0) (c .before .before .before .before .before .before .before .before .before .send-panel .ensures) (c .before .before .before .before .before .before .is-empty .ensures) (c .before .before .before .before .before .if1 .left) (c .before .before .canvas-of .ensures) (c .before .before .before .before .before .before .before .before .before .before .before .before .before .before .pre .1)
+
+sent-line-requires : tie.Need-sent-line-requires
+sent-line-requires c κs = search needs
+
+same-length-2 : tie.Need-same-length-2
+same-length-2 c = search needs
+
+same-length-3 : tie.Need-same-length-3
+same-length-3 c = search needs
+
+returns-2 : tie.Need-returns-2
+returns-2 c = sends-line (c .before .before .before .before .before .before .before .before .before .before .before .before .before .before .before .before .before .before .pre .0) (c .before .before .before .before .before .before .before .before .before .before .before .before .before .send-panel .ensures) (c .before .before .before .before .before .before .before .before .before .before .is-empty .ensures) _ (c .before .before .before .before .before .before .before .before .before .if1 .left) (c .before .before .before .before .before .before .canvas-of .ensures) (c .before .before .before .copy-line .ensures) (c .sent-line .ensures .0) (c .sent-line .ensures .1)
+
+pub send-spec : {M : Type 1} → statement M
+send-spec =
+    tie.close
+    (tie.spec
+    send-panel-requires
+    is-empty-requires
+    no-line-requires
+    same-length
+    returns
+    cast-from
+    add-to
+    canvas-of-requires
+    sub-copy-line
+    part-copy-line-start
+    part-copy-line-end
+    copy-line-requires
+    sent-line-requires
+    same-length-2
+    same-length-3
+    returns-2)

@@ -1,0 +1,56 @@
+use native.Mathlib.Omega.{arith}
+use mathlib.Core.Path.{refl, ap}
+use mathlib.Core.List.{[]}
+use Rattle.model.specs.Refusals.{VALUE}
+use Rattle.model.specs.Text.{withColumn}
+use Rattle.model.specs.Calls.{answered, done}
+use Rattle.caption.proofs.Calls.{fails, passes, none-left, stops, stops-later, ends, knows, stores-head, no-column, a-column}
+use borrow.Author.Needs.{needs}
+use Rattle.caption.proofs.place.caption_set_column.Statement.{statement}
+use Rattle.caption.proofs.place.caption_set_column.Tie as tie
+
+enter-requires : tie.Need-enter-requires
+enter-requires c κs = search needs
+
+same-length : tie.Need-same-length
+same-length c = search needs
+
+returns : tie.Need-returns
+returns c = stops _ _ refl (c .before .enter .ensures) (c .if1 .taken)
+
+glass-of-requires : tie.Need-glass-of-requires
+glass-of-requires c κs = search needs
+
+same-length-2 : tie.Need-same-length-2
+same-length-2 c = search needs
+
+returns-2 : tie.Need-returns-2
+returns-2 c = stops-later _ _ refl (c .before .before .before .before .enter .ensures) (c .before .before .before .if1 .left) VALUE (fails [] (no-column (c .before .before .glass-of .ensures) _ (c .if2 .taken))) (λ z. omega arith)
+
+with-column-requires : tie.Need-with-column-requires
+with-column-requires c κs = search needs
+
+set-head-requires : tie.Need-set-head-requires
+set-head-requires c κs = knows (c .before .before .before .before .glass-of .ensures) (c .before .before .before .before .before .before .enter .ensures) (c .before .before .before .before .before .if1 .left)
+
+same-length-3 : tie.Need-same-length-3
+same-length-3 c = search needs
+
+returns-3 : tie.Need-returns-3
+unfolding done
+returns-3 c = ends _ _ refl (c .before .before .before .before .before .before .before .before .before .enter .ensures) (c .before .before .before .before .before .before .before .before .if1 .left) (c .before .before .before .before .before .before .before .glass-of .ensures) (passes VALUE [] (a-column (c .before .before .before .before .before .before .before .glass-of .ensures) _ (c .before .before .before .before .before .if2 .left)) none-left) (ap (answered 0 []) (stores-head (withColumn (c .before .before .before .before .before .before .before .before .before .before .before .before .args .column)) (c .before .before .before .before .before .before .before .glass-of .ensures) (c .before .before .before .before .before .before .before .before .before .enter .ensures) (c .before .before .before .before .before .before .before .before .if1 .left) (c .before .before .before .with-column .ensures) (c .before .before .set-head .ensures)))
+
+pub caption-set-column-spec : {M : Type 1} → statement M
+caption-set-column-spec =
+    tie.close
+    (tie.spec
+    enter-requires
+    same-length
+    returns
+    glass-of-requires
+    same-length-2
+    returns-2
+    with-column-requires
+    set-head-requires
+    same-length-3
+    returns-3)

@@ -1,0 +1,49 @@
+// `caption_take_dirty_area`.
+use marks::rect;
+use model::Area;
+use model::Head;
+use model::Rect;
+use record::entry;
+use record::glass::glass_of;
+use record::update;
+ghost use mathlib.Core.Path.{_≡_};
+ghost use mathlib.Core.List.{[]};
+ghost use Rattle.model.specs.Geometry.{base};
+ghost use Rattle.model.specs.Rects.{none};
+ghost use Rattle.model.specs.Marks.{withDirty};
+ghost use Rattle.model.specs.Calls.{takeDirtyArea, lent, answered, areaNumbers, rectNumbers, outcome};
+
+fn with_no_dirty(h: Head) -> Head
+    ensures { λ r. ⌜ r ≡ withDirty none h ⌝ }
+{
+    let mut n = h;
+    n.dirty = rect::empty();
+    n
+}
+
+fn area(code: u32, q: Rect) -> Area
+    ensures { λ r. ⌜ (r .code ≡ code) × (areaNumbers r ≡ rectNumbers q) ⌝ }
+{
+    Area {
+        code: code,
+        left: q.left as u32,
+        top: q.top as u32,
+        right: q.right as u32,
+        bottom: q.bottom as u32,
+    }
+}
+
+#[no_mangle]
+pub extern "C" fn caption_take_dirty_area(rec: &mut [u8]) -> Area
+    ensures { λ r. ⌜ answered (r .code) (areaNumbers r) (lent (now (rec .exit)) [] []) ≡ outcome base takeDirtyArea (lent (now (rec .entry)) [] []) ⌝ }
+{
+    let e = entry::enter(rec, true);
+    let code = e.code;
+    if code != 0 {
+        return area(code, rect::empty());
+    }
+    let h = e.head;
+    let dirty = h.dirty;
+    update::set_head(rec, glass_of(rec.len()), with_no_dirty(h));
+    area(0, dirty)
+}

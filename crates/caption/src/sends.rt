@@ -1,0 +1,25 @@
+// `caption_send`.
+use accepted::sends;
+use model::Sent;
+use model::glass::MEMORY_BYTES;
+use record::entry;
+use record::glass::glass_of;
+ghost use mathlib.Core.Path.{_≡_};
+ghost use Rattle.model.specs.Geometry.{base};
+ghost use Rattle.model.specs.Calls.{send, lent, answered, sentNumbers, outcome};
+
+#[no_mangle]
+pub extern "C" fn caption_send(rec: &mut [u8], memory: &[u8], panel: &mut [u8]) -> Sent
+    ensures { λ r. ⌜ answered (r .code) (sentNumbers r) (lent (now (rec .exit)) (now (memory .entry)) (now (panel .exit))) ≡ outcome base send (lent (now (rec .entry)) (now (memory .entry)) (now (panel .entry))) ⌝ }
+{
+    let glass = glass_of(rec.len());
+    let e = entry::enter(
+        rec,
+        (memory.len() == MEMORY_BYTES) & (panel.len() == glass.screen),
+    );
+    let code = e.code;
+    if code != 0 {
+        return sends::no_line(code);
+    }
+    sends::send(rec, memory, panel, glass, e.head)
+}
