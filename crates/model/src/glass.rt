@@ -27,6 +27,8 @@ pub struct Glass {
 // The lines of a glyph.
 pub const GLYPH_HEIGHT: u8 = 16;
 
+pub const GLYPH_LINES: usize = 16;
+
 // Where a call has such an array of its own: the bytes of the text, and what a host lends.
 pub const TEXT_BYTES: usize = 100;
 
