@@ -24,7 +24,7 @@ pub struct Glass {
     pub others: usize,
 }
 
-// The lines of a glyph.
+// The lines of a glyph: as a coordinate, and as a count.
 pub const GLYPH_HEIGHT: u8 = 16;
 
 pub const GLYPH_LINES: usize = 16;

@@ -1,6 +1,5 @@
 -- One law for each kind: its room, its bytes, what it leaves.
 use mathlib.Core.Path.{refl}
-use Rattle.model.specs.Flags.{flagsIn}
 use Rattle.model.specs.Glyphs.{fonts}
 use Rattle.flush.proofs.Showing.{room-at, single-in, pair-in, code-in, blank-shown, single-shown, pair-shown, code-shown}
 use borrow.Author.Needs.{needs}
@@ -46,37 +45,25 @@ paint-code-requires c κs =
     )
 
 returns : tie.Need-returns
-returns c =
-    let a = c .before .before .before .before .before .before .before .before .before .before .args in
-    let w = a .w in
-    blank-shown (a .columns) (flagsIn (a .cells) (a .flags .now)) (w .spot) (w .lead) (w .trail) (a .screen .now) (fonts (a .ascii8 .now) (a .ascii16 .now) (a .gb .now) (a .emoji .now) (a .list .now) (a .extra .now)) (a .version) (c .enum-told .given .1)
+returns c = search blank-shown
 
 same-length : tie.Need-same-length
 same-length c = search needs
 
 returns-2 : tie.Need-returns-2
-returns-2 c =
-    let a = c .before .before .before .before .before .before .before .before .before .before .before .before .before .before .args in
-    let w = a .w in
-    single-shown (a .columns) (flagsIn (a .cells) (a .flags .now)) (w .spot) (w .lead) (w .trail) (a .screen .now) (fonts (a .ascii8 .now) (a .ascii16 .now) (a .gb .now) (a .emoji .now) (a .list .now) (a .extra .now)) (a .version) (c .before .before .before .before .enum-told2 .given .1) (c .before .before .paint-single .ensures)
+returns-2 c = search single-shown
 
 same-length-2 : tie.Need-same-length-2
 same-length-2 c = search needs
 
 returns-3 : tie.Need-returns-3
-returns-3 c =
-    let a = c .before .before .before .before .before .before .before .before .before .before .before .before .before .before .args in
-    let w = a .w in
-    pair-shown (a .columns) (flagsIn (a .cells) (a .flags .now)) (w .spot) (w .lead) (w .trail) (a .screen .now) (fonts (a .ascii8 .now) (a .ascii16 .now) (a .gb .now) (a .emoji .now) (a .list .now) (a .extra .now)) (a .version) (c .before .before .before .before .enum-told3 .given .1) (c .before .before .paint-pair .ensures)
+returns-3 c = search pair-shown
 
 same-length-3 : tie.Need-same-length-3
 same-length-3 c = search needs
 
 returns-4 : tie.Need-returns-4
-returns-4 c =
-    let a = c .before .before .before .before .before .before .before .before .before .before .before .before .before .before .before .args in
-    let w = a .w in
-    code-shown (a .columns) (flagsIn (a .cells) (a .flags .now)) (w .spot) (w .lead) (w .trail) (a .screen .now) (fonts (a .ascii8 .now) (a .ascii16 .now) (a .gb .now) (a .emoji .now) (a .list .now) (a .extra .now)) (a .version) (c .before .before .before .before .before .enum-told4 .given .1) (c .before .before .before .top-of .ensures .0) (c .before .before .paint-code .ensures)
+returns-4 c = search code-shown
 
 pub paint-shown-spec : {M : Type 1} → statement M
 paint-shown-spec =
