@@ -11,7 +11,7 @@ use Rattle.model.specs.declared.Found.the-variants.{At, Nothing}
 use Rattle.model.specs.Codes.{indexIn, emojiIndex, gbRow, gbIndex, extraFrom, extraOffset}
 use Rattle.model.specs.declared.Glyph.{Glyph}
 use Rattle.model.specs.declared.Glyph.the-variants.{Emoji, Gb, Extra, Hexadecimal}
-use Rattle.model.specs.Glyphs.{orElse, glyphOf}
+use Rattle.model.specs.Glyphs.{glyphOr, glyphOf}
 use Rattle.laws.specs.Codes.{found-at, found-nothing}
 use Rattle.flush.specs.Choice.{extraGlyph, otherGlyph}
 use Rattle.laws.specs.Tests.{tests, all-true}
@@ -42,10 +42,10 @@ extra-start list code = let q : length list / 6 ≡ length list / 6 - 0 = omega 
 
 module _ (list : List ℕ) (lead trail : ℕ) {f : Found} where
   pub extra-at : (i : ℕ) {k : ℕ} → k ≡ 256 * lead + trail → f ≡ extraOffset list k → f ≡ At i → Extra i ≡ extraGlyph list lead trail
-  extra-at i {k} e h a = found-at i Extra Hexadecimal (sym h ∙ a) ∙ ap (λ (n : ℕ). orElse (extraOffset list n) Extra Hexadecimal) e
+  extra-at i {k} e h a = found-at i Extra Hexadecimal (sym h ∙ a) ∙ ap (λ (n : ℕ). glyphOr (extraOffset list n) Extra Hexadecimal) e
 
   pub extra-none : {k : ℕ} → k ≡ 256 * lead + trail → f ≡ extraOffset list k → f ≡ Nothing → Hexadecimal ≡ extraGlyph list lead trail
-  extra-none {k} e h a = found-nothing Extra Hexadecimal (sym h ∙ a) refl ∙ ap (λ (n : ℕ). orElse (extraOffset list n) Extra Hexadecimal) e
+  extra-none {k} e h a = found-nothing Extra Hexadecimal (sym h ∙ a) refl ∙ ap (λ (n : ℕ). glyphOr (extraOffset list n) Extra Hexadecimal) e
 
   pub gb-at : (i : ℕ) → f ≡ gbIndex lead trail → f ≡ At i → Gb i ≡ otherGlyph list lead trail
   gb-at i h a = found-at i Gb (extraGlyph list lead trail) (sym h ∙ a)

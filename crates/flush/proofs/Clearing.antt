@@ -6,12 +6,12 @@ use borrow.Author.Tests.{eq-eqb, ne-eqb}
 use lib.ListN.{length}
 use Rattle.model.specs.Memory.{zeros}
 use Rattle.model.specs.Glyphs.{Store, paint}
-use Rattle.model.specs.Flush.{cleared}
+use Rattle.model.specs.Flush.{clearedInText}
 
-pub clears : (mode : ℕ) (s : List ℕ) {t : List ℕ} → mode ≡ 0 → t ≡ zeros (length s) → t ≡ cleared mode s (length s)
+pub clears : (mode : ℕ) (s : List ℕ) {t : List ℕ} → mode ≡ 0 → t ≡ zeros (length s) → t ≡ clearedInText mode s (length s)
 clears mode s e h = rw (eq-eqb mode 0 e) h
 
-pub keeps : (mode : ℕ) (s : List ℕ) → (mode ≡ 0 → ⊥) → s ≡ cleared mode s (length s)
+pub keeps : (mode : ℕ) (s : List ℕ) → (mode ≡ 0 → ⊥) → s ≡ clearedInText mode s (length s)
 keeps mode s e = rw (ne-eqb mode 0 e)
 
 pub painted-on : (ws : List Store) {s t u : List ℕ} → u ≡ paint ws t → t ≡ s → u ≡ paint ws s

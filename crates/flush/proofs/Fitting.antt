@@ -6,52 +6,60 @@ use Prim.Native.Nat.{ℕ, _+_, _-_, _*_, _/_, _%_, _≤_, _<_}
 use native.Mathlib.Omega.{arith}
 use borrow.Author.Tests.{lt-ltb, le-ltb, le-leb, lt-leb}
 use lib.Dec.{leb, ltb}
-use lib.ListN.{length, getD}
+use lib.ListN.{length}
 use Rattle.model.specs.declared.Glyph.{Glyph}
 use Rattle.model.specs.declared.Glyph.the-variants.{Emoji, Gb, Extra, Hexadecimal}
 use Rattle.model.specs.declared.Spot.{Spot}
-use Rattle.model.specs.declared.Form.{Form}
-use Rattle.model.specs.declared.Form.the-variants.{Blank, Single, Pair, Code}
-use Rattle.model.specs.Glyphs.{Fonts, digit, glyphOf, fontsFit, column, code}
-use Rattle.model.specs.Flush.{Shown, topOf, rightOf, flagAt, glyphStores, formStores, stores, spot, formOf, formAt, next, walk}
+use Rattle.model.specs.declared.CellKind.{CellKind}
+use Rattle.model.specs.declared.CellKind.the-variants.{Blank, Single, Pair, Code}
+use Rattle.model.specs.Glyphs.{Fonts, digit, glyphOf, fontsFit, columnStores, codeStores}
+use Rattle.model.specs.declared.Shown.{Shown}
+use Rattle.model.specs.Flush.{topOf, rightOf, flagAt, halfStores, glyphStores, kindStores, stores, textStores, spot, shownAt, nextSpot, walk}
 use Rattle.laws.specs.Tests.{tests, by-lt, and-true}
 use Rattle.laws.specs.Glyphs.{fits-append, column-fits, lines-fits}
 use Rattle.laws.specs.FlushWalk.{Within, rest, rest-more, rest-end, rest-start}
-use Rattle.flush.specs.Fits.{codeFits, glyphFits, formFits, walkFits}
+use Rattle.flush.specs.Fits.{codeFits, glyphFits, kindFits, shownFits, walkFits, textFits}
 
--- ---- the definition's test, form by form
+-- ---- the definition's test, kind by kind
 
-pub code-fits : (st : ℕ) (font : List ℕ) (place b : ℕ) → fontsFit (code st font place b) ≡ codeFits font b
-unfolding code codeFits
+pub code-fits : (st : ℕ) (font : List ℕ) (place b : ℕ) → fontsFit (codeStores st font place b) ≡ codeFits font b
+unfolding codeStores codeFits
 code-fits st font place b =
-    fits-append (column st font place (8 * digit (b / 16)) false 8) (column st font (place + 8 * st) (8 * digit (b % 16)) false 8)
+    fits-append (columnStores st font place (8 * digit (b / 16)) false 8) (columnStores st font (place + 8 * st) (8 * digit (b % 16)) false 8)
     ∙ (λ k. column-fits st font false place (8 * digit (b / 16)) 7 k && column-fits st font false (place + 8 * st) (8 * digit (b % 16)) 7 k)
 
-module _ (st : ℕ) (flags : List Bool) (f : Fonts) (s : Spot) where
-  pub glyph-fits : (lead trail : ℕ) (g : Glyph) → fontsFit (glyphStores st flags f s lead trail g) ≡ glyphFits f lead trail g
-  unfolding glyphStores glyphFits
-  glyph-fits lead trail (Emoji i) = lines-fits st (f .emoji) (flagAt flags (s .cell)) (flagAt flags (s .cell + 1)) (topOf st (s .row) (s .column)) (rightOf st s) (32 * i) 15
-  glyph-fits lead trail (Gb i) = lines-fits st (f .gb) (flagAt flags (s .cell)) (flagAt flags (s .cell + 1)) (topOf st (s .row) (s .column)) (rightOf st s) (32 * i) 15
-  glyph-fits lead trail (Extra i) = lines-fits st (f .extraFont) (flagAt flags (s .cell)) (flagAt flags (s .cell + 1)) (topOf st (s .row) (s .column)) (rightOf st s) i 15
-  glyph-fits lead trail Hexadecimal =
-      fits-append (code st (f .ascii8) (topOf st (s .row) (s .column)) lead) (code st (f .ascii8) (topOf st (s .row) (s .column) + 1) trail)
-      ∙ (λ k. code-fits st (f .ascii8) (topOf st (s .row) (s .column)) lead k && code-fits st (f .ascii8) (topOf st (s .row) (s .column) + 1) trail k)
+module _ (st : ℕ) (flags : List Bool) (s : Spot) where
+  halves-fit : (font : List ℕ) (i : ℕ) → fontsFit (halfStores st flags s font i) ≡ leb (i + 32) (length font)
+  halves-fit font i = lines-fits st font (flagAt flags (s .cell)) (flagAt flags (s .cell + 1)) (topOf st (s .row) (s .column)) (rightOf st s) i 15
 
-  pub form-fits : (version b trail : ℕ) (m : Form) → fontsFit (formStores st flags version f s b trail m) ≡ formFits version f b trail m
-  unfolding formStores formFits fontsFit
-  form-fits version b trail Blank = refl
-  form-fits version b trail Single = column-fits st (f .ascii16) (flagAt flags (s .cell)) (topOf st (s .row) (s .column)) (16 * b) 15
-  form-fits version b trail Pair = glyph-fits b trail (glyphOf version (f .extraList) b trail)
-  form-fits version b trail Code = code-fits st (f .ascii8) (topOf st (s .row) (s .column)) b
+  pub glyph-fits : (ascii8 gb emoji extra : List ℕ) (lead trail : ℕ) (g : Glyph)
+      → fontsFit (glyphStores st flags ascii8 gb emoji extra s lead trail g) ≡ glyphFits ascii8 gb emoji extra lead trail g
+  unfolding glyphStores glyphFits
+  glyph-fits ascii8 gb emoji extra lead trail (Emoji i) = halves-fit emoji (32 * i)
+  glyph-fits ascii8 gb emoji extra lead trail (Gb i) = halves-fit gb (32 * i)
+  glyph-fits ascii8 gb emoji extra lead trail (Extra i) = halves-fit extra i
+  glyph-fits ascii8 gb emoji extra lead trail Hexadecimal =
+      fits-append (codeStores st ascii8 (topOf st (s .row) (s .column)) lead) (codeStores st ascii8 (topOf st (s .row) (s .column) + 1) trail)
+      ∙ (λ k. code-fits st ascii8 (topOf st (s .row) (s .column)) lead k && code-fits st ascii8 (topOf st (s .row) (s .column) + 1) trail k)
+
+  pub kind-fits : (f : Fonts) (version b trail : ℕ) (m : CellKind) → fontsFit (kindStores st flags version f s b trail m) ≡ kindFits version f b trail m
+  unfolding kindStores kindFits fontsFit
+  kind-fits f version b trail Blank = refl
+  kind-fits f version b trail Single = column-fits st (f .ascii16) (flagAt flags (s .cell)) (topOf st (s .row) (s .column)) (16 * b) 15
+  kind-fits f version b trail Pair = glyph-fits (f .ascii8) (f .gb) (f .emoji) (f .extraFont) b trail (glyphOf version (f .extraList) b trail)
+  kind-fits f version b trail Code = code-fits st (f .ascii8) (topOf st (s .row) (s .column)) b
 
 -- and of the whole walk
-pub walk-fits : (st : ℕ) (text : List ℕ) (flags : List Bool) (version : ℕ) (f : Fonts) (ws : List Shown)
-    → fontsFit (stores st text flags version f ws) ≡ walkFits text version f ws
+pub walk-fits : (st : ℕ) (flags : List Bool) (version : ℕ) (f : Fonts) (ws : List Shown) → fontsFit (stores st flags version f ws) ≡ walkFits version f ws
 unfolding stores walkFits fontsFit
-walk-fits st text flags version f [] = refl
-walk-fits st text flags version f (w ∷ ws) =
-    fits-append (formStores st flags version f (w .spot) (getD text (w .spot .cell) 0) (getD text (w .spot .cell + 1) 0) (w .form)) (stores st text flags version f ws)
-    ∙ (λ k. form-fits st flags f (w .spot) version (getD text (w .spot .cell) 0) (getD text (w .spot .cell + 1) 0) (w .form) k && walk-fits st text flags version f ws k)
+walk-fits st flags version f [] = refl
+walk-fits st flags version f (w ∷ ws) =
+    fits-append (kindStores st flags version f (w .spot) (w .lead) (w .trail) (w .kind)) (stores st flags version f ws)
+    ∙ (λ k. kind-fits st flags (w .spot) f version (w .lead) (w .trail) (w .kind) k && walk-fits st flags version f ws k)
+
+pub text-fits : (st n : ℕ) (text : List ℕ) (flags : List Bool) (version : ℕ) (f : Fonts) → fontsFit (textStores st n text flags version f) ≡ textFits st n text version f
+unfolding textStores
+text-fits st n text flags version f = walk-fits st flags version f (walk st n text (n * st) (spot 0 0 0))
 
 -- ---- the tests in code
 
@@ -73,77 +81,68 @@ pub code-tested : (font : List ℕ) (b : ℕ) {h l : ℕ} → h ≡ digit (b / 1
 unfolding codeFits
 code-tested font b e g = λ k. leb (8 * e k + 8) (length font) && leb (8 * g k + 8) (length font)
 
-module _ (f : Fonts) (lead trail : ℕ) {g : Glyph} where
-  pub emoji-fits : (i : ℕ) {t : Bool} → g ≡ Emoji i → t ≡ leb (32 * i + 32) (length (f .emoji)) → t ≡ glyphFits f lead trail g
+module _ (ascii8 gb emoji extra : List ℕ) (lead trail : ℕ) {g : Glyph} where
+  pub emoji-fits : (i : ℕ) {t : Bool} → g ≡ Emoji i → t ≡ leb (32 * i + 32) (length emoji) → t ≡ glyphFits ascii8 gb emoji extra lead trail g
   unfolding glyphFits
   emoji-fits i e h = rw e h
 
-  pub gb-fits : (i : ℕ) {t : Bool} → g ≡ Gb i → t ≡ leb (32 * i + 32) (length (f .gb)) → t ≡ glyphFits f lead trail g
+  pub gb-fits : (i : ℕ) {t : Bool} → g ≡ Gb i → t ≡ leb (32 * i + 32) (length gb) → t ≡ glyphFits ascii8 gb emoji extra lead trail g
   unfolding glyphFits
   gb-fits i e h = rw e h
 
-  pub extra-fits : (i : ℕ) {t : Bool} → g ≡ Extra i → t ≡ leb (i + 32) (length (f .extraFont)) → t ≡ glyphFits f lead trail g
+  pub extra-fits : (i : ℕ) {t : Bool} → g ≡ Extra i → t ≡ leb (i + 32) (length extra) → t ≡ glyphFits ascii8 gb emoji extra lead trail g
   unfolding glyphFits
   extra-fits i e h = rw e h
 
-  pub codes-fit : {t u : Bool} → g ≡ Hexadecimal → t ≡ codeFits (f .ascii8) lead → u ≡ codeFits (f .ascii8) trail → (t && u) ≡ glyphFits f lead trail g
+  pub codes-fit : {t u : Bool} → g ≡ Hexadecimal → t ≡ codeFits ascii8 lead → u ≡ codeFits ascii8 trail → (t && u) ≡ glyphFits ascii8 gb emoji extra lead trail g
   unfolding glyphFits
   codes-fit e h k = rw e (λ i. h i && k i)
 
-module _ (version : ℕ) (f : Fonts) (b trail : ℕ) {m : Form} where
-  pub blank-fits : m ≡ Blank → true ≡ formFits version f b trail m
-  unfolding formFits
+module _ (version : ℕ) (f : Fonts) (b trail : ℕ) {m : CellKind} where
+  pub blank-fits : m ≡ Blank → true ≡ kindFits version f b trail m
+  unfolding kindFits
   blank-fits e = rw e
 
-  pub single-fits : {t : Bool} → m ≡ Single → t ≡ leb (16 * b + 16) (length (f .ascii16)) → t ≡ formFits version f b trail m
-  unfolding formFits
+  pub single-fits : {t : Bool} → m ≡ Single → t ≡ leb (16 * b + 16) (length (f .ascii16)) → t ≡ kindFits version f b trail m
+  unfolding kindFits
   single-fits e h = rw e h
 
-  pub pair-fits : {g : Glyph} {t : Bool} → m ≡ Pair → g ≡ glyphOf version (f .extraList) b trail → t ≡ glyphFits f b trail g → t ≡ formFits version f b trail m
-  unfolding formFits
-  pair-fits e h k = rw e (k ∙ ap (glyphFits f b trail) h)
+  pub pair-fits : {g : Glyph} {t : Bool} → m ≡ Pair → g ≡ glyphOf version (f .extraList) b trail → t ≡ glyphFits (f .ascii8) (f .gb) (f .emoji) (f .extraFont) b trail g
+      → t ≡ kindFits version f b trail m
+  unfolding kindFits
+  pair-fits e h k = rw e (k ∙ ap (glyphFits (f .ascii8) (f .gb) (f .emoji) (f .extraFont) b trail) h)
 
-  pub alone-fits : {t : Bool} → m ≡ Code → t ≡ codeFits (f .ascii8) b → t ≡ formFits version f b trail m
-  unfolding formFits
+  pub alone-fits : {t : Bool} → m ≡ Code → t ≡ codeFits (f .ascii8) b → t ≡ kindFits version f b trail m
+  unfolding kindFits
   alone-fits e h = rw e h
 
 -- ---- the walk, one step at a time
 
 module _ (st n : ℕ) (text : List ℕ) (version : ℕ) (f : Fonts) where
-  pub fits-start : walkFits text version f (walk st n text (n * st) (spot 0 0 0)) ≡ walkFits text version f (rest st n text (spot 0 0 0))
-  fits-start = ap (walkFits text version f) (rest-start st n text)
+  pub fits-start : {s : Spot} → s ≡ spot 0 0 0 → walkFits version f (rest st n text s) ≡ textFits st n text version f
+  fits-start e = ap (λ (x : Spot). walkFits version f (rest st n text x)) e ∙ ap (walkFits version f) (sym (rest-start st n text))
 
-  pub fits-step : (s : Spot) → Within st n s → s .row < n
-      → walkFits text version f (rest st n text s)
-      ≡ (formFits version f (getD text (s .cell) 0) (getD text (s .cell + 1) 0) (formAt st n text s) && walkFits text version f (rest st n text (next st n text s)))
+  pub fits-end : (s : Spot) → n ≤ s .row → walkFits version f (rest st n text s) ≡ true
   unfolding walkFits
-  fits-step s w l = ap (walkFits text version f) (rest-more st n text s w l)
+  fits-end s l = ap (walkFits version f) (rest-end st n text s l)
 
-  pub fits-end : (s : Spot) → n ≤ s .row → walkFits text version f (rest st n text s) ≡ true
-  unfolding walkFits
-  fits-end s l = ap (walkFits text version f) (rest-end st n text s l)
+  module _ (s : Spot) {w : Shown} (h : Within st n s) (l : s .row < n) (e : w ≡ shownAt st n text s) where
+    fits-step : walkFits version f (rest st n text s) ≡ (shownFits version f w && walkFits version f (rest st n text (nextSpot st w)))
+    unfolding walkFits
+    fits-step = ap (walkFits version f) (rest-more st n text s h l)
+        ∙ ap (λ (x : Shown). shownFits version f x && walkFits version f (rest st n text (nextSpot st x))) (sym e)
 
-  -- a step that passes
-  pub fits-turn : (s : Spot) {b trail : ℕ} {m : Form} {fit whole : Bool} → Within st n s → s .row < n → b ≡ getD text (s .cell) 0 → trail ≡ getD text (s .cell + 1) 0
-      → m ≡ formOf st n b s → fit ≡ formFits version f b trail m → fit ≡ true → walkFits text version f (rest st n text s) ≡ whole
-      → walkFits text version f (rest st n text (next st n text s)) ≡ whole
-  fits-turn s w l eb et em ef ok h =
-      let q : formFits version f (getD text (s .cell) 0) (getD text (s .cell + 1) 0) (formAt st n text s) ≡ true =
-      sym (ef ∙ (λ k. formFits version f (eb k) (et k) ((em ∙ ap (λ (x : ℕ). formOf st n x s) eb) k))) ∙ ok in
-      sym (fits-step s w l ∙ ap (λ (t : Bool). t && walkFits text version f (rest st n text (next st n text s))) q) ∙ h
+    -- a step that passes
+    pub fits-turn : {fit whole : Bool} {t : Spot} → fit ≡ shownFits version f w → fit ≡ true → t ≡ nextSpot st w → walkFits version f (rest st n text s) ≡ whole
+        → walkFits version f (rest st n text t) ≡ whole
+    fits-turn {t = t} ef ok q k =
+        ap (λ (x : Spot). walkFits version f (rest st n text x)) q
+        ∙ ap (λ (x : Bool). x && walkFits version f (rest st n text (nextSpot st w))) (sym (sym ef ∙ ok)) ∙ sym fits-step ∙ k
 
-  -- and one that fails
-  pub fits-stop : (s : Spot) {b trail : ℕ} {m : Form} {fit whole : Bool} → Within st n s → s .row < n → b ≡ getD text (s .cell) 0 → trail ≡ getD text (s .cell + 1) 0
-      → m ≡ formOf st n b s → fit ≡ formFits version f b trail m → fit ≡ false → walkFits text version f (rest st n text s) ≡ whole → false ≡ whole
-  fits-stop s w l eb et em ef bad h =
-      let q : formFits version f (getD text (s .cell) 0) (getD text (s .cell + 1) 0) (formAt st n text s) ≡ false =
-      sym (ef ∙ (λ k. formFits version f (eb k) (et k) ((em ∙ ap (λ (x : ℕ). formOf st n x s) eb) k))) ∙ bad in
-      sym (fits-step s w l ∙ ap (λ (t : Bool). t && walkFits text version f (rest st n text (next st n text s))) q) ∙ h
+    -- and one that fails
+    pub fits-stop : {fit whole : Bool} → fit ≡ shownFits version f w → fit ≡ false → walkFits version f (rest st n text s) ≡ whole → false ≡ whole
+    fits-stop ef bad k = ap (λ (x : Bool). x && walkFits version f (rest st n text (nextSpot st w))) (sym (sym ef ∙ bad)) ∙ sym fits-step ∙ k
 
-  -- where the rest passes, what is shown here does
-  pub fits-here : (s : Spot) {b trail : ℕ} {m : Form} → Within st n s → s .row < n → b ≡ getD text (s .cell) 0 → trail ≡ getD text (s .cell + 1) 0
-      → m ≡ formOf st n b s → walkFits text version f (rest st n text s) ≡ true → formFits version f b trail m ≡ true
-  fits-here s w l eb et em h =
-      (λ k. formFits version f (eb k) (et k) ((em ∙ ap (λ (x : ℕ). formOf st n x s) eb) k))
-      ∙ and-true (formFits version f (getD text (s .cell) 0) (getD text (s .cell + 1) 0) (formAt st n text s)) (walkFits text version f (rest st n text (next st n text s)))
-      (sym (fits-step s w l) ∙ h) .0
+    -- where the rest passes, what is shown here does
+    pub fits-here : walkFits version f (rest st n text s) ≡ true → shownFits version f w ≡ true
+    fits-here k = and-true (shownFits version f w) (walkFits version f (rest st n text (nextSpot st w))) (sym fits-step ∙ k) .0

@@ -8,10 +8,10 @@ use borrow.Author.Tests.{lt-ltb, le-ltb}
 use lib.ListN.{length, getD, set, take, drop, drop-of-length-le}
 use Rattle.model.specs.declared.Glyph.{Glyph}
 use Rattle.model.specs.declared.Glyph.the-variants.{Emoji, Gb, Extra, Hexadecimal}
-use Rattle.model.specs.Glyphs.{flipped, digit, paint, column, code}
+use Rattle.model.specs.Glyphs.{flipped, digit, paint, columnStores, codeStores}
 use Rattle.laws.specs.Tests.{neither}
 use Rattle.laws.specs.Glyphs.{paint-append, column-turn, column-end, paintLines, lines-turn}
-use Rattle.flush.specs.Page.{Room, partOf, PartFits}
+use Rattle.flush.specs.Rooms.{Room, partOf, PartFits}
 
 -- ---- flips and digits
 
@@ -27,21 +27,21 @@ digit-high n l = rw (le-ltb n 10 l)
 -- ---- a column: bytes i up to e are left
 
 module _ (st : ℕ) (font : List ℕ) (inverse : Bool) where
-  pub column-start : (top from h : ℕ) (s : List ℕ) → paint (column st font top from inverse (from + h - from)) s ≡ paint (column st font top from inverse h) s
-  column-start top from h s = let q : from + h - from ≡ h = omega arith in ap (λ (k : ℕ). paint (column st font top from inverse k) s) q
+  pub column-start : (top from h : ℕ) (s : List ℕ) → paint (columnStores st font top from inverse (from + h - from)) s ≡ paint (columnStores st font top from inverse h) s
+  column-start top from h s = let q : from + h - from ≡ h = omega arith in ap (λ (k : ℕ). paint (columnStores st font top from inverse k) s) q
 
   pub column-again : (place i e : ℕ) (s : List ℕ) {t : List ℕ} {v : ℕ} → i < e → v ≡ flipped inverse (getD font i 0)
-      → paint (column st font place i inverse (e - i)) s ≡ t → paint (column st font (place + st) (i + 1) inverse (e - (i + 1))) (set s place v) ≡ t
+      → paint (columnStores st font place i inverse (e - i)) s ≡ t → paint (columnStores st font (place + st) (i + 1) inverse (e - (i + 1))) (set s place v) ≡ t
   column-again place i e s {v = v} l f h =
-      ap (λ (x : ℕ). paint (column st font (place + st) (i + 1) inverse (e - (i + 1))) (set s place x)) f ∙ sym (column-turn st font inverse place i e s l) ∙ h
+      ap (λ (x : ℕ). paint (columnStores st font (place + st) (i + 1) inverse (e - (i + 1))) (set s place x)) f ∙ sym (column-turn st font inverse place i e s l) ∙ h
 
-  pub column-done : (place i e : ℕ) (s : List ℕ) {t : List ℕ} → e ≤ i → paint (column st font place i inverse (e - i)) s ≡ t → s ≡ t
+  pub column-done : (place i e : ℕ) (s : List ℕ) {t : List ℕ} → e ≤ i → paint (columnStores st font place i inverse (e - i)) s ≡ t → s ≡ t
   column-done place i e s l h = sym (column-end st font inverse place i e s l) ∙ h
 
 -- a flag that was tested
-pub column-as : (st : ℕ) (font : List ℕ) (top from h : ℕ) (s : List ℕ) {a b : Bool} {v : List ℕ} → a ≡ b → v ≡ paint (column st font top from b h) s
-    → v ≡ paint (column st font top from a h) s
-column-as st font top from h s e k = k ∙ ap (λ (x : Bool). paint (column st font top from x h) s) (sym e)
+pub column-as : (st : ℕ) (font : List ℕ) (top from h : ℕ) (s : List ℕ) {a b : Bool} {v : List ℕ} → a ≡ b → v ≡ paint (columnStores st font top from b h) s
+    → v ≡ paint (columnStores st font top from a h) s
+column-as st font top from h s e k = k ∙ ap (λ (x : Bool). paint (columnStores st font top from x h) s) (sym e)
 
 pub lines-as : (st left right : ℕ) (g : List (List ℕ)) (s : List ℕ) (a b : Bool) {v : List ℕ} → (a || b) ≡ false → v ≡ paintLines st left right false false g s
     → v ≡ paintLines st left right a b g s
@@ -95,9 +95,9 @@ no-part emoji gb extra e = rw e
 -- ---- a byte in hexadecimal
 
 pub code-painted : (st top b : ℕ) (font s : List ℕ) {t u : List ℕ} {high low : ℕ} → high ≡ digit (b / 16) → low ≡ digit (b % 16)
-    → t ≡ paint (column st font top (8 * high) false 8) s → u ≡ paint (column st font (top + 8 * st) (8 * low) false 8) t → u ≡ paint (code st font top b) s
-unfolding code
+    → t ≡ paint (columnStores st font top (8 * high) false 8) s → u ≡ paint (columnStores st font (top + 8 * st) (8 * low) false 8) t → u ≡ paint (codeStores st font top b) s
+unfolding codeStores
 code-painted st top b font s {t} {u} e f h k =
-    k ∙ ap (paint (column st font (top + 8 * st) _ false 8)) h
-    ∙ (λ i. paint (column st font (top + 8 * st) (8 * f i) false 8) (paint (column st font top (8 * e i) false 8) s))
-    ∙ sym (paint-append (column st font top (8 * digit (b / 16)) false 8) (column st font (top + 8 * st) (8 * digit (b % 16)) false 8) s)
+    k ∙ ap (paint (columnStores st font (top + 8 * st) _ false 8)) h
+    ∙ (λ i. paint (columnStores st font (top + 8 * st) (8 * f i) false 8) (paint (columnStores st font top (8 * e i) false 8) s))
+    ∙ sym (paint-append (columnStores st font top (8 * digit (b / 16)) false 8) (columnStores st font (top + 8 * st) (8 * digit (b % 16)) false 8) s)

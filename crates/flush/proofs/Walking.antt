@@ -1,4 +1,4 @@
--- The walk in code: forms, and what a step keeps.
+-- The walk in code: what is shown, and what a step keeps.
 use mathlib.Core.Path.{_≡_, refl, ap, _∙_}
 use mathlib.Core.Bool.{Bool, true, false}
 use mathlib.Core.List.{List, [], _∷_}
@@ -8,9 +8,11 @@ use native.Mathlib.Omega.{arith}
 use borrow.Author.Tests.{eq-eqb, ne-eqb, lt-ltb, le-ltb}
 use lib.ListN.{length, getD}
 use Rattle.model.specs.declared.Spot.{Spot}
-use Rattle.model.specs.declared.Form.{Form}
-use Rattle.model.specs.declared.Form.the-variants.{Blank, Single, Pair, Code}
-use Rattle.model.specs.Flush.{spot, isLast, formOf, formAt, taken, after, next}
+use Rattle.model.specs.declared.CellKind.{CellKind}
+use Rattle.model.specs.declared.CellKind.the-variants.{Blank, Single, Pair, Code}
+use Rattle.model.specs.declared.Shown.{Shown}
+use Rattle.model.specs.Flush.{spot, isLast, kindOf, shownAt, cellsTaken, spotAfter, nextSpot}
+use Rattle.flush.specs.Rooms.{TextSize}
 use Rattle.laws.specs.FlushWalk.{Within, placesLeft, taken-most, within-next, left-after}
 
 pub past-end : (l : List ℕ) (i : ℕ) → length l ≤ i → 0 ≡ getD l i 0
@@ -18,40 +20,44 @@ past-end [] i h = refl
 past-end (x ∷ l) zero h = absurd (omega arith)
 past-end (x ∷ l) (suc i) h = past-end l i (omega arith)
 
--- ---- forms
+-- ---- what is shown
 
-pub taken-pair : {f : Form} → f ≡ Pair → 2 ≡ taken f
-unfolding taken
+pub taken-pair : {k : CellKind} → k ≡ Pair → 2 ≡ cellsTaken k
+unfolding cellsTaken
 taken-pair e = rw e
 
-pub taken-blank : {f : Form} → f ≡ Blank → 1 ≡ taken f
-unfolding taken
+pub taken-blank : {k : CellKind} → k ≡ Blank → 1 ≡ cellsTaken k
+unfolding cellsTaken
 taken-blank e = rw e
 
-pub taken-single : {f : Form} → f ≡ Single → 1 ≡ taken f
-unfolding taken
+pub taken-single : {k : CellKind} → k ≡ Single → 1 ≡ cellsTaken k
+unfolding cellsTaken
 taken-single e = rw e
 
-pub taken-code : {f : Form} → f ≡ Code → 1 ≡ taken f
-unfolding taken
+pub taken-code : {k : CellKind} → k ≡ Code → 1 ≡ cellsTaken k
+unfolding cellsTaken
 taken-code e = rw e
 
 module _ (st n b : ℕ) (s : Spot) where
-  pub form-blank : b ≡ 0 → Blank ≡ formOf st n b s
-  unfolding formOf
-  form-blank e = rw (eq-eqb b 0 e)
+  pub kind-blank : b ≡ 0 → Blank ≡ kindOf st n b s
+  unfolding kindOf
+  kind-blank e = rw (eq-eqb b 0 e)
 
-  pub form-single : (b ≡ 0 → ⊥) → b < 128 → Single ≡ formOf st n b s
-  unfolding formOf
-  form-single e l = rw (ne-eqb b 0 e, lt-ltb b 128 l)
+  pub kind-single : (b ≡ 0 → ⊥) → b < 128 → Single ≡ kindOf st n b s
+  unfolding kindOf
+  kind-single e l = rw (ne-eqb b 0 e, lt-ltb b 128 l)
 
-  pub form-code : {t : Bool} → (b ≡ 0 → ⊥) → 128 ≤ b → t ≡ isLast st n s → t ≡ true → Code ≡ formOf st n b s
-  unfolding formOf
-  form-code e l h y = rw (ne-eqb b 0 e, le-ltb b 128 l, ← h, y)
+  pub kind-code : {t : Bool} → (b ≡ 0 → ⊥) → 128 ≤ b → t ≡ isLast st n s → t ≡ true → Code ≡ kindOf st n b s
+  unfolding kindOf
+  kind-code e l h y = rw (ne-eqb b 0 e, le-ltb b 128 l, ← h, y)
 
-  pub form-pair : {t : Bool} → (b ≡ 0 → ⊥) → 128 ≤ b → t ≡ isLast st n s → t ≡ false → Pair ≡ formOf st n b s
-  unfolding formOf
-  form-pair e l h y = rw (ne-eqb b 0 e, le-ltb b 128 l, ← h, y)
+  pub kind-pair : {t : Bool} → (b ≡ 0 → ⊥) → 128 ≤ b → t ≡ isLast st n s → t ≡ false → Pair ≡ kindOf st n b s
+  unfolding kindOf
+  kind-pair e l h y = rw (ne-eqb b 0 e, le-ltb b 128 l, ← h, y)
+
+pub shown-here : (st n : ℕ) (text : List ℕ) (s : Spot) {lead trail : ℕ} {k : CellKind} → lead ≡ getD text (s .cell) 0 → trail ≡ getD text (s .cell + 1) 0
+    → k ≡ kindOf st n lead s → record { spot = s; lead = lead; trail = trail; kind = k } ≡ shownAt st n text s
+shown-here st n text s el et ek = λ i. record { spot = s; lead = el i; trail = et i; kind = (ek ∙ ap (λ (b : ℕ). kindOf st n b s) el) i }
 
 -- ---- the cell that is read stays small
 
@@ -60,12 +66,12 @@ cell-small st n s w a b =
     let r : s .row ≤ 16 = omega (arith, w .row) in
     omega (arith, w .ahead, w .column, mul-le-mul a r)
 
-pub after-row : (st k : ℕ) (s : Spot) → s .column + k < st → spot (s .cell + k) (s .row) (s .column + k) ≡ after st s k
-unfolding after
+pub after-row : (st k : ℕ) (s : Spot) → s .column + k < st → spot (s .cell + k) (s .row) (s .column + k) ≡ spotAfter st s k
+unfolding spotAfter
 after-row st k s l = rw (lt-ltb (s .column + k) st l)
 
-pub after-end : (st k : ℕ) (s : Spot) → st ≤ s .column + k → spot (s .cell + k) (s .row + 1) 0 ≡ after st s k
-unfolding after
+pub after-end : (st k : ℕ) (s : Spot) → st ≤ s .column + k → spot (s .cell + k) (s .row + 1) 0 ≡ spotAfter st s k
+unfolding spotAfter
 after-end st k s l = rw (le-ltb (s .column + k) st l)
 
 -- ---- a step of the walk
@@ -73,17 +79,24 @@ after-end st k s l = rw (le-ltb (s .column + k) st l)
 pub within-start : (st n : ℕ) → 0 < st → Within st n (spot 0 0 0)
 within-start st n h = record { column = h; row = omega arith; ahead = omega arith }
 
--- the spot after a form is the walk's next
-pub stepped : (st n : ℕ) (text : List ℕ) (s : Spot) {b k : ℕ} {m : Form} {t : Spot} → b ≡ getD text (s .cell) 0 → m ≡ formOf st n b s → k ≡ taken m → t ≡ after st s k
-    → t ≡ next st n text s
-stepped st n text s e f g h = h ∙ ap (after st s) (g ∙ ap taken (f ∙ ap (λ (x : ℕ). formOf st n x s) e))
+-- the spot after what is shown
+pub taken-small : (k : CellKind) {n : ℕ} → n ≡ cellsTaken k → n ≤ 2
+taken-small k e = omega (arith, e, taken-most k)
 
-pub taken-small : (m : Form) {k : ℕ} → k ≡ taken m → k ≤ 2
-taken-small m e = omega (arith, e, taken-most m)
+pub went-on : (st : ℕ) (w : Shown) {k : ℕ} {t : Spot} → k ≡ cellsTaken (w .kind) → t ≡ spotAfter st (w .spot) k → t ≡ nextSpot st w
+went-on st w e h = h ∙ ap (spotAfter st (w .spot)) e
 
-module _ (st n : ℕ) (text : List ℕ) (s : Spot) {t : Spot} where
-  pub within-turn : Within st n s → s .row < n → t ≡ next st n text s → Within st n t
-  within-turn w l e = rw e (within-next st n text s w l)
+module _ (st n : ℕ) (text : List ℕ) (s : Spot) {w : Shown} (h : Within st n s) (l : s .row < n) (e : w ≡ shownAt st n text s) where
+  pub spot-small : TextSize st n → (w .spot .cell ≤ 65535) × (w .spot .column ≤ 65535) × (w .spot .row ≤ 65535)
+  spot-small z =
+      let c = cell-small st n s h (z .narrow) (z .low) in
+      rw e (omega arith, omega (arith, h .column, z .narrow), omega (arith, h .row, z .low))
 
-  pub left-turn : Within st n s → s .row < n → t ≡ next st n text s → placesLeft st n t < placesLeft st n s
-  left-turn w l e = rw e (left-after st n s (taken (formAt st n text s)) w l (taken-most (formAt st n text s) .0))
+  stepped : {t : Spot} → t ≡ nextSpot st w → t ≡ nextSpot st (shownAt st n text s)
+  stepped q = q ∙ ap (nextSpot st) e
+
+  pub within-turn : {t : Spot} → t ≡ nextSpot st w → Within st n t
+  within-turn q = rw (stepped q) (within-next st n text s h l)
+
+  pub left-turn : {t : Spot} → t ≡ nextSpot st w → placesLeft st n t < placesLeft st n s
+  left-turn q = rw (stepped q) (left-after st n s (cellsTaken (shownAt st n text s .kind)) h l (taken-most (shownAt st n text s .kind) .0))

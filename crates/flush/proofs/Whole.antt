@@ -1,6 +1,6 @@
 -- Whole fonts: emoji indices are below 527, GB indices below 7,614, digits below G, so any text of bytes fits.
 use mathlib.Core.Path.{_≡_, refl, ap}
-use mathlib.Core.Bool.{true, _&&_}
+use mathlib.Core.Bool.{Bool, true, _&&_}
 use mathlib.Core.List.{List, [], _∷_}
 use Prim.Native.Nat.{ℕ, zero, suc, _+_, _-_, _*_, _/_, _%_, _≤_, _<_}
 use native.Mathlib.Omega.{arith}
@@ -11,15 +11,17 @@ use mir.Syntax.{w8}
 use mir.Val.{Fits}
 use Rattle.model.specs.declared.Found.{Found}
 use Rattle.model.specs.declared.Found.the-variants.{At, Nothing}
+use Rattle.model.specs.declared.Glyph.{Glyph}
 use Rattle.model.specs.declared.Glyph.the-variants.{Emoji, Gb, Extra, Hexadecimal}
 use Rattle.model.specs.declared.Spot.{Spot}
-use Rattle.model.specs.declared.Form.{Form}
+use Rattle.model.specs.declared.CellKind.{CellKind}
+use Rattle.model.specs.declared.Shown.{Shown}
 use Rattle.model.specs.Rects.{every}
 use Rattle.model.specs.Codes.{CodeRow, emojiRows, inRow, indexIn, emojiIndex, gbRow, gbIndex, extraFrom, extraOffset}
-use Rattle.model.specs.Glyphs.{Fonts, digit, orElse, glyphOf}
-use Rattle.model.specs.Flush.{Shown, isLast, formOf, next, walk}
+use Rattle.model.specs.Glyphs.{Fonts, digit, glyphOr, glyphOf}
+use Rattle.model.specs.Flush.{isLast, kindOf, shownAt, nextSpot, spot, walk}
 use Rattle.laws.specs.Tests.{tests, all-true, and-true, if-cases}
-use Rattle.flush.specs.Fits.{codeFits, glyphFits, formFits, walkFits, wholeFonts}
+use Rattle.flush.specs.Fits.{codeFits, glyphFits, kindFits, walkFits, textFits, wholeFonts}
 
 -- ---- indices
 
@@ -96,40 +98,46 @@ module _ (f : Fonts) (w : wholeFonts (f .ascii8) (f .ascii16) (f .gb) (f .emoji)
       )
 
   -- source by source
-  extra-whole : (lead trail : ℕ) → lead < 256 → trail < 256 → glyphFits f lead trail (orElse (extraOffset (f .extraList) (256 * lead + trail)) Extra Hexadecimal) ≡ true
-  unfolding orElse glyphFits
+  abbrev fits : ℕ → ℕ → Glyph → Bool
+  fits = glyphFits (f .ascii8) (f .gb) (f .emoji) (f .extraFont)
+
+  extra-whole : (lead trail : ℕ) → lead < 256 → trail < 256 → fits lead trail (glyphOr (extraOffset (f .extraList) (256 * lead + trail)) Extra Hexadecimal) ≡ true
+  unfolding glyphOr glyphFits
   extra-whole lead trail hl ht = rw (no-extra (f .extraList) (256 * lead + trail) (whole .list), code-whole lead hl, code-whole trail ht)
 
   gb-whole : (lead trail : ℕ) → lead < 256 → trail < 256 → (x : Found) → below x 7614
-      → glyphFits f lead trail (orElse x Gb (orElse (extraOffset (f .extraList) (256 * lead + trail)) Extra Hexadecimal)) ≡ true
-  unfolding orElse glyphFits
+      → fits lead trail (glyphOr x Gb (glyphOr (extraOffset (f .extraList) (256 * lead + trail)) Extra Hexadecimal)) ≡ true
+  unfolding glyphOr glyphFits
   gb-whole lead trail hl ht (At i) h = le-leb (32 * i + 32) (length (f .gb)) (omega (arith, whole .gb))
   gb-whole lead trail hl ht Nothing h = extra-whole lead trail hl ht
 
   emoji-whole : (lead trail : ℕ) → lead < 256 → trail < 256 → (x : Found) → below x 527
-      → glyphFits f lead trail (orElse x Emoji (orElse (gbIndex lead trail) Gb (orElse (extraOffset (f .extraList) (256 * lead + trail)) Extra Hexadecimal))) ≡ true
-  unfolding orElse glyphFits
+      → fits lead trail (glyphOr x Emoji (glyphOr (gbIndex lead trail) Gb (glyphOr (extraOffset (f .extraList) (256 * lead + trail)) Extra Hexadecimal))) ≡ true
+  unfolding glyphOr glyphFits
   emoji-whole lead trail hl ht (At i) h = le-leb (32 * i + 32) (length (f .emoji)) (omega (arith, whole .emoji))
   emoji-whole lead trail hl ht Nothing h = gb-whole lead trail hl ht (gbIndex lead trail) (gb-below lead trail)
 
-  glyph-whole : (version lead trail : ℕ) → lead < 256 → trail < 256 → glyphFits f lead trail (glyphOf version (f .extraList) lead trail) ≡ true
+  glyph-whole : (version lead trail : ℕ) → lead < 256 → trail < 256 → fits lead trail (glyphOf version (f .extraList) lead trail) ≡ true
   unfolding glyphOf
   glyph-whole version lead trail hl ht = emoji-whole lead trail hl ht (emojiIndex version lead trail) (emoji-below version lead trail)
 
-  form-whole : (st n version b trail : ℕ) (s : Spot) → b < 256 → trail < 256 → formFits version f b trail (formOf st n b s) ≡ true
-  unfolding formOf formFits
-  form-whole st n version b trail s hb ht =
-      if-cases (λ (m : Form). formFits version f b trail m ≡ true) (eqb b 0) (λ e. refl)
-      (λ e. if-cases (λ (m : Form). formFits version f b trail m ≡ true) (ltb b 128)
+  kind-whole : (st n version b trail : ℕ) (s : Spot) → b < 256 → trail < 256 → kindFits version f b trail (kindOf st n b s) ≡ true
+  unfolding kindOf kindFits
+  kind-whole st n version b trail s hb ht =
+      if-cases (λ (m : CellKind). kindFits version f b trail m ≡ true) (eqb b 0) (λ e. refl)
+      (λ e. if-cases (λ (m : CellKind). kindFits version f b trail m ≡ true) (ltb b 128)
       (λ t. le-leb (16 * b + 16) (length (f .ascii16)) (omega (arith, tests, whole .ascii16)))
-      (λ t. if-cases (λ (m : Form). formFits version f b trail m ≡ true) (isLast st n s) (λ u. code-whole b hb) (λ u. glyph-whole version b trail hb ht)))
+      (λ t. if-cases (λ (m : CellKind). kindFits version f b trail m ≡ true) (isLast st n s) (λ u. code-whole b hb) (λ u. glyph-whole version b trail hb ht)))
 
-  pub walk-whole : (st n version : ℕ) (text : List ℕ) → ((i : ℕ) → Fits w8 (getD text i 0)) → (k : ℕ) (s : Spot)
-      → true ≡ walkFits text version f (walk st n text k s)
-  unfolding walk walkFits
-  walk-whole st n version text h zero s = refl
-  walk-whole st n version text h (suc k) s =
-      if-cases (λ (ws : List Shown). true ≡ walkFits text version f ws) (ltb (s .row) n)
-      (λ e. rw (form-whole st n version (getD text (s .cell) 0) (getD text (s .cell + 1) 0) s (h (s .cell) .fits) (h (s .cell + 1) .fits))
-      (walk-whole st n version text h k (next st n text s)))
-      (λ e. refl)
+  module _ (st n version : ℕ) (text : List ℕ) (h : (i : ℕ) → Fits w8 (getD text i 0)) where
+    walk-whole : (k : ℕ) (s : Spot) → true ≡ walkFits version f (walk st n text k s)
+    unfolding walk walkFits
+    walk-whole zero s = refl
+    walk-whole (suc k) s =
+        if-cases (λ (ws : List Shown). true ≡ walkFits version f ws) (ltb (s .row) n)
+        (λ e. rw (kind-whole st n version (getD text (s .cell) 0) (getD text (s .cell + 1) 0) s (h (s .cell) .fits) (h (s .cell + 1) .fits))
+        (walk-whole k (nextSpot st (shownAt st n text s))))
+        (λ e. refl)
+
+    pub text-whole : true ≡ textFits st n text version f
+    text-whole = walk-whole (n * st) (spot 0 0 0)

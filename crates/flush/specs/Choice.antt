@@ -4,10 +4,10 @@ use Prim.Native.Nat.{ℕ, _+_, _*_}
 use Rattle.model.specs.declared.Glyph.{Glyph}
 use Rattle.model.specs.declared.Glyph.the-variants.{Gb, Extra, Hexadecimal}
 use Rattle.model.specs.Codes.{gbIndex, extraOffset}
-use Rattle.model.specs.Glyphs.{orElse}
+use Rattle.model.specs.Glyphs.{glyphOr}
 
 abbrev pub extraGlyph : List ℕ → ℕ → ℕ → Glyph
-extraGlyph list lead trail = orElse (extraOffset list (256 * lead + trail)) Extra Hexadecimal
+extraGlyph list lead trail = glyphOr (extraOffset list (256 * lead + trail)) Extra Hexadecimal
 
 abbrev pub otherGlyph : List ℕ → ℕ → ℕ → Glyph
-otherGlyph list lead trail = orElse (gbIndex lead trail) Gb (extraGlyph list lead trail)
+otherGlyph list lead trail = glyphOr (gbIndex lead trail) Gb (extraGlyph list lead trail)

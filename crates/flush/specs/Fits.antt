@@ -3,33 +3,41 @@ use mathlib.Core.Bool.{Bool, true, _&&_}
 use mathlib.Core.List.{List, [], _∷_}
 use Prim.Native.Nat.{ℕ, _+_, _*_, _/_, _%_}
 use lib.Dec.{leb, ltb}
-use lib.ListN.{length, getD}
+use lib.ListN.{length}
 use Rattle.model.specs.declared.Glyph.{Glyph}
 use Rattle.model.specs.declared.Glyph.the-variants.{Emoji, Gb, Extra, Hexadecimal}
-use Rattle.model.specs.declared.Form.{Form}
-use Rattle.model.specs.declared.Form.the-variants.{Blank, Single, Pair, Code}
+use Rattle.model.specs.declared.CellKind.{CellKind}
+use Rattle.model.specs.declared.CellKind.the-variants.{Blank, Single, Pair, Code}
+use Rattle.model.specs.declared.Shown.{Shown}
 use Rattle.model.specs.Glyphs.{Fonts, digit, glyphOf}
-use Rattle.model.specs.Flush.{Shown}
+use Rattle.model.specs.Flush.{spot, walk}
 
 -- the characters of a byte's two digits
 unfoldable pub codeFits : List ℕ → ℕ → Bool
 codeFits ascii8 b = leb (8 * digit (b / 16) + 8) (length ascii8) && leb (8 * digit (b % 16) + 8) (length ascii8)
 
-unfoldable pub glyphFits : Fonts → ℕ → ℕ → Glyph → Bool
-glyphFits f lead trail (Emoji i) = leb (32 * i + 32) (length (f .emoji))
-glyphFits f lead trail (Gb i) = leb (32 * i + 32) (length (f .gb))
-glyphFits f lead trail (Extra i) = leb (i + 32) (length (f .extraFont))
-glyphFits f lead trail Hexadecimal = codeFits (f .ascii8) lead && codeFits (f .ascii8) trail
+unfoldable pub glyphFits : List ℕ → List ℕ → List ℕ → List ℕ → ℕ → ℕ → Glyph → Bool
+glyphFits ascii8 gb emoji extra lead trail (Emoji i) = leb (32 * i + 32) (length emoji)
+glyphFits ascii8 gb emoji extra lead trail (Gb i) = leb (32 * i + 32) (length gb)
+glyphFits ascii8 gb emoji extra lead trail (Extra i) = leb (i + 32) (length extra)
+glyphFits ascii8 gb emoji extra lead trail Hexadecimal = codeFits ascii8 lead && codeFits ascii8 trail
 
-unfoldable pub formFits : ℕ → Fonts → ℕ → ℕ → Form → Bool
-formFits version f b trail Blank = true
-formFits version f b trail Single = leb (16 * b + 16) (length (f .ascii16))
-formFits version f b trail Pair = glyphFits f b trail (glyphOf version (f .extraList) b trail)
-formFits version f b trail Code = codeFits (f .ascii8) b
+unfoldable pub kindFits : ℕ → Fonts → ℕ → ℕ → CellKind → Bool
+kindFits version f lead trail Blank = true
+kindFits version f lead trail Single = leb (16 * lead + 16) (length (f .ascii16))
+kindFits version f lead trail Pair = glyphFits (f .ascii8) (f .gb) (f .emoji) (f .extraFont) lead trail (glyphOf version (f .extraList) lead trail)
+kindFits version f lead trail Code = codeFits (f .ascii8) lead
 
-unfoldable pub walkFits : List ℕ → ℕ → Fonts → List Shown → Bool
-walkFits text version f [] = true
-walkFits text version f (w ∷ ws) = formFits version f (getD text (w .spot .cell) 0) (getD text (w .spot .cell + 1) 0) (w .form) && walkFits text version f ws
+abbrev pub shownFits : ℕ → Fonts → Shown → Bool
+shownFits version f w = kindFits version f (w .lead) (w .trail) (w .kind)
+
+unfoldable pub walkFits : ℕ → Fonts → List Shown → Bool
+walkFits version f [] = true
+walkFits version f (w ∷ ws) = shownFits version f w && walkFits version f ws
+
+-- a text of st columns and n rows
+abbrev pub textFits : ℕ → ℕ → List ℕ → ℕ → Fonts → Bool
+textFits st n text version f = walkFits version f (walk st n text (n * st) (spot 0 0 0))
 
 -- fonts that hold every code: the digits up to F, 128 characters, 7,614 GB characters, 527 emoji; and no entry of the extra list
 unfoldable pub wholeFonts : List ℕ → List ℕ → List ℕ → List ℕ → List ℕ → Bool

@@ -1,3 +1,3 @@
 pub mod Choice
-pub mod Page
+pub mod Rooms
 pub mod Fits

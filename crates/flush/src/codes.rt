@@ -1,7 +1,6 @@
 // Where a pair's glyph stands: emoji, GB, extra list, else hexadecimal codes.
 use model::Found;
 use model::Glyph;
-use record::layout;
 ghost use mathlib.Core.Path.{_≡_};
 ghost use Prim.Native.Nat.{_+_, _-_, _*_, _≤_};
 ghost use Rattle.model.specs.Codes.{codes, emojiRows, inRow, indexIn, emojiIndex, gbRow, gbIndex, extraOffset};
@@ -112,8 +111,8 @@ fn extra_offset(list: &[u8], code: usize) -> Found
     let mut k: usize = 0;
     let mut at: usize = 0;
     while k < n {
-        if (layout::load_two(list, at) as usize) == code {
-            return Found::At(layout::load_four(list, at + 2) as usize);
+        if (slices::load_two(list, at) as usize) == code {
+            return Found::At(slices::load_four(list, at + 2) as usize);
         }
         at += 6;
         k += 1;

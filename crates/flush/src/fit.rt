@@ -1,21 +1,19 @@
 // The GLYPH test: every byte that a flush would paint is there. It changes nothing.
+use crate::cells::next_spot;
+use crate::cells::shown_at;
+use crate::cells::start;
 use crate::codes::glyph_of;
 use crate::glyph::digit_of;
-use crate::walk::byte_at;
-use crate::walk::cells_of;
-use crate::walk::form_of;
-use crate::walk::spot_after;
-use crate::walk::start;
-use model::Form;
+use model::CellKind;
 use model::Glyph;
+use model::Shown;
 ghost use mathlib.Core.Path.{_≡_};
 ghost use Prim.Native.Nat.{_*_, _+_, _≤_, _<_};
 ghost use lib.Dec.{leb};
 ghost use lib.ListN.{length};
 ghost use Rattle.model.specs.Glyphs.{fonts};
-ghost use Rattle.model.specs.Flush.{spot, walk};
-ghost use Rattle.flush.specs.Fits.{codeFits, glyphFits, formFits, walkFits, wholeFonts};
-ghost use Rattle.flush.specs.Page.{Text};
+ghost use Rattle.flush.specs.Fits.{codeFits, glyphFits, shownFits, textFits, wholeFonts};
+ghost use Rattle.flush.specs.Rooms.{TextSize};
 
 fn code_fits(ascii8: &[u8], b: u8) -> bool
     ensures { λ r. ⌜ r ≡ codeFits (now (ascii8 .entry)) b ⌝ }
@@ -51,16 +49,14 @@ fn offset_fits(font: &[u8], at: usize) -> bool
 
 fn glyph_fits(
     ascii8: &[u8],
-    ascii16: &[u8],
     gb: &[u8],
     emoji: &[u8],
-    list: &[u8],
     extra: &[u8],
     lead: u8,
     trail: u8,
     g: Glyph,
 ) -> bool
-    ensures { λ r. ⌜ r ≡ glyphFits (fonts (now (ascii8 .entry)) (now (ascii16 .entry)) (now (gb .entry)) (now (emoji .entry)) (now (list .entry)) (now (extra .entry))) lead trail g ⌝ }
+    ensures { λ r. ⌜ r ≡ glyphFits (now (ascii8 .entry)) (now (gb .entry)) (now (emoji .entry)) (now (extra .entry)) lead trail g ⌝ }
 {
     match g {
         Glyph::Emoji(index) => index_fits(emoji, index),
@@ -70,7 +66,7 @@ fn glyph_fits(
     }
 }
 
-fn form_fits(
+fn shown_fits(
     version: u8,
     ascii8: &[u8],
     ascii16: &[u8],
@@ -78,20 +74,21 @@ fn form_fits(
     emoji: &[u8],
     list: &[u8],
     extra: &[u8],
-    b: u8,
-    trail: u8,
-    f: Form,
+    w: Shown,
 ) -> bool
-    ensures { λ r. ⌜ r ≡ formFits version (fonts (now (ascii8 .entry)) (now (ascii16 .entry)) (now (gb .entry)) (now (emoji .entry)) (now (list .entry)) (now (extra .entry))) b trail f ⌝ }
+    ensures { λ r. ⌜ r ≡ shownFits version (fonts (now (ascii8 .entry)) (now (ascii16 .entry)) (now (gb .entry)) (now (emoji .entry)) (now (list .entry)) (now (extra .entry))) w ⌝ }
 {
-    match f {
-        Form::Blank => true,
-        Form::Single => char_fits(ascii16, b),
-        Form::Pair => {
-            let g = glyph_of(version, list, b, trail);
-            glyph_fits(ascii8, ascii16, gb, emoji, list, extra, b, trail, g)
+    let lead = w.lead;
+    let trail = w.trail;
+    let kind = w.kind;
+    match kind {
+        CellKind::Blank => true,
+        CellKind::Single => char_fits(ascii16, lead),
+        CellKind::Pair => {
+            let g = glyph_of(version, list, lead, trail);
+            glyph_fits(ascii8, gb, emoji, extra, lead, trail, g)
         }
-        Form::Code => code_fits(ascii8, b),
+        CellKind::Code => code_fits(ascii8, lead),
     }
 }
 
@@ -125,28 +122,14 @@ fn walk_fits(
     list: &[u8],
     extra: &[u8],
 ) -> bool
-    requires { ⌜ Text columns rows ⌝ }
-    ensures { λ r. ⌜ r ≡ walkFits (now (text .entry)) version (fonts (now (ascii8 .entry)) (now (ascii16 .entry)) (now (gb .entry)) (now (emoji .entry)) (now (list .entry)) (now (extra .entry))) (walk columns rows (now (text .entry)) (rows * columns) (spot 0 0 0)) ⌝ }
+    requires { ⌜ TextSize columns rows ⌝ }
+    ensures { λ r. ⌜ r ≡ textFits columns rows (now (text .entry)) version (fonts (now (ascii8 .entry)) (now (ascii16 .entry)) (now (gb .entry)) (now (emoji .entry)) (now (list .entry)) (now (extra .entry))) ⌝ }
 {
     let mut s = start();
     while s.row < rows {
-        let cell = s.cell;
-        let b = byte_at(text, cell);
-        let trail = byte_at(text, cell + 1);
-        let f = form_of(columns, rows, b, s);
-        if form_fits(
-            version,
-            ascii8,
-            ascii16,
-            gb,
-            emoji,
-            list,
-            extra,
-            b,
-            trail,
-            f,
-        ) {
-            s = spot_after(columns, s, cells_of(f));
+        let w = shown_at(columns, rows, text, s);
+        if shown_fits(version, ascii8, ascii16, gb, emoji, list, extra, w) {
+            s = next_spot(columns, w);
         } else {
             return false;
         }
@@ -166,8 +149,8 @@ pub fn text_fits(
     list: &[u8],
     extra: &[u8],
 ) -> bool
-    requires { ⌜ Text columns rows ⌝ }
-    ensures { λ r. ⌜ r ≡ walkFits (now (text .entry)) version (fonts (now (ascii8 .entry)) (now (ascii16 .entry)) (now (gb .entry)) (now (emoji .entry)) (now (list .entry)) (now (extra .entry))) (walk columns rows (now (text .entry)) (rows * columns) (spot 0 0 0)) ⌝ }
+    requires { ⌜ TextSize columns rows ⌝ }
+    ensures { λ r. ⌜ r ≡ textFits columns rows (now (text .entry)) version (fonts (now (ascii8 .entry)) (now (ascii16 .entry)) (now (gb .entry)) (now (emoji .entry)) (now (list .entry)) (now (extra .entry))) ⌝ }
 {
     if fonts_whole(ascii8, ascii16, gb, emoji, list) {
         return true;

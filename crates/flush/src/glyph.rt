@@ -1,12 +1,13 @@
 // Glyphs by value, and columns of bytes, painted line by line onto the lent screen.
 use model::Glyph;
+use model::glass::GLYPH_LINES;
 ghost use mathlib.Core.Path.{_≡_};
 ghost use mathlib.Core.List.{[], _∷_};
 ghost use Prim.Native.Nat.{_+_, _/_, _%_, _*_, _≤_, _<_};
 ghost use lib.ListN.{length, getD};
-ghost use Rattle.model.specs.Glyphs.{flipped, paint, column, digit, code};
+ghost use Rattle.model.specs.Glyphs.{flipped, paint, columnStores, digit, codeStores};
 ghost use Rattle.laws.specs.Glyphs.{glyphLines, paintLines};
-ghost use Rattle.flush.specs.Page.{Room, partOf, PartFits, codeEnd};
+ghost use Rattle.flush.specs.Rooms.{Room, partOf, PartFits, codeEnd};
 
 fn flip(b: u8, inverse: bool) -> u8
     ensures { λ r. ⌜ r ≡ flipped inverse b ⌝ }
@@ -26,7 +27,7 @@ fn paint_column(
 )
     requires { ⌜ Room stride (now screen) top height ⌝ }
     requires { ⌜ from + height ≤ length (now font) ⌝ }
-    ensures { λ _. ⌜ now (screen .exit) ≡ paint (column stride (now (font .entry)) top from inverse height) (now (screen .entry)) ⌝ }
+    ensures { λ _. ⌜ now (screen .exit) ≡ paint (columnStores stride (now (font .entry)) top from inverse height) (now (screen .entry)) ⌝ }
 {
     let end = from + height;
     let mut place = top;
@@ -50,7 +51,7 @@ pub fn paint_character(
 )
     requires { ⌜ Room stride (now screen) top height ⌝ }
     requires { ⌜ from + height ≤ length (now font) ⌝ }
-    ensures { λ _. ⌜ now (screen .exit) ≡ paint (column stride (now (font .entry)) top from inverse height) (now (screen .entry)) ⌝ }
+    ensures { λ _. ⌜ now (screen .exit) ≡ paint (columnStores stride (now (font .entry)) top from inverse height) (now (screen .entry)) ⌝ }
 {
     if inverse {
         paint_column(stride, screen, top, font, from, height, true);
@@ -91,7 +92,7 @@ fn line(part: &[u8], i: usize) -> [u8; 2]
 }
 
 // The thirty-two bytes as sixteen lines of two.
-pub fn load_glyph(part: &[u8]) -> [[u8; 2]; 16]
+pub fn load_glyph(part: &[u8]) -> [[u8; 2]; GLYPH_LINES]
     requires { ⌜ length (now part) ≡ 32 ⌝ }
     ensures { λ r. ⌜ r ≡ glyphLines (now (part .entry)) 0 16 ⌝ }
 {
@@ -121,7 +122,7 @@ fn paint_glyph(
     screen: &mut [u8],
     left: usize,
     right: usize,
-    g: [[u8; 2]; 16],
+    g: [[u8; 2]; GLYPH_LINES],
     inverse: bool,
     inverse2: bool,
 )
@@ -133,7 +134,7 @@ fn paint_glyph(
     let mut l = left;
     let mut r = right;
     let mut i: usize = 0;
-    while i < 16 {
+    while i < GLYPH_LINES {
         let line = g[i];
         screen[l] = flip(line[0], inverse);
         screen[r] = flip(line[1], inverse2);
@@ -149,7 +150,7 @@ pub fn paint_halves(
     screen: &mut [u8],
     left: usize,
     right: usize,
-    g: [[u8; 2]; 16],
+    g: [[u8; 2]; GLYPH_LINES],
     inverse: bool,
     inverse2: bool,
 )
@@ -181,7 +182,7 @@ pub fn digit_of(n: u8) -> usize
 pub fn paint_code(stride: usize, screen: &mut [u8], top: usize, ascii8: &[u8], b: u8)
     requires { ⌜ Room stride (now screen) top 16 ⌝ }
     requires { ⌜ codeEnd b ≤ length (now ascii8) ⌝ }
-    ensures { λ _. ⌜ now (screen .exit) ≡ paint (code stride (now (ascii8 .entry)) top b) (now (screen .entry)) ⌝ }
+    ensures { λ _. ⌜ now (screen .exit) ≡ paint (codeStores stride (now (ascii8 .entry)) top b) (now (screen .entry)) ⌝ }
 {
     let high = 8 * digit_of(b / 16);
     let low = 8 * digit_of(b % 16);

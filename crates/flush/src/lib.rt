@@ -1,7 +1,7 @@
 // A flush: the walk over the text's cells, the choice of each glyph, the test that its bytes are there, and painting.
+pub mod cells;
 pub mod codes;
 pub mod fit;
 pub mod glyph;
-pub mod page;
 pub mod paint;
-pub mod walk;
+pub mod screen;

@@ -1,36 +1,35 @@
 // What is shown, painted onto the lent screen.
+use crate::cells::next_spot;
+use crate::cells::shown_at;
+use crate::cells::start;
 use crate::codes::glyph_of;
 use crate::glyph::glyph_part;
 use crate::glyph::load_glyph;
 use crate::glyph::paint_character;
 use crate::glyph::paint_code;
 use crate::glyph::paint_halves;
-use crate::walk::byte_at;
-use crate::walk::cells_of;
-use crate::walk::form_of;
-use crate::walk::spot_after;
-use crate::walk::start;
-use model::Form;
+use flags::is_inverse;
+use model::CellKind;
 use model::Glyph;
+use model::Shown;
 use model::Spot;
-use record::flags::is_inverse;
+use model::glass::GLYPH_LINES;
 ghost use mathlib.Core.Bool.{true};
-ghost use mathlib.Core.List.{map};
 ghost use mathlib.Core.Path.{_≡_};
-ghost use Prim.Native.Nat.{_*_, _≤_, _<_};
+ghost use Prim.Native.Nat.{_+_, _*_, _≤_, _<_};
 ghost use lib.ListN.{length};
-ghost use Rattle.model.specs.Record.{flagOf};
-ghost use Rattle.model.specs.Glyphs.{fonts, paint};
-ghost use Rattle.model.specs.Flush.{spot, walk, topOf, rightOf, glyphStores, formStores, textStores};
-ghost use Rattle.flush.specs.Fits.{glyphFits, formFits, walkFits};
-ghost use Rattle.flush.specs.Page.{Page, FormRoom, PairRoom, isHexadecimal};
+ghost use Rattle.model.specs.Flags.{flagBytes, flagsIn};
+ghost use Rattle.model.specs.Glyphs.{fonts, glyphOf, paint, columnStores};
+ghost use Rattle.model.specs.Flush.{topOf, rightOf, flagAt, glyphStores, shownStores, textStores};
+ghost use Rattle.flush.specs.Fits.{glyphFits, shownFits, textFits};
+ghost use Rattle.flush.specs.Rooms.{TextScreen, SpotRoom, PairRoom, ShownRoom, isHexadecimal};
 
 // The screen byte at the top of a spot's column.
 fn top_of(columns: usize, s: Spot) -> usize
     requires { ⌜ (columns ≤ 32) × (s .row ≤ 16) × (s .column ≤ 32) ⌝ }
     ensures { λ r. ⌜ (r ≡ topOf columns (s .row) (s .column)) × (r ≤ 65535) ⌝ }
 {
-    16 * (columns * s.row) + s.column
+    GLYPH_LINES * (columns * s.row) + s.column
 }
 
 // That of a pair's right half: at a row's end it falls on column 0 below.
@@ -40,10 +39,10 @@ fn right_of(columns: usize, s: Spot) -> usize
 {
     let column = s.column + 1;
     if column < columns {
-        return 16 * (columns * s.row) + column;
+        return GLYPH_LINES * (columns * s.row) + column;
     }
     let below = s.row + 1;
-    16 * (columns * below)
+    GLYPH_LINES * (columns * below)
 }
 
 fn is_hexadecimal(g: Glyph) -> bool
@@ -57,51 +56,72 @@ fn is_hexadecimal(g: Glyph) -> bool
     }
 }
 
+// A code below 128: its sixteen bytes, one a line.
+fn paint_single(
+    columns: usize,
+    screen: &mut [u8],
+    cells: usize,
+    flags: &[u8],
+    ascii16: &[u8],
+    s: Spot,
+    b: u8,
+)
+    requires { ⌜ SpotRoom columns (now screen) s ⌝ }
+    requires { ⌜ 16 * b + 16 ≤ length (now ascii16) ⌝ }
+    requires { ⌜ length (now flags) ≡ flagBytes cells ⌝ }
+    ensures { λ _. ⌜ now (screen .exit) ≡ paint (columnStores columns (now (ascii16 .entry)) (topOf columns (s .row) (s .column)) (16 * b) (flagAt (flagsIn cells (now (flags .entry))) (s .cell)) 16) (now (screen .entry)) ⌝ }
+{
+    let top = top_of(columns, s);
+    let inverse = is_inverse(flags, cells, s.cell);
+    let from = GLYPH_LINES * (b as usize);
+    paint_character(columns, screen, top, ascii16, from, GLYPH_LINES, inverse);
+}
+
 // A pair's glyph, or its two bytes in hexadecimal, the second one byte after the first also at a row's end.
 fn paint_pair<'a>(
     columns: usize,
     screen: &mut [u8],
+    cells: usize,
     flags: &[u8],
+    version: u8,
     ascii8: &[u8],
-    ascii16: &[u8],
     gb: &'a [u8],
     emoji: &'a [u8],
     list: &[u8],
     extra: &'a [u8],
-    s: Spot,
-    lead: u8,
-    trail: u8,
-    g: Glyph,
+    w: Shown,
 )
-    requires { ⌜ PairRoom columns (now screen) s ⌝ }
-    requires { ⌜ glyphFits (fonts (now ascii8) (now ascii16) (now gb) (now emoji) (now list) (now extra)) lead trail g ≡ true ⌝ }
-    ensures { λ _. ⌜ now (screen .exit) ≡ paint (glyphStores columns (map flagOf (now (flags .entry))) (fonts (now (ascii8 .entry)) (now (ascii16 .entry)) (now (gb .entry)) (now (emoji .entry)) (now (list .entry)) (now (extra .entry))) s lead trail g) (now (screen .entry)) ⌝ }
+    requires { ⌜ PairRoom columns (now screen) (w .spot) ⌝ }
+    requires { ⌜ glyphFits (now ascii8) (now gb) (now emoji) (now extra) (w .lead) (w .trail) (glyphOf version (now list) (w .lead) (w .trail)) ≡ true ⌝ }
+    requires { ⌜ length (now flags) ≡ flagBytes cells ⌝ }
+    ensures { λ _. ⌜ now (screen .exit) ≡ paint (glyphStores columns (flagsIn cells (now (flags .entry))) (now (ascii8 .entry)) (now (gb .entry)) (now (emoji .entry)) (now (extra .entry)) (w .spot) (w .lead) (w .trail) (glyphOf version (now (list .entry)) (w .lead) (w .trail))) (now (screen .entry)) ⌝ }
 {
+    let s = w.spot;
+    let g = glyph_of(version, list, w.lead, w.trail);
     let top = top_of(columns, s);
     if is_hexadecimal(g) {
-        paint_code(columns, screen, top, ascii8, lead);
-        paint_code(columns, screen, top + 1, ascii8, trail);
+        paint_code(columns, screen, top, ascii8, w.lead);
+        paint_code(columns, screen, top + 1, ascii8, w.trail);
         return;
     }
-    let cell = s.cell;
     let glyph = load_glyph(glyph_part(emoji, gb, extra, g));
-    let inverse = is_inverse(flags, cell);
-    let inverse2 = is_inverse(flags, cell + 1);
+    let left = is_inverse(flags, cells, s.cell);
+    let right = is_inverse(flags, cells, s.cell + 1);
     paint_halves(
         columns,
         screen,
         top,
         right_of(columns, s),
         glyph,
-        inverse,
-        inverse2,
+        left,
+        right,
     );
 }
 
-// What is shown at a spot, of byte b and the next one.
-fn paint_form<'a>(
+fn paint_shown<'a>(
     columns: usize,
     screen: &mut [u8],
+    cells: usize,
     flags: &[u8],
     version: u8,
     ascii8: &[u8],
@@ -110,50 +130,31 @@ fn paint_form<'a>(
     emoji: &'a [u8],
     list: &[u8],
     extra: &'a [u8],
-    s: Spot,
-    b: u8,
-    trail: u8,
-    f: Form,
+    w: Shown,
 )
-    requires { ⌜ FormRoom columns (now screen) s f ⌝ }
-    requires { ⌜ formFits version (fonts (now ascii8) (now ascii16) (now gb) (now emoji) (now list) (now extra)) b trail f ≡ true ⌝ }
-    ensures { λ _. ⌜ now (screen .exit) ≡ paint (formStores columns (map flagOf (now (flags .entry))) version (fonts (now (ascii8 .entry)) (now (ascii16 .entry)) (now (gb .entry)) (now (emoji .entry)) (now (list .entry)) (now (extra .entry))) s b trail f) (now (screen .entry)) ⌝ }
+    requires { ⌜ ShownRoom columns (now screen) w ⌝ }
+    requires { ⌜ shownFits version (fonts (now ascii8) (now ascii16) (now gb) (now emoji) (now list) (now extra)) w ≡ true ⌝ }
+    requires { ⌜ length (now flags) ≡ flagBytes cells ⌝ }
+    ensures { λ _. ⌜ now (screen .exit) ≡ paint (shownStores columns (flagsIn cells (now (flags .entry))) version (fonts (now (ascii8 .entry)) (now (ascii16 .entry)) (now (gb .entry)) (now (emoji .entry)) (now (list .entry)) (now (extra .entry))) w) (now (screen .entry)) ⌝ }
 {
-    match f {
-        Form::Blank => {}
-        Form::Single => {
-            let cell = s.cell;
-            let inverse = is_inverse(flags, cell);
-            let from = 16 * (b as usize);
-            paint_character(
-                columns,
-                screen,
-                top_of(columns, s),
-                ascii16,
-                from,
-                16,
-                inverse,
-            );
-        }
-        Form::Pair => {
-            let g = glyph_of(version, list, b, trail);
-            paint_pair(
-                columns,
-                screen,
-                flags,
-                ascii8,
-                ascii16,
-                gb,
-                emoji,
-                list,
-                extra,
-                s,
-                b,
-                trail,
-                g,
-            );
-        }
-        Form::Code => paint_code(columns, screen, top_of(columns, s), ascii8, b),
+    let kind = w.kind;
+    match kind {
+        CellKind::Blank => {}
+        CellKind::Single => paint_single(columns, screen, cells, flags, ascii16, w.spot, w.lead),
+        CellKind::Pair => paint_pair(
+            columns,
+            screen,
+            cells,
+            flags,
+            version,
+            ascii8,
+            gb,
+            emoji,
+            list,
+            extra,
+            w,
+        ),
+        CellKind::Code => paint_code(columns, screen, top_of(columns, w.spot), ascii8, w.lead),
     }
 }
 
@@ -172,19 +173,19 @@ pub fn paint_text<'a>(
     list: &[u8],
     extra: &'a [u8],
 )
-    requires { ⌜ Page columns rows (now screen) ⌝ }
-    requires { ⌜ walkFits (now text) version (fonts (now ascii8) (now ascii16) (now gb) (now emoji) (now list) (now extra)) (walk columns rows (now text) (rows * columns) (spot 0 0 0)) ≡ true ⌝ }
-    ensures { λ _. ⌜ now (screen .exit) ≡ paint (textStores columns rows (now (text .entry)) (map flagOf (now (flags .entry))) version (fonts (now (ascii8 .entry)) (now (ascii16 .entry)) (now (gb .entry)) (now (emoji .entry)) (now (list .entry)) (now (extra .entry)))) (now (screen .entry)) ⌝ }
+    requires { ⌜ TextScreen columns rows (now screen) ⌝ }
+    requires { ⌜ textFits columns rows (now text) version (fonts (now ascii8) (now ascii16) (now gb) (now emoji) (now list) (now extra)) ≡ true ⌝ }
+    requires { ⌜ length (now flags) ≡ flagBytes (rows * columns) ⌝ }
+    ensures { λ _. ⌜ now (screen .exit) ≡ paint (textStores columns rows (now (text .entry)) (flagsIn (rows * columns) (now (flags .entry))) version (fonts (now (ascii8 .entry)) (now (ascii16 .entry)) (now (gb .entry)) (now (emoji .entry)) (now (list .entry)) (now (extra .entry)))) (now (screen .entry)) ⌝ }
 {
+    let cells = rows * columns;
     let mut s = start();
     while s.row < rows {
-        let cell = s.cell;
-        let b = byte_at(text, cell);
-        let trail = byte_at(text, cell + 1);
-        let f = form_of(columns, rows, b, s);
-        paint_form(
+        let w = shown_at(columns, rows, text, s);
+        paint_shown(
             columns,
             screen,
+            cells,
             flags,
             version,
             ascii8,
@@ -193,11 +194,8 @@ pub fn paint_text<'a>(
             emoji,
             list,
             extra,
-            s,
-            b,
-            trail,
-            f,
+            w,
         );
-        s = spot_after(columns, s, cells_of(f));
+        s = next_spot(columns, w);
     }
 }

@@ -11,7 +11,7 @@ use Rattle.model.specs.declared.Found.the-variants.{At, Nothing}
 use Rattle.model.specs.declared.Glyph.{Glyph}
 use Rattle.model.specs.Bytes.{two, four}
 use Rattle.model.specs.Codes.{CodeRow, codes, emojiRows, inRow, indexIn, emojiIndex, gbIndex, extraFrom}
-use Rattle.model.specs.Glyphs.{orElse}
+use Rattle.model.specs.Glyphs.{glyphOr}
 use Rattle.laws.specs.Tests.{all-true}
 
 -- ---- known codes: the first and the last emoji of each version, and GB rows 4-9 and 10-15 alike
@@ -77,10 +77,10 @@ module _ (list : List ℕ) (code : ℕ) where
 
 -- ---- one source after another
 
-pub found-at : {f : Found} (i : ℕ) (k : ℕ → Glyph) (other : Glyph) → f ≡ At i → k i ≡ orElse f k other
-unfolding orElse
+pub found-at : {f : Found} (i : ℕ) (k : ℕ → Glyph) (other : Glyph) → f ≡ At i → k i ≡ glyphOr f k other
+unfolding glyphOr
 found-at i k other e = rw e
 
-pub found-nothing : {f : Found} {g : Glyph} (k : ℕ → Glyph) (other : Glyph) → f ≡ Nothing → g ≡ other → g ≡ orElse f k other
-unfolding orElse
+pub found-nothing : {f : Found} {g : Glyph} (k : ℕ → Glyph) (other : Glyph) → f ≡ Nothing → g ≡ other → g ≡ glyphOr f k other
+unfolding glyphOr
 found-nothing k other e h = rw e h

@@ -8,13 +8,14 @@ use native.Mathlib.Omega.{arith}
 use borrow.Author.Tests.{lt-ltb, le-ltb}
 use lib.Dec.{ltb}
 use Rattle.model.specs.declared.Spot.{Spot}
-use Rattle.model.specs.declared.Form.{Form}
-use Rattle.model.specs.declared.Form.the-variants.{Blank, Single, Pair, Code}
-use Rattle.model.specs.Flush.{Shown, spot, formAt, taken, after, next, walk}
+use Rattle.model.specs.declared.CellKind.{CellKind}
+use Rattle.model.specs.declared.CellKind.the-variants.{Blank, Single, Pair, Code}
+use Rattle.model.specs.declared.Shown.{Shown}
+use Rattle.model.specs.Flush.{spot, shownAt, cellsTaken, spotAfter, nextSpot, walk}
 use Rattle.laws.specs.Tests.{tests, by-lt, if-cases}
 
-pub taken-most : (f : Form) → (1 ≤ taken f) × (taken f ≤ 2)
-unfolding taken
+pub taken-most : (k : CellKind) → (1 ≤ cellsTaken k) × (cellsTaken k ≤ 2)
+unfolding cellsTaken
 taken-most Blank = omega arith
 taken-most Single = omega arith
 taken-most Pair = omega arith
@@ -31,15 +32,15 @@ abbrev pub placesLeft : ℕ → ℕ → Spot → ℕ
 placesLeft st n s = (n - s .row) * st - s .column
 
 module _ (st n : ℕ) where
-  pub within-after : (s : Spot) (k : ℕ) → Within st n s → s .row < n → 1 ≤ k → k ≤ 2 → Within st n (after st s k)
-  unfolding after
+  pub within-after : (s : Spot) (k : ℕ) → Within st n s → s .row < n → 1 ≤ k → k ≤ 2 → Within st n (spotAfter st s k)
+  unfolding spotAfter
   within-after s k w l a b =
       if-cases (Within st n) (ltb (s .column + k) st)
       (λ e. record { column = omega (arith, tests); row = w .row; ahead = omega (arith, w .ahead) })
       (λ e. record { column = omega (arith, w .column); row = omega (arith, l); ahead = omega (arith, w .ahead, w .column, add-one (s .row), mul-suc st (s .row)) })
 
-  pub left-after : (s : Spot) (k : ℕ) → Within st n s → s .row < n → 1 ≤ k → placesLeft st n (after st s k) < placesLeft st n s
-  unfolding after
+  pub left-after : (s : Spot) (k : ℕ) → Within st n s → s .row < n → 1 ≤ k → placesLeft st n (spotAfter st s k) < placesLeft st n s
+  unfolding spotAfter
   left-after s k w l a =
       let q : n - s .row ≡ suc (n - (s .row + 1)) = omega arith in
       let r : (n - s .row) * st ≡ (n - (s .row + 1)) * st + st = ap (λ (x : ℕ). x * st) q ∙ suc-mul (n - (s .row + 1)) st in
@@ -47,8 +48,8 @@ module _ (st n : ℕ) where
       (λ e. omega (arith, tests, w .column)) (λ e. omega (arith, w .column))
 
   module _ (text : List ℕ) where
-    pub within-next : (s : Spot) → Within st n s → s .row < n → Within st n (next st n text s)
-    within-next s w l = let t = taken-most (formAt st n text s) in within-after s (taken (formAt st n text s)) w l (t .0) (t .1)
+    pub within-next : (s : Spot) → Within st n s → s .row < n → Within st n (nextSpot st (shownAt st n text s))
+    within-next s w l = let t = taken-most (shownAt st n text s .kind) in within-after s (cellsTaken (shownAt st n text s .kind)) w l (t .0) (t .1)
 
     over : (k : ℕ) (s : Spot) → n ≤ s .row → walk st n text k s ≡ []
     unfolding walk
@@ -70,25 +71,25 @@ module _ (st n : ℕ) where
     enough (suc k) zero s w a b = over (suc k) s (none-left s w b)
     enough (suc k) (suc j) s w a b =
         by-lt (s .row) n
-        (λ l. let m = left-after s (taken (formAt st n text s)) w l (taken-most (formAt st n text s) .0) in
+        (λ l. let m = left-after s (cellsTaken (shownAt st n text s .kind)) w l (taken-most (shownAt st n text s .kind) .0) in
         rw (lt-ltb (s .row) n l)
-        (ap (λ (x : List Shown). record { spot = s; form = formAt st n text s } ∷ x)
-        (enough k j (next st n text s) (within-next s w l) (omega arith) (omega arith))))
+        (ap (λ (x : List Shown). shownAt st n text s ∷ x)
+        (enough k j (nextSpot st (shownAt st n text s)) (within-next s w l) (omega arith) (omega arith))))
         (λ l. rw (le-ltb (s .row) n l))
 
     -- what is shown from a spot on
     abbrev pub rest : Spot → List Shown
     rest s = walk st n text (placesLeft st n s) s
 
-    pub rest-more : (s : Spot) → Within st n s → s .row < n → rest s ≡ (record { spot = s; form = formAt st n text s } ∷ rest (next st n text s))
+    pub rest-more : (s : Spot) → Within st n s → s .row < n → rest s ≡ (shownAt st n text s ∷ rest (nextSpot st (shownAt st n text s)))
     unfolding walk
     rest-more s w l =
-        let m = left-after s (taken (formAt st n text s)) w l (taken-most (formAt st n text s) .0) in
+        let m = left-after s (cellsTaken (shownAt st n text s .kind)) w l (taken-most (shownAt st n text s .kind) .0) in
         let q : placesLeft st n s ≡ suc (placesLeft st n s - 1) = omega arith in
         ap (λ (k : ℕ). walk st n text k s) q
         ∙ rw (lt-ltb (s .row) n l)
-        (ap (λ (x : List Shown). record { spot = s; form = formAt st n text s } ∷ x)
-        (enough (placesLeft st n s - 1) (placesLeft st n (next st n text s)) (next st n text s) (within-next s w l) (omega arith) (omega arith)))
+        (ap (λ (x : List Shown). shownAt st n text s ∷ x)
+        (enough (placesLeft st n s - 1) (placesLeft st n (nextSpot st (shownAt st n text s))) (nextSpot st (shownAt st n text s)) (within-next s w l) (omega arith) (omega arith)))
 
     pub rest-end : (s : Spot) → n ≤ s .row → rest s ≡ []
     rest-end s h = over (placesLeft st n s) s h

@@ -10,7 +10,7 @@ use borrow.Author.Tests.{lt-ltb, le-ltb, le-leb, lt-leb}
 use lib.Dec.{ltb, leb}
 use lib.ListN.{length, getD, set, take, drop, length-set}
 use lib.Seq.{getD-take, getD-drop, drop-cons}
-use Rattle.model.specs.Glyphs.{Store, flipped, value, paint, fontsFit, column, lines}
+use Rattle.model.specs.Glyphs.{Store, flipped, value, paint, fontsFit, columnStores, lineStores}
 use Rattle.laws.specs.Tests.{by-lt}
 
 -- ---- stores
@@ -48,19 +48,19 @@ room-next st place i e n l h =
 
 module _ (st : ℕ) (font : List ℕ) (inverse : Bool) where
   pub column-turn : (place i e : ℕ) (s : List ℕ) → i < e
-      → paint (column st font place i inverse (e - i)) s ≡ paint (column st font (place + st) (i + 1) inverse (e - (i + 1))) (set s place (flipped inverse (getD font i 0)))
-  unfolding column paint
+      → paint (columnStores st font place i inverse (e - i)) s ≡ paint (columnStores st font (place + st) (i + 1) inverse (e - (i + 1))) (set s place (flipped inverse (getD font i 0)))
+  unfolding columnStores paint
   column-turn place i e s l =
       let q : e - i ≡ suc (e - (i + 1)) = omega arith in
-      ap (λ (h : ℕ). paint (column st font place i inverse h) s) q
+      ap (λ (h : ℕ). paint (columnStores st font place i inverse h) s) q
 
-  pub column-end : (place i e : ℕ) (s : List ℕ) → e ≤ i → paint (column st font place i inverse (e - i)) s ≡ s
-  unfolding column paint
-  column-end place i e s l = let q : e - i ≡ 0 = omega arith in ap (λ (h : ℕ). paint (column st font place i inverse h) s) q
+  pub column-end : (place i e : ℕ) (s : List ℕ) → e ≤ i → paint (columnStores st font place i inverse (e - i)) s ≡ s
+  unfolding columnStores paint
+  column-end place i e s l = let q : e - i ≡ 0 = omega arith in ap (λ (h : ℕ). paint (columnStores st font place i inverse h) s) q
 
   -- they lie in the font where the last one does
-  pub column-fits : (place i h : ℕ) → fontsFit (column st font place i inverse (suc h)) ≡ leb (i + suc h) (length font)
-  unfolding column fontsFit
+  pub column-fits : (place i h : ℕ) → fontsFit (columnStores st font place i inverse (suc h)) ≡ leb (i + suc h) (length font)
+  unfolding columnStores fontsFit
   column-fits place i zero =
       by-lt i (length font) (λ l. rw (lt-ltb i (length font) l, le-leb (i + 1) (length font) (omega arith)))
       (λ l. rw (le-ltb i (length font) l, lt-leb (i + 1) (length font) (omega arith)))
@@ -73,8 +73,8 @@ module _ (st : ℕ) (font : List ℕ) (inverse : Bool) where
 -- ---- of two bytes a line
 
 module _ (st : ℕ) (font : List ℕ) (il ir : Bool) where
-  pub lines-fits : (left right i h : ℕ) → fontsFit (lines st font left right i il ir (suc h)) ≡ leb (i + 2 * suc h) (length font)
-  unfolding lines fontsFit
+  pub lines-fits : (left right i h : ℕ) → fontsFit (lineStores st font left right i il ir (suc h)) ≡ leb (i + 2 * suc h) (length font)
+  unfolding lineStores fontsFit
   lines-fits left right i zero =
       by-lt (i + 1) (length font)
       (λ l. rw (lt-ltb i (length font) (omega arith), lt-ltb (i + 1) (length font) l, le-leb (i + 2) (length font) (omega arith)))
@@ -117,8 +117,8 @@ module _ (st : ℕ) (il ir : Bool) where
 
   -- a part of n bytes from a on, as a glyph by value, is painted as the font's own bytes are
   pub part-lines : (font : List ℕ) (a n left right j h : ℕ) (s : List ℕ) → j + 2 * h ≤ n
-      → paintLines st left right il ir (glyphLines (take n (drop a font)) j h) s ≡ paint (lines st font left right (a + j) il ir h) s
-  unfolding paintLines lines paint
+      → paintLines st left right il ir (glyphLines (take n (drop a font)) j h) s ≡ paint (lineStores st font left right (a + j) il ir h) s
+  unfolding paintLines lineStores paint
   part-lines font a n left right j zero s l = refl
   part-lines font a n left right j (suc h) s l =
       let at : (k : ℕ) → k < n → getD (take n (drop a font)) k 0 ≡ getD font (a + k) 0 = λ k m. getD-take n (drop a font) k 0 m ∙ getD-drop a font k 0 in
@@ -127,6 +127,6 @@ module _ (st : ℕ) (il ir : Bool) where
       let p = take n (drop a font) in
       let t = set (set s left (flipped il (getD p j 0))) right (flipped ir (getD p (j + 1) 0)) in
       part-lines font a n (left + st) (right + st) (j + 2) h t (omega arith)
-      ∙ ap (λ (k : ℕ). paint (lines st font (left + st) (right + st) k il ir h) t) u
-      ∙ (λ t. paint (lines st font (left + st) (right + st) (a + j + 2) il ir h)
+      ∙ ap (λ (k : ℕ). paint (lineStores st font (left + st) (right + st) k il ir h) t) u
+      ∙ (λ t. paint (lineStores st font (left + st) (right + st) (a + j + 2) il ir h)
       (set (set s left (flipped il (at j (omega arith) t))) right (flipped ir ((at (j + 1) (omega arith) ∙ ap (λ (k : ℕ). getD font k 0) (sym q)) t))))

@@ -24,15 +24,15 @@ fonts ascii8 ascii16 gb emoji extraList extraFont = record { ascii8 = ascii8; as
 
 -- ---- where a pair's glyph stands: emoji, GB, extra list, else hexadecimal codes
 
-unfoldable pub orElse : Found → (ℕ → Glyph) → Glyph → Glyph
-orElse (At i) found other = found i
-orElse Nothing found other = other
+unfoldable pub glyphOr : Found → (ℕ → Glyph) → Glyph → Glyph
+glyphOr (At i) found other = found i
+glyphOr Nothing found other = other
 
 unfoldable pub glyphOf : ℕ → List ℕ → ℕ → ℕ → Glyph
 glyphOf version list lead trail =
-    orElse (emojiIndex version lead trail) Emoji
-    (orElse (gbIndex lead trail) Gb
-    (orElse (extraOffset list (256 * lead + trail)) Extra Hexadecimal))
+    glyphOr (emojiIndex version lead trail) Emoji
+    (glyphOr (gbIndex lead trail) Gb
+    (glyphOr (extraOffset list (256 * lead + trail)) Extra Hexadecimal))
 
 -- ---- byte stores
 
@@ -65,20 +65,20 @@ fontsFit (w ∷ ws) = ltb (w .index) (length (w .font)) && fontsFit ws
 -- ---- glyphs of h lines, on a screen with lines of st bytes
 
 -- of one byte a line: the font's bytes from i on, down from a place
-unfoldable pub column : ℕ → List ℕ → ℕ → ℕ → Bool → ℕ → List Store
-column st font place i inverse zero = []
-column st font place i inverse (suc h) = store place font i inverse ∷ column st font (place + st) (i + 1) inverse h
+unfoldable pub columnStores : ℕ → List ℕ → ℕ → ℕ → Bool → ℕ → List Store
+columnStores st font place i inverse zero = []
+columnStores st font place i inverse (suc h) = store place font i inverse ∷ columnStores st font (place + st) (i + 1) inverse h
 
 -- of two bytes a line, each half inverted or not by itself
-unfoldable pub lines : ℕ → List ℕ → ℕ → ℕ → ℕ → Bool → Bool → ℕ → List Store
-lines st font left right i invertLeft invertRight zero = []
-lines st font left right i invertLeft invertRight (suc h) =
-    store left font i invertLeft ∷ (store right font (i + 1) invertRight ∷ lines st font (left + st) (right + st) (i + 2) invertLeft invertRight h)
+unfoldable pub lineStores : ℕ → List ℕ → ℕ → ℕ → ℕ → Bool → Bool → ℕ → List Store
+lineStores st font left right i invertLeft invertRight zero = []
+lineStores st font left right i invertLeft invertRight (suc h) =
+    store left font i invertLeft ∷ (store right font (i + 1) invertRight ∷ lineStores st font (left + st) (right + st) (i + 2) invertLeft invertRight h)
 
 -- the character of a hexadecimal digit: 0-9, then A-F
 abbrev pub digit : ℕ → ℕ
 digit n = cond (ltb n 10) (48 + n) (55 + n)
 
 -- a byte in hexadecimal, from 8-line characters: the high digit in the upper eight lines, the low one under it
-unfoldable pub code : ℕ → List ℕ → ℕ → ℕ → List Store
-code st ascii8 place b = column st ascii8 place (8 * digit (b / 16)) false 8 ++ column st ascii8 (place + 8 * st) (8 * digit (b % 16)) false 8
+unfoldable pub codeStores : ℕ → List ℕ → ℕ → ℕ → List Store
+codeStores st ascii8 place b = columnStores st ascii8 place (8 * digit (b / 16)) false 8 ++ columnStores st ascii8 (place + 8 * st) (8 * digit (b % 16)) false 8

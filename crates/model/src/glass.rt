@@ -45,8 +45,10 @@ pub const SMALL: Glass = Glass {
     others: 170,
 };
 
-// The lines of a glyph.
+// The lines of a glyph, as a coordinate and as a count.
 pub const GLYPH_HEIGHT: u8 = 16;
+
+pub const GLYPH_LINES: usize = 16;
 
 // Where a call has such an array of its own: the bytes of the text, and what a host lends.
 pub const TEXT_BYTES: usize = 100;

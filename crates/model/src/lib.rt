@@ -80,11 +80,19 @@ pub struct Spot {
 }
 
 // What is shown of a cell: nothing, one byte, a pair with the cell after it, or one byte in hexadecimal.
-pub enum Form {
+pub enum CellKind {
     Blank,
     Single,
     Pair,
     Code,
+}
+
+// What is shown at a spot: which of its byte and the next one, and how.
+pub struct Shown {
+    pub spot: Spot,
+    pub lead: u8,
+    pub trail: u8,
+    pub kind: CellKind,
 }
 
 // Results that hold more than a code. With a refusal all numbers but the code are 0.

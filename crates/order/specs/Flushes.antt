@@ -9,7 +9,7 @@ use Rattle.model.specs.Memory.{screenOf, withScreen}
 use Rattle.model.specs.Record.{State, encode}
 use Rattle.model.specs.Marks.{whole, marked}
 use Rattle.model.specs.Glyphs.{Fonts}
-use Rattle.model.specs.Flush.{flushStores, cleared, flushed}
+use Rattle.model.specs.Flush.{flushStores, clearedInText, flushed}
 use Rattle.model.specs.Calls.{Lent, lent}
 use Rattle.model.specs.Lists.{marks}
 use Rattle.laws.specs.Tests.{if-cases}
@@ -22,7 +22,7 @@ use Rattle.order.specs.Step.{Lendable, Step, old, known, screen-long}
 flushed-long : (g : Geometry) (f : Fonts) (s : State) (m : List ℕ) → length (screenOf g (s .head .graphics) m) ≡ screenBytes g → length (flushed g f s m) ≡ screenBytes g
 unfolding flushed
 flushed-long g f s m e =
-    length-paint (flushStores g f s m) (cleared (s .head .screen) (screenOf g (s .head .graphics) m) (screenBytes g))
+    length-paint (flushStores g f s m) (clearedInText (s .head .screen) (screenOf g (s .head .graphics) m) (screenBytes g))
     ∙ if-cases (λ (l : List ℕ). length l ≡ screenBytes g) (eqb (s .head .screen) 0) (λ t. length-zeros (screenBytes g)) (λ t. e)
 
 pub flush-step : (g : Geometry) (k : ℕ) → k < g .panels → (f : Fonts) (l : Lent) → Lendable g l

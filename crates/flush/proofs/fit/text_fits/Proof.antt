@@ -1,8 +1,6 @@
 use mathlib.Core.Path.{sym, _∙_}
-use Prim.Native.Nat.{_*_}
 use Rattle.model.specs.Glyphs.{fonts}
-use Rattle.model.specs.Flush.{spot}
-use Rattle.flush.proofs.Whole.{walk-whole}
+use Rattle.flush.proofs.Whole.{text-whole}
 use borrow.Author.Needs.{needs}
 use Rattle.flush.proofs.fit.text_fits.Statement.{statement}
 use Rattle.flush.proofs.fit.text_fits.Tie as tie
@@ -13,8 +11,8 @@ fonts-whole-requires c κs = search needs
 returns : tie.Need-returns
 returns c =
     let a = c .before .before .before .before .before .before .before .before .before .args in
-    walk-whole (fonts (a .ascii8 .now) (a .ascii16 .now) (a .gb .now) (a .emoji .now) (a .list .now) (a .extra .now)) (sym (c .before .fonts-whole .ensures) ∙ c .if1 .taken) (a .columns) (a .rows) (a .version) (a .text .now) (c .before .before .before .before .before .before .before .before .shared-slice-known .given)
-    (a .rows * a .columns) (spot 0 0 0)
+    text-whole (fonts (a .ascii8 .now) (a .ascii16 .now) (a .gb .now) (a .emoji .now) (a .list .now) (a .extra .now)) (sym (c .before .fonts-whole .ensures) ∙ c .if1 .taken)
+    (a .columns) (a .rows) (a .version) (a .text .now) (c .before .before .before .before .before .before .before .before .shared-slice-known .given)
 
 walk-fits-requires : tie.Need-walk-fits-requires
 walk-fits-requires c κs = search needs

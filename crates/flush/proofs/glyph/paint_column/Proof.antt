@@ -3,14 +3,14 @@ use mathlib.Core.Path.{_≡_, refl}
 use Prim.Native.Nat.{_+_, _-_, _*_, _≤_, _<_}
 use native.Mathlib.Omega.{arith}
 use lib.ListN.{length, length-set}
-use Rattle.model.specs.Glyphs.{paint, column}
+use Rattle.model.specs.Glyphs.{paint, columnStores}
 use Rattle.laws.specs.Glyphs.{room-here, room-next}
 use Rattle.flush.proofs.Painting.{column-start, column-again, column-done, room-start}
 use Rattle.flush.proofs.glyph.paint_column.Statement.{statement}
 use Rattle.flush.proofs.glyph.paint_column.Tie as tie
 
 abbrev Inv-loop : tie.InvT-loop
-Inv-loop stride screen₀ top font from height inverse end place₀ i₀ screen place i = (i ≤ end) × (length screen ≡ length screen₀) × (place + stride * (end - i) < length screen₀ + stride) × (paint (column stride font place i inverse (end - i)) screen ≡ paint (column stride font top from inverse height) screen₀)
+Inv-loop stride screen₀ top font from height inverse end place₀ i₀ screen place i = (i ≤ end) × (length screen ≡ length screen₀) × (place + stride * (end - i) < length screen₀ + stride) × (paint (columnStores stride font place i inverse (end - i)) screen ≡ paint (columnStores stride font top from inverse height) screen₀)
 
 abbrev μ-loop : tie.MeasureT-loop
 μ-loop stride screen₀ top font from height inverse end place₀ i₀ screen place i = end - i

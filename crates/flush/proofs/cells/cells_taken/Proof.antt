@@ -1,7 +1,7 @@
 use Rattle.flush.proofs.Walking.{taken-pair, taken-blank, taken-single, taken-code}
 use borrow.Author.Needs.{needs}
-use Rattle.flush.proofs.walk.cells_of.Statement.{statement}
-use Rattle.flush.proofs.walk.cells_of.Tie as tie
+use Rattle.flush.proofs.cells.cells_taken.Statement.{statement}
+use Rattle.flush.proofs.cells.cells_taken.Tie as tie
 
 enum-told : tie.Need-enum-told
 enum-told c = search needs
@@ -27,7 +27,7 @@ returns-3 c = search taken-single
 returns-4 : tie.Need-returns-4
 returns-4 c = search taken-code
 
-pub cells-of-spec : {M : Type 1} → statement M
-cells-of-spec =
+pub cells-taken-spec : {M : Type 1} → statement M
+cells-taken-spec =
     tie.close
     (tie.spec enum-told enum-told-2 enum-told-3 enum-told-4 returns returns-2 returns-3 returns-4)

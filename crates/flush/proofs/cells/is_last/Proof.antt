@@ -1,8 +1,8 @@
 use mathlib.Core.Path.{refl}
 use Rattle.model.specs.Flush.{isLast}
 use borrow.Author.Needs.{needs}
-use Rattle.flush.proofs.walk.is_last.Statement.{statement}
-use Rattle.flush.proofs.walk.is_last.Tie as tie
+use Rattle.flush.proofs.cells.is_last.Statement.{statement}
+use Rattle.flush.proofs.cells.is_last.Tie as tie
 
 add-result : tie.Need-add-result
 add-result c = search needs

@@ -1,7 +1,7 @@
 use Rattle.flush.proofs.Walking.{after-row, after-end}
 use borrow.Author.Needs.{needs}
-use Rattle.flush.proofs.walk.spot_after.Statement.{statement}
-use Rattle.flush.proofs.walk.spot_after.Tie as tie
+use Rattle.flush.proofs.cells.spot_after.Statement.{statement}
+use Rattle.flush.proofs.cells.spot_after.Tie as tie
 
 add-column : tie.Need-add-column
 add-column c = search needs

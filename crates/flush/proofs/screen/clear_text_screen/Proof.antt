@@ -1,7 +1,7 @@
 use Rattle.flush.proofs.Clearing.{clears, keeps}
 use borrow.Author.Needs.{needs}
-use Rattle.flush.proofs.page.clear_text_screen.Statement.{statement}
-use Rattle.flush.proofs.page.clear_text_screen.Tie as tie
+use Rattle.flush.proofs.screen.clear_text_screen.Statement.{statement}
+use Rattle.flush.proofs.screen.clear_text_screen.Tie as tie
 
 clear-requires : tie.Need-clear-requires
 clear-requires c κs = search needs

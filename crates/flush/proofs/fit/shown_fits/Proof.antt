@@ -1,7 +1,7 @@
 use Rattle.flush.proofs.Fitting.{blank-fits, single-fits, pair-fits, alone-fits}
 use borrow.Author.Needs.{needs}
-use Rattle.flush.proofs.fit.form_fits.Statement.{statement}
-use Rattle.flush.proofs.fit.form_fits.Tie as tie
+use Rattle.flush.proofs.fit.shown_fits.Statement.{statement}
+use Rattle.flush.proofs.fit.shown_fits.Tie as tie
 
 enum-told : tie.Need-enum-told
 enum-told c = search needs
@@ -39,8 +39,8 @@ returns-3 c = search pair-fits
 returns-4 : tie.Need-returns-4
 returns-4 c = search alone-fits
 
-pub form-fits-spec : {M : Type 1} → statement M
-form-fits-spec =
+pub shown-fits-spec : {M : Type 1} → statement M
+shown-fits-spec =
     tie.close
     (tie.spec
     enum-told

@@ -1,7 +1,7 @@
 use Rattle.flush.proofs.Walking.{past-end}
 use borrow.Author.Needs.{needs}
-use Rattle.flush.proofs.walk.byte_at.Statement.{statement}
-use Rattle.flush.proofs.walk.byte_at.Tie as tie
+use Rattle.flush.proofs.cells.byte_at.Statement.{statement}
+use Rattle.flush.proofs.cells.byte_at.Tie as tie
 
 shared-slice-read-result : tie.Need-shared-slice-read-result
 shared-slice-read-result c = search needs

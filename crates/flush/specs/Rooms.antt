@@ -7,8 +7,8 @@ use lib.ListN.{length, take, drop}
 use Rattle.model.specs.declared.Glyph.{Glyph}
 use Rattle.model.specs.declared.Glyph.the-variants.{Emoji, Gb, Extra, Hexadecimal}
 use Rattle.model.specs.declared.Spot.{Spot}
-use Rattle.model.specs.declared.Form.{Form}
-use Rattle.model.specs.declared.Form.the-variants.{Pair}
+use Rattle.model.specs.declared.CellKind.the-variants.{Pair}
+use Rattle.model.specs.declared.Shown.{Shown}
 use Rattle.model.specs.Glyphs.{digit}
 use Rattle.model.specs.Flush.{topOf, rightOf}
 
@@ -37,39 +37,41 @@ abbrev pub codeEnd : ℕ → ℕ
 codeEnd b = max (8 * digit (b / 16)) (8 * digit (b % 16)) + 8
 
 -- a text of st columns and n rows
-pub record Text (st n : ℕ) : Type 0 where
+pub record TextSize (st n : ℕ) : Type 0 where
   pub wide : 0 < st
   pub narrow : st ≤ 32
   pub low : n ≤ 16
 
 -- a screen for it
-pub record Page (st n : ℕ) (screen : List ℕ) : Type 0 where
-  pub text : Text st n
+pub record TextScreen (st n : ℕ) (screen : List ℕ) : Type 0 where
+  pub text : TextSize st n
   pub small : length screen ≤ 65536
   pub sized : 16 * (st * n) ≤ length screen
 
 -- a spot of a text on its screen
-pub record OnPage (st n : ℕ) (screen : List ℕ) (s : Spot) : Type 0 where
-  pub page : Page st n screen
+pub record OnScreen (st n : ℕ) (screen : List ℕ) (s : Spot) : Type 0 where
+  pub whole : TextScreen st n screen
   pub row : s .row < n
   pub column : s .column < st
   pub cell : s .cell ≤ 560
 
--- both halves of a pair lie on the screen, and so does the byte after its first column
-pub record PairRoom (st : ℕ) (screen : List ℕ) (s : Spot) : Type 0 where
+-- a column of sixteen lines at a spot lies on the screen
+pub record SpotRoom (st : ℕ) (screen : List ℕ) (s : Spot) : Type 0 where
   pub row : s .row ≤ 16
   pub column : s .column ≤ 32
-  pub cell : s .cell ≤ 560
   pub left : Room st screen (topOf st (s .row) (s .column)) 16
+
+-- so does the right half of a pair, and the byte after the first column
+pub record PairRoom (st : ℕ) (screen : List ℕ) (s : Spot) : Type 0 where
+  pub spot : SpotRoom st screen s
+  pub cell : s .cell ≤ 560
   pub right : Room st screen (rightOf st s) 16
   pub beside : Room st screen (topOf st (s .row) (s .column) + 1) 16
 
--- what is shown at a spot lies on the screen
-pub record FormRoom (st : ℕ) (screen : List ℕ) (s : Spot) (f : Form) : Type 0 where
-  pub row : s .row ≤ 16
-  pub column : s .column ≤ 32
-  pub left : Room st screen (topOf st (s .row) (s .column)) 16
-  pub pair : f ≡ Pair → PairRoom st screen s
+-- what is shown lies on the screen
+pub record ShownRoom (st : ℕ) (screen : List ℕ) (w : Shown) : Type 0 where
+  pub spot : SpotRoom st screen (w .spot)
+  pub pair : w .kind ≡ Pair → PairRoom st screen (w .spot)
 
 unfoldable pub isHexadecimal : Glyph → Bool
 isHexadecimal (Emoji i) = false
