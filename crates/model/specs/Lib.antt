@@ -23,4 +23,5 @@ pub mod Flush
 pub mod Sends
 pub mod Calls
 pub mod Lists
+pub mod Characters
 pub mod Script

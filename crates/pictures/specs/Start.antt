@@ -8,7 +8,7 @@ use Rattle.model.specs.Memory.{zeros}
 use Rattle.model.specs.Record.{State, WellFormed, decode, encode, windows, bandsFit, stateFits}
 use Rattle.model.specs.Open.{clearHead, clearFlags, nothingPending}
 use Rattle.model.specs.Calls.{Lent, lent}
-use Rattle.model.specs.Script.Run.{noKeys}
+use Rattle.model.specs.Script.Output.{noKeys}
 use Rattle.laws.specs.Loops.{length-zeros}
 use Rattle.laws.specs.States.{encode-passing}
 use Rattle.pictures.specs.Picture.{Unmarked}

@@ -44,15 +44,15 @@ pub fn load_four(bytes: &[u8], at: usize) -> u32
     (lo as u32) + 65536 * (hi as u32)
 }
 
-fn load_rect(rec: &[u8], at: usize) -> Rect
-    requires { ⌜ (length (now rec) ≡ 170) × (at + 8 ≤ 170) ⌝ }
-    ensures { λ r. ⌜ r ≡ rectAt (now (rec .entry)) at ⌝ }
+pub fn load_rect(bytes: &[u8], at: usize) -> Rect
+    requires { ⌜ at + 8 ≤ length (now bytes) ⌝ }
+    ensures { λ r. ⌜ r ≡ rectAt (now (bytes .entry)) at ⌝ }
 {
     Rect {
-        left: load_two(rec, at),
-        top: load_two(rec, at + 2),
-        right: load_two(rec, at + 4),
-        bottom: load_two(rec, at + 6),
+        left: load_two(bytes, at),
+        top: load_two(bytes, at + 2),
+        right: load_two(bytes, at + 4),
+        bottom: load_two(bytes, at + 6),
     }
 }
 
