@@ -126,13 +126,13 @@ mode-is t a b c r e f g h =
 
 -- ---- pieces of a pattern
 
-pub piece-byte : (p : ℕ) (t : List ℕ) → p ≡ code "#" → takeNumber 255 t ≡ takePiece p t
+pub piece-byte : (p limit : ℕ) (t : List ℕ) → limit ≡ 255 → p ≡ code "#" → takeNumber limit t ≡ takePiece p t
 unfolding takePiece
-piece-byte p t e = rw e
+piece-byte p limit t l e = rw (e, l)
 
-pub piece-address : (p : ℕ) (t : List ℕ) → p ≡ code "@" → takeNumber 65535 t ≡ takePiece p t
+pub piece-address : (p limit : ℕ) (t : List ℕ) → limit ≡ 65535 → p ≡ code "@" → takeNumber limit t ≡ takePiece p t
 unfolding takePiece
-piece-address p t e = rw e
+piece-address p limit t l e = rw (e, l)
 
 pub piece-mode : (p : ℕ) (t : List ℕ) → p ≡ code "*" → takeMode t ≡ takePiece p t
 unfolding takePiece

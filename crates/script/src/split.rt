@@ -20,7 +20,7 @@ fn line_end(s: &[u8], at: usize) -> usize
         }
         i += 1;
     }
-    i
+    s.len()
 }
 
 // The work of the reader: what stands at a place.

@@ -88,8 +88,8 @@ unfolding owedLines
 left-turn zero place n m d r q e h p f = absurd (omega arith)
 left-turn (suc k) place n m d r q e h p f = let i : suc k - 1 ≡ k = omega arith in rw i (omega (arith, ap linesOf p))
 
-pub left-end : (left place end n m d : ℕ) (r : List ℕ) (q : Rect) → n + owedLines (rectsAt left r place) ≡ m → left ≤ 0 → place + 8 * left ≡ end → q ≡ rectAt r place
-    → d ≡ linesOf q → d + n ≡ linesOf (rectAt r end) + m
+pub left-end : (left place hand end n m d : ℕ) (r : List ℕ) (q : Rect) → n + owedLines (rectsAt left r place) ≡ m → left ≤ 0 → hand ≡ end → q ≡ rectAt r hand → d ≡ linesOf q
+    → d + n ≡ linesOf (rectAt r end) + m
 unfolding owedLines
-left-end zero place end n m d r q e h k p f = let i : place ≡ end = omega arith in rw (← i) (omega (arith, ap linesOf p))
-left-end (suc k) place end n m d r q e h i p f = absurd (omega arith)
+left-end zero place hand end n m d r q e h i p f = rw (← i) (omega (arith, ap linesOf p))
+left-end (suc k) place hand end n m d r q e h i p f = absurd (omega arith)

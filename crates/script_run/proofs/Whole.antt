@@ -48,9 +48,9 @@ pub record Ran (s o₀ : List ℕ) (l₀ : Lent) (o : List ℕ) (l : Lent) (at n
   pub numbered : n + length (readScript (drop at s)) ≡ 1 + length (readScript s)
   pub same : length o ≡ length o₀
 
-pub ran-start : (s o : List ℕ) (l : Lent) → Ran s o l o l 0 1 0
+pub ran-start : (s o : List ℕ) (l : Lent) (n : ℕ) → n ≡ 1 → Ran s o l o l 0 n 0
 unfolding runLines withWindow
-ran-start s o l = record { written = refl; left = refl; within = omega arith; numbered = refl; same = refl }
+ran-start s o l n e = rw e (record { written = refl; left = refl; within = omega arith; numbered = refl; same = refl })
 
 next-line : (s : List ℕ) (at next : ℕ) (g : LineOrEnd) (f : Form) → readOf s g ≡ readScript (drop at s) → g ≡ LineAt f next → readScript (drop at s) ≡ meaning f ∷ readScript (drop next s)
 unfolding readOf

@@ -32,7 +32,7 @@ loop-again : tie.Need-loop-again Inv-loop μ-loop
 loop-again c = (search line-turn, omega arith)
 
 returns-2 : tie.Need-returns-2 Inv-loop μ-loop
-returns-2 c = (search line-out, omega arith)
+returns-2 c = (omega (arith, line-out _ _ _ (c .before .loop .inv .0) (c .loop-test .left)), omega arith)
 
 pub line-end-spec : {M : Type 1} → statement M
 line-end-spec =

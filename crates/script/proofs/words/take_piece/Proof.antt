@@ -1,6 +1,7 @@
 use mathlib.Core.Path.{_∙_}
 use Rattle.script.proofs.Reading.{piece-byte, piece-address, piece-mode, piece-self}
 use borrow.Author.Needs.{needs}
+use native.Mathlib.Omega.{arith}
 use Rattle.script.proofs.words.take_piece.Statement.{statement}
 use Rattle.script.proofs.words.take_piece.Tie as tie
 
@@ -17,10 +18,10 @@ take-byte-requires : tie.Need-take-byte-requires
 take-byte-requires c κs = search needs
 
 returns : tie.Need-returns
-returns c = c .take-number .ensures ∙ piece-byte _ _ (search needs)
+returns c = c .take-number .ensures ∙ piece-byte _ _ _ (omega arith) (search needs)
 
 returns-2 : tie.Need-returns-2
-returns-2 c = c .take-number2 .ensures ∙ piece-address _ _ (search needs)
+returns-2 c = c .take-number2 .ensures ∙ piece-address _ _ _ (omega arith) (search needs)
 
 returns-3 : tie.Need-returns-3
 returns-3 c = c .take-mode .ensures ∙ piece-mode _ _ (search needs)

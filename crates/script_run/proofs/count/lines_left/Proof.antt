@@ -49,7 +49,8 @@ add-result : tie.Need-add-result Inv-loop μ-loop
 add-result c = omega arith
 
 returns : tie.Need-returns Inv-loop μ-loop
-returns c = search left-end
+returns c =
+    left-end _ _ _ _ _ _ _ _ _ (c .before .before .before .loop .inv .0) (c .before .before .loop-test .left) (omega arith) (c .before .load-rect2 .ensures) (c .lines-of2 .ensures .0)
 
 pub lines-left-spec : {M : Type 1} → statement M
 lines-left-spec =

@@ -1,4 +1,5 @@
 use borrow.Author.Needs.{needs}
+use native.Mathlib.Omega.{arith}
 use lib.ListN.{length, drop}
 use Rattle.model.specs.Calls.{lent}
 use Rattle.model.specs.Script.Read.{readScript}
@@ -14,7 +15,7 @@ abbrev μ-loop : tie.MeasureT-loop
 μ-loop script out₀ rec₀ memory₀ panel₀ at₀ n₀ end₀ out rec memory panel at n end = length (readScript (drop at script))
 
 loop-holds : tie.Need-loop-holds Inv-loop μ-loop
-loop-holds c = (search ran-start, search needs)
+loop-holds c = (ran-start _ _ _ _ (omega arith), search needs)
 
 read-at-requires : tie.Need-read-at-requires Inv-loop μ-loop
 read-at-requires c κs = search needs
