@@ -11,7 +11,7 @@ use lib.Count.{ones, onesIn, ones-step, ones-le}
 use lib.Pow.{shr-shr}
 use lib.ListN.{length, getD, drop, drop-of-length-le}
 use lib.Seq.{drop-cons}
-use Rattle.model.specs.Geometry.{base}
+use Rattle.model.specs.Geometry.{base, screenBytes}
 use Rattle.model.specs.Bits.{bitAt}
 use Rattle.model.specs.declared.Rect.{Rect}
 use Rattle.model.specs.Rects.{linesOf}
@@ -65,7 +65,7 @@ ones-small a b h k = ones-le 8 (bitXor a b) (xor-lt 8 a b h k)
 
 -- ---- the walk over two lists
 
-pub count-turn : (n i m d : ℕ) (s p : List ℕ) → n + bytesDiffer (drop i s) (drop i p) ≡ m → i < length s → length s ≡ 1600 → length p ≡ 1600 → d ≡ byteDiffers (getD s i 0) (getD p i 0)
+pub count-turn : (n i m d : ℕ) (s p : List ℕ) → n + bytesDiffer (drop i s) (drop i p) ≡ m → i < length s → length s ≡ screenBytes base → length p ≡ screenBytes base → d ≡ byteDiffers (getD s i 0) (getD p i 0)
     → n + d + bytesDiffer (drop (i + 1) s) (drop (i + 1) p) ≡ m
 unfolding bytesDiffer
 count-turn n i m d s p e h hs hp f =
@@ -73,7 +73,7 @@ count-turn n i m d s p e h hs hp f =
     ap (λ (j : ℕ). n + d + bytesDiffer (drop j s) (drop j p)) (add-one i)
     ∙ omega (arith, rw (drop-cons s i 0 h, drop-cons p i 0 k) at e)
 
-pub count-end : (n i : ℕ) (s p : List ℕ) → n + bytesDiffer (drop i s) (drop i p) ≡ bytesDiffer s p → length s ≤ i → length s ≡ 1600 → length p ≡ 1600
+pub count-end : (n i : ℕ) (s p : List ℕ) → n + bytesDiffer (drop i s) (drop i p) ≡ bytesDiffer s p → length s ≤ i → length s ≡ screenBytes base → length p ≡ screenBytes base
     → n ≡ differing base s p
 unfolding bytesDiffer
 count-end n i s p e h hs hp =

@@ -15,7 +15,7 @@ use Rattle.model.specs.Script.Output.{printed, spaced, said, linePrints, lineLe
 use Rattle.script.specs.declared.Form.{Form}
 use Rattle.script.specs.declared.Form.the-variants.{Point, Line as LineForm, Poke, Send, Bad}
 use Rattle.script.specs.Meaning.{meaning}
-use Rattle.script_run.specs.Wrote.{Wrote, Answered}
+use Rattle.script_run.specs.Buffers.{Wrote, Answered}
 use Rattle.script_run.proofs.Writing.{wrote-as}
 
 -- ---- what a code and numbers print

@@ -16,10 +16,10 @@ use Rattle.model.specs.Sends.{takeOwed, lineNumbers, sendNumbers}
 use Rattle.model.specs.Calls.{drawPoint, drawLine, writeByte, send, Lent, Outcome, answered, numbers, done, refused, outcome}
 use Rattle.model.specs.Characters.{bytesOf}
 use Rattle.model.specs.Script.Read.{Match, unmatched, matchedWith, ScriptLine, badLine, ifMatched, pointForm, lineForm, pokeForm, sendForm, readLine, scriptLines, readScript}
-use Rattle.model.specs.Script.Output.{spelled, decimal, spaced, printed, said, linePrints, lineLeaves, opened, ending, runLinesFrom, runLines, scriptText}
+use Rattle.model.specs.Script.Output.{spelled, decimal, spaced, printed, said, linePrints, lineLeaves, opened, ending, runLinesFrom, runLines, longest, scriptText}
 use Rattle.laws.specs.Tests.{by-test, by-lt}
 use Rattle.script.proofs.Splitting.{read-le}
-use Rattle.script_run.specs.Wrote.{Wrote}
+use Rattle.script_run.specs.Buffers.{Wrote}
 
 spelled-le : (k n : ℕ) → length (spelled k n) ≤ k
 unfolding spelled
@@ -102,8 +102,8 @@ run-le (s ∷ ls) n l =
 text-le : (s : List ℕ) → length (scriptText s) ≤ 163868
 unfolding scriptText runLines readScript
 text-le s =
-    by-lt 4096 (length s) (λ h. rw (lt-ltb 4096 (length s) h) (omega (arith, printed-le (bytesOf "long") [])))
-    (λ h. rw (le-ltb 4096 (length s) h) (omega (arith, run-le (scriptLines s) 1 opened, read-le s)))
+    by-lt longest (length s) (λ h. rw (lt-ltb longest (length s) h) (omega (arith, printed-le (bytesOf "long") [])))
+    (λ h. rw (le-ltb longest (length s) h) (omega (arith, run-le (scriptLines s) 1 opened, read-le s)))
 
 -- ---- an output that is made as zeros has room for it
 

@@ -7,28 +7,28 @@ use native.Mathlib.Omega.{arith}
 use borrow.Author.Tests.{lt-ltb, le-ltb, eq-eqb}
 use lib.ListN.{length, take, drop, length-append, length-drop, take-append-drop}
 use lib.Seq.{take-add, drop-drop, take-append-seam, drop-append-seam, length-take-le}
-use Rattle.model.specs.Geometry.{base}
+use Rattle.model.specs.Geometry.{base, memoryBytes, screenBytes}
 use Rattle.model.specs.Rects.{linesOf}
 use Rattle.model.specs.Memory.{window, withWindow, zeros}
-use Rattle.model.specs.Record.{decode, rectAt, rectsAt, pendingAt, windows}
+use Rattle.model.specs.Record.{decode, rectAt, rectsAt, pendingAt, recordBytes, windows}
 use Rattle.model.specs.Refusals.{refusal, ruled}
 use Rattle.model.specs.Calls.{opening, Lent, lent, Outcome, answered, refusals, done, outcome}
 use Rattle.model.specs.Lists.{owedLines, linesLeft, differing}
 use Rattle.model.specs.Characters.{bytesOf}
 use Rattle.model.specs.Script.Read.{ScriptLine, readScript}
-use Rattle.model.specs.Script.Output.{printed, spaced, linePrints, lineLeaves, noKeys, opened, ending, runLinesFrom, runLines, scriptText}
+use Rattle.model.specs.Script.Output.{printed, spaced, linePrints, lineLeaves, graphicsBase, textBase, noKeys, opened, ending, runLinesFrom, runLines, longest, scriptText}
 use Rattle.laws.specs.Memory.{window-extend}
 use Rattle.script.specs.declared.Form.{Form}
 use Rattle.script.specs.declared.LineOrEnd.{LineOrEnd}
 use Rattle.script.specs.declared.LineOrEnd.the-variants.{Line as LineAt, End}
 use Rattle.script.specs.Meaning.{meaning, readOf}
-use Rattle.script_run.specs.Wrote.{Wrote, Sized, Answered}
+use Rattle.script_run.specs.Buffers.{Wrote, Sized, Answered}
 use Rattle.script.proofs.Splitting.{read-le}
 use Rattle.script_run.proofs.Writing.{wrote-as, wrote-length}
 
 -- ---- the last line
 
-module _ (at : ℕ) (r m p : List ℕ) (d k : ℕ) (o : List ℕ) (e : d ≡ differing base (take (5696 - 4096) (drop 4096 m)) p) (f : k ≡ linesOf (rectAt r (pendingAt + 8 * base .bands)) + owedLines (rectsAt (base .bands) r pendingAt)) where
+module _ (at : ℕ) (r m p : List ℕ) (d k : ℕ) (o : List ℕ) (e : d ≡ differing base (take (graphicsBase + screenBytes base - graphicsBase) (drop graphicsBase m)) p) (f : k ≡ linesOf (rectAt r (pendingAt + 8 * base .bands)) + owedLines (rectsAt (base .bands) r pendingAt)) where
   ending-is : ending (lent r m p) ≡ printed (bytesOf "end") (d ∷ k ∷ [])
   unfolding ending decode window linesLeft
   ending-is = rw (e, f)
@@ -123,45 +123,45 @@ module _ (s o₀ : List ℕ) (l₀ : Lent) (o : List ℕ) (l : Lent) (at n end :
 
 -- ---- the count of lines
 
-pub counts-on : (s o₀ : List ℕ) (l₀ : Lent) (o : List ℕ) (l : Lent) (at n end : ℕ) → Ran s o₀ l₀ o l at n end → length s ≤ 4096 → n + 1 < 2 ^ 32
+pub counts-on : (s o₀ : List ℕ) (l₀ : Lent) (o : List ℕ) (l : Lent) (at n end : ℕ) → Ran s o₀ l₀ o l at n end → length s ≤ longest → n + 1 < 2 ^ 32
 counts-on s o₀ l₀ o l at n end k h = omega (arith, k .numbered, read-le s)
 
 -- ---- the opened state
 
-pub opens : (r m p r′ m′ p′ : List ℕ) (k : ℕ) → length r ≡ 170 → length m ≡ 65536 → length p ≡ 1600 → p′ ≡ zeros (length p)
-    → answered k [] (lent r′ m′ []) ≡ outcome base (opening 4096 8192 1 noKeys) (lent r m []) → lent r′ m′ p′ ≡ opened
+pub opens : (r m p r′ m′ p′ : List ℕ) (k : ℕ) → length r ≡ recordBytes base → length m ≡ memoryBytes → length p ≡ screenBytes base → p′ ≡ zeros (length p)
+    → answered k [] (lent r′ m′ []) ≡ outcome base (opening graphicsBase textBase 1 noKeys) (lent r m []) → lent r′ m′ p′ ≡ opened
 unfolding opened outcome refusals refusal ruled done answered windows
 opens r m p r′ m′ p′ k hr hm hp z e =
-    let x = rw (eq-eqb (length r) 170 hr, eq-eqb (length m) 65536 hm) at e in
-    ap (λ (y : List ℕ). lent r′ m′ y) (z ∙ ap zeros hp) ∙ ap (λ (y : Outcome). lent (y .left .rec) (y .left .memory) (zeros 1600)) x
+    let x = rw (eq-eqb (length r) (recordBytes base) hr, eq-eqb (length m) memoryBytes hm) at e in
+    ap (λ (y : List ℕ). lent r′ m′ y) (z ∙ ap zeros hp) ∙ ap (λ (y : Outcome). lent (y .left .rec) (y .left .memory) (zeros (screenBytes base))) x
 
 -- ---- the whole text
 
 abbrev longText : List ℕ
 longText = bytesOf "(long)\n"
 
-long-is : (s : List ℕ) → 4096 < length s → scriptText s ≡ longText
+long-is : (s : List ℕ) → longest < length s → scriptText s ≡ longText
 unfolding scriptText printed spaced
-long-is s h = rw (lt-ltb 4096 (length s) h)
+long-is s h = rw (lt-ltb longest (length s) h)
 
-short-is : (s : List ℕ) (l : Lent) → length s ≤ 4096 → l ≡ opened → scriptText s ≡ runLines (readScript s) l
+short-is : (s : List ℕ) (l : Lent) → length s ≤ longest → l ≡ opened → scriptText s ≡ runLines (readScript s) l
 unfolding scriptText
-short-is s l h e = rw (le-ltb 4096 (length s) h, e)
+short-is s l h e = rw (le-ltb longest (length s) h, e)
 
-pub long-room : (s o : List ℕ) → 4096 < length s → length (scriptText s) ≤ length o → 0 + 7 ≤ length o
+pub long-room : (s o : List ℕ) → longest < length s → length (scriptText s) ≤ length o → 0 + 7 ≤ length o
 long-room s o h r = omega (arith, ap length (long-is s h))
 
-pub long-written : (s o o′ : List ℕ) (b : ℕ) → 4096 < length s → Wrote 0 longText o o′ b → Wrote 0 (scriptText s) o o′ b
+pub long-written : (s o o′ : List ℕ) (b : ℕ) → longest < length s → Wrote 0 longText o o′ b → Wrote 0 (scriptText s) o o′ b
 long-written s o o′ b h w = wrote-as (sym (long-is s h)) w
 
-pub short-room : (s o : List ℕ) (l : Lent) → length s ≤ 4096 → l ≡ opened → length (scriptText s) ≤ length o → length (runLines (readScript s) l) ≤ length o
+pub short-room : (s o : List ℕ) (l : Lent) → length s ≤ longest → l ≡ opened → length (scriptText s) ≤ length o → length (runLines (readScript s) l) ≤ length o
 short-room s o l h e r = omega (arith, ap length (short-is s l h e))
 
-pub short-written : (s o o′ : List ℕ) (l : Lent) (b : ℕ) → length s ≤ 4096 → l ≡ opened → Wrote 0 (runLines (readScript s) l) o o′ b → Wrote 0 (scriptText s) o o′ b
+pub short-written : (s o o′ : List ℕ) (l : Lent) (b : ℕ) → length s ≤ longest → l ≡ opened → Wrote 0 (runLines (readScript s) l) o o′ b → Wrote 0 (scriptText s) o o′ b
 short-written s o o′ l b h e w = wrote-as (sym (short-is s l h e)) w
 
 -- the lines of a script that is not too long, run from what the opening leaves
-module _ (s r m p r′ m′ p′ : List ℕ) (k : ℕ) (o : List ℕ) (h : length s ≤ 4096) (z : Sized r m p) (c : p′ ≡ zeros (length p)) (e : answered k [] (lent r′ m′ []) ≡ outcome base (opening 4096 8192 1 noKeys) (lent r m [])) where
+module _ (s r m p r′ m′ p′ : List ℕ) (k : ℕ) (o : List ℕ) (h : length s ≤ longest) (z : Sized r m p) (c : p′ ≡ zeros (length p)) (e : answered k [] (lent r′ m′ []) ≡ outcome base (opening graphicsBase textBase 1 noKeys) (lent r m [])) where
   first-state : lent r′ m′ p′ ≡ opened
   first-state = opens r m p r′ m′ p′ k (z .rec) (z .memory) (z .panel) c e
 

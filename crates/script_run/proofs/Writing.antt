@@ -13,7 +13,7 @@ use Rattle.model.specs.Memory.{withWindow}
 use Rattle.laws.specs.Memory.{window-extend, length-withWindow}
 use Rattle.model.specs.Characters.{bytesOf}
 use Rattle.model.specs.Script.Output.{spelled, decimal, spaced, printed}
-use Rattle.script_run.specs.Wrote.{Wrote}
+use Rattle.script_run.specs.Buffers.{Wrote}
 
 -- nothing written
 pub wrote-none : (at : ℕ) (o : List ℕ) → Wrote at [] o o at

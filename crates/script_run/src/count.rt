@@ -4,7 +4,7 @@ use record::layout;
 ghost use mathlib.Core.Path.{_≡_};
 ghost use Prim.Native.Nat.{_+_, _*_, _≤_, _<_};
 ghost use lib.ListN.{length};
-ghost use Rattle.model.specs.Geometry.{base};
+ghost use Rattle.model.specs.Geometry.{base, screenBytes};
 ghost use Rattle.model.specs.Rects.{linesOf};
 ghost use Rattle.model.specs.Record.{rectAt, rectsAt};
 ghost use Rattle.model.specs.Lists.{owedLines, differing};
@@ -19,7 +19,7 @@ fn byte_differs(a: u8, b: u8) -> u32
 
 // How many pixels differ.
 pub fn count_differing(screen: &[u8], panel: &[u8]) -> u32
-    requires { ⌜ (length (now screen) ≡ 1600) × (length (now panel) ≡ 1600) ⌝ }
+    requires { ⌜ (length (now screen) ≡ screenBytes base) × (length (now panel) ≡ screenBytes base) ⌝ }
     ensures { λ r. ⌜ r ≡ differing base (now (screen .entry)) (now (panel .entry)) ⌝ }
 {
     let mut n: u32 = 0;

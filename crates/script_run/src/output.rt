@@ -5,7 +5,7 @@ ghost use Prim.Native.Nat.{_+_, _≤_, _<_};
 ghost use lib.ListN.{length};
 ghost use Rattle.model.specs.Characters.{bytesOf};
 ghost use Rattle.model.specs.Script.Output.{spelled, decimal, spaced, printed};
-ghost use Rattle.script_run.specs.Wrote.{Wrote};
+ghost use Rattle.script_run.specs.Buffers.{Wrote};
 
 fn put_byte(out: &mut [u8], at: usize, b: u8) -> usize
     requires { ⌜ at + 1 ≤ length (now out) ⌝ }

@@ -13,9 +13,9 @@ ghost use Prim.Native.Nat.{_+_, _≤_};
 ghost use lib.ListN.{length};
 ghost use Rattle.model.specs.Calls.{lent, sentNumbers};
 ghost use Rattle.model.specs.Script.Read.{readScript};
-ghost use Rattle.model.specs.Script.Output.{said, linePrints, ending, runLines, scriptText};
+ghost use Rattle.model.specs.Script.Output.{said, linePrints, ending, runLines, longest, scriptText};
 ghost use Rattle.script.specs.Meaning.{meaning};
-ghost use Rattle.script_run.specs.Wrote.{Wrote, Sized, Answered};
+ghost use Rattle.script_run.specs.Buffers.{Wrote, Sized, Answered};
 
 const GRAPHICS_BASE: u16 = 4096;
 
@@ -104,7 +104,7 @@ fn run_lines(
     panel: &mut [u8],
 ) -> usize
     requires { ⌜ Sized (now rec) (now memory) (now panel) ⌝ }
-    requires { ⌜ length (now script) ≤ 4096 ⌝ }
+    requires { ⌜ length (now script) ≤ longest ⌝ }
     requires { ⌜ length (runLines (readScript (now script)) (lent (now rec) (now memory) (now panel))) ≤ length (now out) ⌝ }
     ensures { λ r. ⌜ Wrote 0 (runLines (readScript (now (script .entry))) (lent (now (rec .entry)) (now (memory .entry)) (now (panel .entry)))) (now (out .entry)) (now (out .exit)) r ⌝ }
 {

@@ -77,7 +77,11 @@ runLinesFrom n (x ∷ xs) l = linePrints n x l ++ runLinesFrom (n + 1) xs (lineL
 unfoldable pub runLines : List ScriptLine → Lent → List ℕ
 runLines xs l = runLinesFrom 1 xs l
 
--- ---- the whole text that a script prints: at most 4,096 bytes are read
+-- ---- the whole text that a script prints
+
+-- a longer script is not read
+abbrev pub longest : ℕ
+longest = 4096
 
 unfoldable pub scriptText : List ℕ → List ℕ
-scriptText s = cond (ltb 4096 (length s)) (printed (bytesOf "long") []) (runLines (readScript s) opened)
+scriptText s = cond (ltb longest (length s)) (printed (bytesOf "long") []) (runLines (readScript s) opened)

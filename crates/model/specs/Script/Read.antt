@@ -59,10 +59,18 @@ orTaken tookNone t = t
 orTaken (took v s) t = took v s
 
 unfoldable pub takeMode : List ℕ → Taken
-takeMode s = orTaken (orTaken (orTaken (takeWord 0 (bytesOf "clear") s) (takeWord 1 (bytesOf "or") s)) (takeWord 2 (bytesOf "xor") s)) (takeWord 3 (bytesOf "unknown") s)
+takeMode s =
+    orTaken (orTaken (orTaken (takeWord 0 (bytesOf "clear") s)
+    (takeWord 1 (bytesOf "or") s))
+    (takeWord 2 (bytesOf "xor") s))
+    (takeWord 3 (bytesOf "unknown") s)
 
 unfoldable pub takePiece : ℕ → List ℕ → Taken
-takePiece p s = cond (eqb p (code "#")) (takeNumber 255 s) (cond (eqb p (code "@")) (takeNumber 65535 s) (cond (eqb p (code "*")) (takeMode s) (takeWord 0 (p ∷ []) s)))
+takePiece p s =
+    cond (eqb p (code "#")) (takeNumber 255 s)
+    (cond (eqb p (code "@")) (takeNumber 65535 s)
+    (cond (eqb p (code "*")) (takeMode s)
+    (takeWord 0 (p ∷ []) s)))
 
 -- ---- patterns
 

@@ -35,7 +35,7 @@ slice-aggregate-run-script-5 c = search needs
 
 run-script-requires : tie.Need-run-script-requires
 run-script-requires c κs = (
-  record { rec = length-replicate {A = ℕ} 170 0; memory = length-replicate {A = ℕ} 65536 0; panel = length-replicate {A = ℕ} 1600 0 },
+  record { rec = length-replicate {A = ℕ} _ 0; memory = length-replicate {A = ℕ} _ 0; panel = length-replicate {A = ℕ} _ 0 },
   text-room 163900 _ (omega arith),
 )
 

@@ -4,7 +4,7 @@ use mathlib.Core.Path.{_≡_, refl}
 use lib.ListN.{length, take}
 use Prim.Native.Nat.{_-_}
 use Rattle.model.specs.Script.Output.{spaced}
-use Rattle.script_run.specs.Wrote.{Wrote}
+use Rattle.script_run.specs.Buffers.{Wrote}
 use Rattle.script_run.proofs.Writing.{number-room, numbers-start, numbers-turn, numbers-end}
 use Rattle.script_run.proofs.output.put_numbers.Statement.{statement}
 use Rattle.script_run.proofs.output.put_numbers.Tie as tie

@@ -3,7 +3,7 @@ use native.Mathlib.Omega.{arith}
 use lib.ListN.{length, drop}
 use Rattle.model.specs.Calls.{lent}
 use Rattle.model.specs.Script.Read.{readScript}
-use Rattle.script_run.specs.Wrote.{Sized}
+use Rattle.script_run.specs.Buffers.{Sized}
 use Rattle.script_run.proofs.Whole.{Ran, ran-start, ran-turn, ran-end, line-room, end-room, fewer, counts-on}
 use Rattle.script_run.proofs.runner.run_lines.Statement.{statement}
 use Rattle.script_run.proofs.runner.run_lines.Tie as tie
