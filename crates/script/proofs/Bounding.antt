@@ -118,29 +118,17 @@ fields-under ps s f e k = matched-under ps s noFields noFields (fieldsOf f) none
 
 -- ---- the forms
 
-pub record Bytes₃ (f : Fields) : Type 0 where
-  pub a : f .a < 256
-  pub b : f .b < 256
-  pub c : f .c < 256
-
-pub point-fits : (s : List ℕ) (f : Fields) → matchOf f ≡ matched pointPattern s noFields → f .ok ≡ true → Bytes₃ f
+pub point-fits : (s : List ℕ) (f : Fields) → matchOf f ≡ matched pointPattern s noFields → f .ok ≡ true → (f .a < 256) × (f .b < 256) × (f .c < 256)
 unfolding bounds isField
 point-fits s f e k =
     let u = fields-under pointPattern s f e k in
-    record { a = omega (arith, u 0); b = omega (arith, u 1); c = omega (arith, u 2) }
+    (omega (arith, u 0), omega (arith, u 1), omega (arith, u 2))
 
-pub record Bytes₅ (f : Fields) : Type 0 where
-  pub a : f .a < 256
-  pub b : f .b < 256
-  pub c : f .c < 256
-  pub d : f .d < 256
-  pub e : f .e < 256
-
-pub line-fits : (s : List ℕ) (f : Fields) → matchOf f ≡ matched linePattern s noFields → f .ok ≡ true → Bytes₅ f
+pub line-fits : (s : List ℕ) (f : Fields) → matchOf f ≡ matched linePattern s noFields → f .ok ≡ true → (f .a < 256) × (f .b < 256) × (f .c < 256) × (f .d < 256) × (f .e < 256)
 unfolding bounds isField
 line-fits s f e k =
     let u = fields-under linePattern s f e k in
-    record { a = omega (arith, u 0); b = omega (arith, u 1); c = omega (arith, u 2); d = omega (arith, u 3); e = omega (arith, u 4) }
+    (omega (arith, u 0), omega (arith, u 1), omega (arith, u 2), omega (arith, u 3), omega (arith, u 4))
 
 pub poke-fits : (s : List ℕ) (f : Fields) → matchOf f ≡ matched pokePattern s noFields → f .ok ≡ true → f .a < 256
 unfolding bounds isField

@@ -126,47 +126,32 @@ module _ (s o₀ : List ℕ) (l₀ : Lent) (o : List ℕ) (l : Lent) (at n end :
 pub counts-on : (s o₀ : List ℕ) (l₀ : Lent) (o : List ℕ) (l : Lent) (at n end : ℕ) → Ran s o₀ l₀ o l at n end → length s ≤ longest → n + 1 < 2 ^ 32
 counts-on s o₀ l₀ o l at n end k h = omega (arith, k .numbered, read-le s)
 
--- ---- the opened state
-
-pub opens : (r m p r′ m′ p′ : List ℕ) (k : ℕ) → length r ≡ recordBytes base → length m ≡ memoryBytes → length p ≡ screenBytes base → p′ ≡ zeros (length p)
-    → answered k [] (lent r′ m′ []) ≡ outcome base (opening graphicsBase textBase 1 noKeys) (lent r m []) → lent r′ m′ p′ ≡ opened
-unfolding opened outcome refusals refusal ruled done answered windows
-opens r m p r′ m′ p′ k hr hm hp z e =
-    let x = rw (eq-eqb (length r) (recordBytes base) hr, eq-eqb (length m) memoryBytes hm) at e in
-    ap (λ (y : List ℕ). lent r′ m′ y) (z ∙ ap zeros hp) ∙ ap (λ (y : Outcome). lent (y .left .rec) (y .left .memory) (zeros (screenBytes base))) x
-
 -- ---- the whole text
 
-abbrev longText : List ℕ
-longText = bytesOf "(long)\n"
-
-long-is : (s : List ℕ) → longest < length s → scriptText s ≡ longText
+long-is : (s : List ℕ) → longest < length s → scriptText s ≡ bytesOf "(long)\n"
 unfolding scriptText printed spaced
 long-is s h = rw (lt-ltb longest (length s) h)
-
-short-is : (s : List ℕ) (l : Lent) → length s ≤ longest → l ≡ opened → scriptText s ≡ runLines (readScript s) l
-unfolding scriptText
-short-is s l h e = rw (le-ltb longest (length s) h, e)
 
 pub long-room : (s o : List ℕ) → longest < length s → length (scriptText s) ≤ length o → 0 + 7 ≤ length o
 long-room s o h r = omega (arith, ap length (long-is s h))
 
-pub long-written : (s o o′ : List ℕ) (b : ℕ) → longest < length s → Wrote 0 longText o o′ b → Wrote 0 (scriptText s) o o′ b
+pub long-written : (s o o′ : List ℕ) (b : ℕ) → longest < length s → Wrote 0 (bytesOf "(long)\n") o o′ b → Wrote 0 (scriptText s) o o′ b
 long-written s o o′ b h w = wrote-as (sym (long-is s h)) w
-
-pub short-room : (s o : List ℕ) (l : Lent) → length s ≤ longest → l ≡ opened → length (scriptText s) ≤ length o → length (runLines (readScript s) l) ≤ length o
-short-room s o l h e r = omega (arith, ap length (short-is s l h e))
-
-pub short-written : (s o o′ : List ℕ) (l : Lent) (b : ℕ) → length s ≤ longest → l ≡ opened → Wrote 0 (runLines (readScript s) l) o o′ b → Wrote 0 (scriptText s) o o′ b
-short-written s o o′ l b h e w = wrote-as (sym (short-is s l h e)) w
 
 -- the lines of a script that is not too long, run from what the opening leaves
 module _ (s r m p r′ m′ p′ : List ℕ) (k : ℕ) (o : List ℕ) (h : length s ≤ longest) (z : Sized r m p) (c : p′ ≡ zeros (length p)) (e : answered k [] (lent r′ m′ []) ≡ outcome base (opening graphicsBase textBase 1 noKeys) (lent r m [])) where
-  first-state : lent r′ m′ p′ ≡ opened
-  first-state = opens r m p r′ m′ p′ k (z .rec) (z .memory) (z .panel) c e
+  opens : lent r′ m′ p′ ≡ opened
+  unfolding opened outcome refusals refusal ruled done answered windows
+  opens =
+      let x = rw (eq-eqb (length r) (recordBytes base) (z .rec), eq-eqb (length m) memoryBytes (z .memory)) at e in
+      ap (λ (y : List ℕ). lent r′ m′ y) (c ∙ ap zeros (z .panel)) ∙ ap (λ (y : Outcome). lent (y .left .rec) (y .left .memory) (zeros (screenBytes base))) x
+
+  short-is : scriptText s ≡ runLines (readScript s) (lent r′ m′ p′)
+  unfolding scriptText
+  short-is = rw (le-ltb longest (length s) h, opens)
 
   pub run-room : length (scriptText s) ≤ length o → length (runLines (readScript s) (lent r′ m′ p′)) ≤ length o
-  run-room x = short-room s o (lent r′ m′ p′) h first-state x
+  run-room x = omega (arith, ap length short-is)
 
   pub run-written : (o′ : List ℕ) (b : ℕ) → Wrote 0 (runLines (readScript s) (lent r′ m′ p′)) o o′ b → Wrote 0 (scriptText s) o o′ b
-  run-written o′ b w = short-written s o o′ (lent r′ m′ p′) b h first-state w
+  run-written o′ b w = wrote-as (sym short-is) w
