@@ -86,17 +86,20 @@ unfolding ruled
 beside p zero f f′ d d′ h e = e
 beside p (suc n) f f′ d d′ h e = h (suc n)
 
-point-beside : (x y md : ℕ) (r m p : List ℕ) → outcome base (drawPoint x y md) (lent r m p) ≡ withPanel p (outcome base (drawPoint x y md) (lent r m []))
-unfolding outcome refusals refused done answered drawingWith
-point-beside x y md r m p = beside p (refusal (refusals base (drawPoint x y md) (lent r m []))) _ _ _ _ (λ k. refl) refl
+pub record Beside (c : Call) : Type 0 where
+  same : (r m p : List ℕ) → outcome base c (lent r m p) ≡ withPanel p (outcome base c (lent r m []))
 
-line-beside : (x y z w md : ℕ) (r m p : List ℕ) → outcome base (drawLine x y z w md) (lent r m p) ≡ withPanel p (outcome base (drawLine x y z w md) (lent r m []))
+pub beside-point : (x y md : ℕ) → Beside (drawPoint x y md)
 unfolding outcome refusals refused done answered drawingWith
-line-beside x y z w md r m p = beside p (refusal (refusals base (drawLine x y z w md) (lent r m []))) _ _ _ _ (λ k. refl) refl
+beside-point x y md = record { same = λ r m p. beside p (refusal (refusals base (drawPoint x y md) (lent r m []))) _ _ _ _ (λ k. refl) refl }
 
-poke-beside : (a v : ℕ) (r m p : List ℕ) → outcome base (writeByte a v) (lent r m p) ≡ withPanel p (outcome base (writeByte a v) (lent r m []))
+pub beside-line : (x y z w md : ℕ) → Beside (drawLine x y z w md)
+unfolding outcome refusals refused done answered drawingWith
+beside-line x y z w md = record { same = λ r m p. beside p (refusal (refusals base (drawLine x y z w md) (lent r m []))) _ _ _ _ (λ k. refl) refl }
+
+pub beside-poke : (a v : ℕ) → Beside (writeByte a v)
 unfolding outcome refusals refused done answered
-poke-beside a v r m p = beside p (refusal (refusals base (writeByte a v) (lent r m []))) _ _ _ _ (λ k. refl) refl
+beside-poke a v = record { same = λ r m p. beside p (refusal (refusals base (writeByte a v) (lent r m []))) _ _ _ _ (λ k. refl) refl }
 
 -- ---- one line
 
@@ -112,42 +115,27 @@ module _ (n at k : ℕ) (ns : List ℕ) (c : Call) (l l′ : Lent) (o : List ℕ
   unfolding lineLeaves answered
   call-answered o′ f w = record { wrote = wrote-as (sym answer-is) w; left = sym (ap (λ (x : Outcome). x .left) e) }
 
-module _ (f : Form) (n at k : ℕ) (r m p r′ m′ o : List ℕ) where
-  pub point-room : (x y md : ℕ) → f ≡ Point x y md → answered k [] (lent r′ m′ []) ≡ outcome base (drawPoint x y md) (lent r m [])
-      → at + length (linePrints n (meaning f) (lent r m p)) ≤ length o → at + length (said k []) ≤ length o
-  unfolding meaning answered
-  point-room x y md e a h =
-      call-room n at k [] (drawPoint x y md) (lent r m p) (lent r′ m′ p) o (point-beside x y md r m p ∙ ap (withPanel p) (sym a)) (rw e at h)
+-- a line whose call is not lent the panel
+module _ (f : Form) (c : Call) (n at k : ℕ) (r m p r′ m′ o : List ℕ) (a : answered k [] (lent r′ m′ []) ≡ outcome base c (lent r m [])) where
+  pub plain-room : at + length (linePrints n (meaning f) (lent r m p)) ≤ length o → meaning f ≡ callLine c → Beside c → at + length (said k []) ≤ length o
+  unfolding answered
+  plain-room h e b = call-room n at k [] c (lent r m p) (lent r′ m′ p) o (b .same r m p ∙ ap (withPanel p) (sym a)) (rw e at h)
 
-  pub point-answered : (x y md : ℕ) (o′ : List ℕ) (b : ℕ) → f ≡ Point x y md → answered k [] (lent r′ m′ []) ≡ outcome base (drawPoint x y md) (lent r m [])
-      → Wrote at (said k []) o o′ b → Answered n (meaning f) at o (lent r m p) o′ (lent r′ m′ p) b
-  unfolding meaning answered
-  point-answered x y md o′ b e a w =
-      rw e (call-answered n at k [] (drawPoint x y md) (lent r m p) (lent r′ m′ p) o (point-beside x y md r m p ∙ ap (withPanel p) (sym a)) o′ b w)
+  pub plain-answered : (o′ : List ℕ) (d : ℕ) → meaning f ≡ callLine c → Beside c → Wrote at (said k []) o o′ d → Answered n (meaning f) at o (lent r m p) o′ (lent r′ m′ p) d
+  unfolding answered
+  plain-answered o′ d e b w = rw e (call-answered n at k [] c (lent r m p) (lent r′ m′ p) o (b .same r m p ∙ ap (withPanel p) (sym a)) o′ d w)
 
-  pub line-room : (x y z v md : ℕ) → f ≡ LineForm x y z v md → answered k [] (lent r′ m′ []) ≡ outcome base (drawLine x y z v md) (lent r m [])
-      → at + length (linePrints n (meaning f) (lent r m p)) ≤ length o → at + length (said k []) ≤ length o
-  unfolding meaning answered
-  line-room x y z v md e a h =
-      call-room n at k [] (drawLine x y z v md) (lent r m p) (lent r′ m′ p) o (line-beside x y z v md r m p ∙ ap (withPanel p) (sym a)) (rw e at h)
+pub means-point : (f : Form) (x y md : ℕ) → f ≡ Point x y md → meaning f ≡ callLine (drawPoint x y md)
+unfolding meaning
+means-point f x y md e = rw e
 
-  pub line-answered : (x y z v md : ℕ) (o′ : List ℕ) (b : ℕ) → f ≡ LineForm x y z v md → answered k [] (lent r′ m′ []) ≡ outcome base (drawLine x y z v md) (lent r m [])
-      → Wrote at (said k []) o o′ b → Answered n (meaning f) at o (lent r m p) o′ (lent r′ m′ p) b
-  unfolding meaning answered
-  line-answered x y z v md o′ b e a w =
-      rw e (call-answered n at k [] (drawLine x y z v md) (lent r m p) (lent r′ m′ p) o (line-beside x y z v md r m p ∙ ap (withPanel p) (sym a)) o′ b w)
+pub means-line : (f : Form) (x y z w md : ℕ) → f ≡ LineForm x y z w md → meaning f ≡ callLine (drawLine x y z w md)
+unfolding meaning
+means-line f x y z w md e = rw e
 
-  pub poke-room : (x v : ℕ) → f ≡ Poke x v → answered k [] (lent r′ m′ []) ≡ outcome base (writeByte x v) (lent r m [])
-      → at + length (linePrints n (meaning f) (lent r m p)) ≤ length o → at + length (said k []) ≤ length o
-  unfolding meaning answered
-  poke-room x v e a h =
-      call-room n at k [] (writeByte x v) (lent r m p) (lent r′ m′ p) o (poke-beside x v r m p ∙ ap (withPanel p) (sym a)) (rw e at h)
-
-  pub poke-answered : (x v : ℕ) (o′ : List ℕ) (b : ℕ) → f ≡ Poke x v → answered k [] (lent r′ m′ []) ≡ outcome base (writeByte x v) (lent r m [])
-      → Wrote at (said k []) o o′ b → Answered n (meaning f) at o (lent r m p) o′ (lent r′ m′ p) b
-  unfolding meaning answered
-  poke-answered x v o′ b e a w =
-      rw e (call-answered n at k [] (writeByte x v) (lent r m p) (lent r′ m′ p) o (poke-beside x v r m p ∙ ap (withPanel p) (sym a)) o′ b w)
+pub means-poke : (f : Form) (a v : ℕ) → f ≡ Poke a v → meaning f ≡ callLine (writeByte a v)
+unfolding meaning
+means-poke f a v e = rw e
 
 module _ (f : Form) (n at : ℕ) (r m p r′ p′ o : List ℕ) (q : Sent) where
   pub send-room : f ≡ Send → answered (q .code) (sentNumbers q) (lent r′ m p′) ≡ outcome base send (lent r m p)

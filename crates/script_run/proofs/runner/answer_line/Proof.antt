@@ -1,4 +1,4 @@
-use Rattle.script_run.proofs.Running.{point-room, line-room, poke-room, send-room, bad-room, point-answered, line-answered, poke-answered, send-answered, bad-answered}
+use Rattle.script_run.proofs.Running.{plain-room, plain-answered, means-point, means-line, means-poke, beside-point, beside-line, beside-poke, send-room, send-answered, bad-room, bad-answered}
 use borrow.Author.Needs.{needs}
 use Rattle.script_run.proofs.runner.answer_line.Statement.{statement}
 use Rattle.script_run.proofs.runner.answer_line.Tie as tie
@@ -10,7 +10,7 @@ caption-draw-point-requires : tie.Need-caption-draw-point-requires
 caption-draw-point-requires c κs = search needs
 
 put-code-requires : tie.Need-put-code-requires
-put-code-requires c κs = search point-room
+put-code-requires c κs = search (plain-room, means-point, beside-point)
 
 enum-known-form-2 : tie.Need-enum-known-form-2
 enum-known-form-2 c = search needs
@@ -19,7 +19,7 @@ caption-draw-line-requires : tie.Need-caption-draw-line-requires
 caption-draw-line-requires c κs = search needs
 
 put-code-requires-2 : tie.Need-put-code-requires-2
-put-code-requires-2 c κs = search line-room
+put-code-requires-2 c κs = search (plain-room, means-line, beside-line)
 
 enum-known-form-3 : tie.Need-enum-known-form-3
 enum-known-form-3 c = search needs
@@ -28,7 +28,7 @@ caption-write-byte-requires : tie.Need-caption-write-byte-requires
 caption-write-byte-requires c κs = search needs
 
 put-code-requires-3 : tie.Need-put-code-requires-3
-put-code-requires-3 c κs = search poke-room
+put-code-requires-3 c κs = search (plain-room, means-poke, beside-poke)
 
 enum-told : tie.Need-enum-told
 enum-told c = search needs
@@ -61,7 +61,7 @@ same-length-3 : tie.Need-same-length-3
 same-length-3 c = search needs
 
 returns : tie.Need-returns
-returns c = search point-answered
+returns c = search (plain-answered, means-point, beside-point)
 
 same-length-4 : tie.Need-same-length-4
 same-length-4 c = search needs
@@ -73,7 +73,7 @@ same-length-6 : tie.Need-same-length-6
 same-length-6 c = search needs
 
 returns-2 : tie.Need-returns-2
-returns-2 c = search line-answered
+returns-2 c = search (plain-answered, means-line, beside-line)
 
 same-length-7 : tie.Need-same-length-7
 same-length-7 c = search needs
@@ -85,7 +85,7 @@ same-length-9 : tie.Need-same-length-9
 same-length-9 c = search needs
 
 returns-3 : tie.Need-returns-3
-returns-3 c = search poke-answered
+returns-3 c = search (plain-answered, means-poke, beside-poke)
 
 same-length-10 : tie.Need-same-length-10
 same-length-10 c = search needs
