@@ -13,7 +13,7 @@ use Rattle.model.specs.Glass.{geometry, Suits}
 use Rattle.model.specs.Memory.{zeros, withWindow}
 use Rattle.model.specs.Rects.{none}
 use Rattle.model.specs.Bytes.{rectsBytes, rectBytes, wordsBytes, fourBytes, Words}
-use Rattle.model.specs.Record.{Part, head, panel, keys, flags, offset, written, total, layout, size, pendingBytes, recordBytes, Pending, State, decode, encode, bytesOf, bytesOfHead, bytesOfPending, panelOf, nothingPending}
+use Rattle.model.specs.Record.{Part, head, panel, keys, flags, offset, written, total, layout, size, pendingBytes, recordBytes, Pending, State, decode, encode, partBytes, bytesOfHead, bytesOfPending, panelOf, nothingPending}
 use Rattle.model.specs.Marks.{whole, owing}
 use Rattle.model.specs.Open.{clearHead, clearFlags, openPending, openState}
 use Rattle.laws.specs.ListLaws.{getD-replicate, getD-in, map-replicate}
@@ -55,8 +55,8 @@ noHead = record { graphics = 0; text = 0; row = 0; column = 0; screen = 0; print
 abbrev noKeys : List ℕ
 noKeys = 0 ∷ 0 ∷ 0 ∷ 0 ∷ 0 ∷ 0 ∷ 0 ∷ 0 ∷ []
 
-part-zeros : (g : Geometry) (p : Part) → bytesOf g (blank g noHead noKeys) p ≡ zeros (size g p)
-unfolding bytesOf zeros
+part-zeros : (g : Geometry) (p : Part) → partBytes g (blank g noHead noKeys) p ≡ zeros (size g p)
+unfolding partBytes zeros
 part-zeros g head = refl
 part-zeros g (panel k) = ap bytesOfPending (getD-replicate (g .panels) k (nothingPending g)) ∙ pending-zeros g
 part-zeros g keys = refl
@@ -65,7 +65,7 @@ part-zeros g flags = sym (no-flags (cells g))
 -- a record of zeros
 pub zeros-encode : (g : Geometry) → zeros (recordBytes g) ≡ encode g (blank g noHead noKeys)
 unfolding encode
-zeros-encode g = sym (written-same (bytesOf g (blank g noHead noKeys)) (λ p. zeros (size g p)) (layout g) (λ p h. part-zeros g p) ∙ written-zeros (size g) (layout g))
+zeros-encode g = sym (written-same (partBytes g (blank g noHead noKeys)) (λ p. zeros (size g p)) (layout g) (λ p h. part-zeros g p) ∙ written-zeros (size g) (layout g))
 
 -- ---- open
 
@@ -116,7 +116,7 @@ pub open-length : (g : Geometry) (graphics text version : ℕ) (ks : List ℕ) �
 unfolding encode
 open-length g graphics text version ks n =
     let s = openState g graphics text version ks in
-    length-written (size g) (bytesOf g s) (layout g) (sizes g s (open-sized g graphics text version ks n))
+    length-written (size g) (partBytes g s) (layout g) (sizes g s (open-sized g graphics text version ks n))
 
 pub open-keys : (g : Geometry) (graphics text version : ℕ) (ks : List ℕ) → length ks ≡ 8 → Words ks → decode g (encode g (openState g graphics text version ks)) .keys ≡ ks
 unfolding openState

@@ -15,7 +15,7 @@ use Rattle.model.specs.Glass.{geometry, IsGlass, Suits}
 use Rattle.model.specs.Memory.{window, withWindow}
 use Rattle.model.specs.Bytes.{rectsAt, rectBytes, rectsBytes, fourBytes}
 use Rattle.model.specs.Flags.{flagBytes}
-use Rattle.model.specs.Record.{head, panel, flags, tag, same, offset, panelsFrom, size, at, part, recordBytes, pendingBytes, Pending, State, decode, encode, bytesOfPending, bytesOf, panelOf, nothingPending, withPanel, withPanels}
+use Rattle.model.specs.Record.{head, panel, flags, tag, same, offset, panelsFrom, size, at, part, recordBytes, pendingBytes, Pending, State, decode, encode, bytesOfPending, partBytes, panelOf, nothingPending, withPanel, withPanels}
 use Rattle.model.specs.Marks.{joinOwed, owing}
 use Rattle.laws.specs.Tests.{by-eq}
 use Rattle.laws.specs.Layout.{AllShort, rects-at, rects-back, length-rects, rects-short}
@@ -58,7 +58,7 @@ others-at g k h =
 -- the bytes from a panel's part on
 from-panel : (g : Geometry) (s : State) (k : ℕ) → Sized g s → k < g .panels
     → drop (at g (panel k)) (encode g s) ≡ bytesOfPending (panelOf g s k) ++ drop (at g (panel k) + pendingBytes g) (encode g s)
-unfolding window bytesOf
+unfolding window partBytes
 from-panel g s k z h =
     let a = at g (panel k) in
     let r = encode g s in

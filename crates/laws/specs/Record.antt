@@ -16,7 +16,7 @@ use Rattle.model.specs.Memory.{window, withWindow}
 use Rattle.model.specs.Rects.{none, fits}
 use Rattle.model.specs.Bytes.{four, rectAt, rectsAt, wordsAt, rectBytes, rectsBytes, wordsBytes, fourBytes, Bytes, Words}
 use Rattle.model.specs.Flags.{flagsIn, bytesOfFlags}
-use Rattle.model.specs.Record.{Part, head, panel, keys, flags, tag, same, has, written, total, offset, panelsFrom, layout, size, at, part, recordBytes, pendingBytes, Pending, State, decode, encode, listing, headOf, pendingOf, bytesOfHead, bytesOfPending, bytesOf, panelOf, nothingPending, bandsFit, windows, windowTests, headTests, headFits, pendingFits, partFits, valid, withHead, withPanel, withKeyWords, withFlags, WellPending, WellFormed}
+use Rattle.model.specs.Record.{Part, head, panel, keys, flags, tag, same, has, written, total, offset, panelsFrom, layout, size, at, part, recordBytes, pendingBytes, Pending, State, decode, encode, listing, headOf, pendingOf, bytesOfHead, bytesOfPending, partBytes, panelOf, nothingPending, bandsFit, windows, windowTests, headTests, headFits, pendingFits, partFits, valid, withHead, withPanel, withKeyWords, withFlags, WellPending, WellFormed}
 use Rattle.model.specs.Glass.{IsGlass}
 use Rattle.laws.specs.Tests.{tests, by-test, by-lt, by-eq, clash, and-true, all-true, either, or-right}
 use Rattle.laws.specs.Rects.{passes-fits}
@@ -171,8 +171,8 @@ module _ (g : Geometry) (r : List ℕ) (k : Passing g r) where
   part-passes p h = all-at (λ q. partFits g q (part g q r)) (layout g) p (k .passes) h
 
   -- what is read of a part is written as its bytes
-  pub part-again : (p : Part) → has p (layout g) ≡ true → bytesOf g (decode g r) p ≡ part g p r
-  unfolding bytesOf decode partFits
+  pub part-again : (p : Part) → has p (layout g) ≡ true → partBytes g (decode g r) p ≡ part g p r
+  unfolding partBytes decode partFits
   part-again head h = head-again (part g head r) (bytes-part g head r (k .bytes)) (length-part g head r h (k .sized))
   part-again (panel i) h =
       ap bytesOfPending (panel-decoded g r i (panel-has g i (k .glass .one) h))
@@ -182,7 +182,7 @@ module _ (g : Geometry) (r : List ℕ) (k : Passing g r) where
 
   pub encode-decode : encode g (decode g r) ≡ r
   unfolding encode
-  encode-decode = written-same (bytesOf g (decode g r)) (λ p. part g p r) (layout g) part-again ∙ parts-written (size g) r (layout g) (k .glass .apart) (k .sized)
+  encode-decode = written-same (partBytes g (decode g r)) (λ p. part g p r) (layout g) part-again ∙ parts-written (size g) r (layout g) (k .glass .apart) (k .sized)
 
 -- ---- encode, then decode
 
@@ -196,8 +196,8 @@ pub length-pending : (g : Geometry) (p : Pending) → length (p .owed) ≡ g .ba
 length-pending g p e =
     omega (arith, length-append (rectsBytes (p .owed)) (rectBytes (p .hand) ++ fourBytes (p .sent)), length-rects (p .owed), ap (λ (n : ℕ). 8 * n) e)
 
-pub sizes : (g : Geometry) (s : State) → Sized g s → (p : Part) → length (bytesOf g s p) ≡ size g p
-unfolding bytesOf
+pub sizes : (g : Geometry) (s : State) → Sized g s → (p : Part) → length (partBytes g s p) ≡ size g p
+unfolding partBytes
 sizes g s z head = refl
 sizes g s z (panel k) = length-pending g (panelOf g s k) (z .owed k)
 sizes g s z keys = length-words (s .keys) ∙ ap (λ (n : ℕ). 4 * n) (z .keys)
@@ -208,9 +208,9 @@ unfolding decode
 count-decode g r = length-listing (λ k. pendingOf g (part g (panel k) r) 0) 0 (g .panels)
 
 -- the bytes of a part of an encoded state
-pub part-encode : (g : Geometry) (s : State) → Sized g s → (p : Part) → has p (layout g) ≡ true → part g p (encode g s) ≡ bytesOf g s p
+pub part-encode : (g : Geometry) (s : State) → Sized g s → (p : Part) → has p (layout g) ≡ true → part g p (encode g s) ≡ partBytes g s p
 unfolding encode
-part-encode g s z p h = part-written (size g) (bytesOf g s) p (layout g) (sizes g s z) h
+part-encode g s z p h = part-written (size g) (partBytes g s) p (layout g) (sizes g s z) h
 
 -- the panels that there are have their bands, and so has every number past them
 pub all-owed : (g : Geometry) (s : State) → length (s .panels) ≡ g .panels → ((k : ℕ) → k < g .panels → length (panelOf g s k .owed) ≡ g .bands)
@@ -338,14 +338,14 @@ listing-is f n l d e h =
     (λ i b. let c : i < n = omega (arith, length-listing f 0 n) in getD-listing f 0 n i d c ∙ ap f (zero-add i) ∙ h i c)
 
 pub keys-back : (g : Geometry) (s : State) → Sized g s → Words (s .keys) → decode g (encode g s) .keys ≡ s .keys
-unfolding decode bytesOf
+unfolding decode partBytes
 keys-back g s z k =
     ap (λ (c : List ℕ). wordsAt 8 c 0) (part-encode g s z keys (has-keys g))
     ∙ ap (λ (n : ℕ). wordsAt n (wordsBytes (s .keys)) 0) (sym (z .keys)) ∙ ap (λ (l : List ℕ). wordsAt (length (s .keys)) l 0) (sym (append-nil (wordsBytes (s .keys))))
     ∙ words-back (s .keys) [] k
 
 pub decode-encode : (g : Geometry) (s : State) → IsGlass g → WellFormed g s → decode g (encode g s) ≡ s
-unfolding decode bytesOf
+unfolding decode partBytes
 decode-encode g s k f =
     let z = well-sized g s f in
     let b = part-encode g s z in
@@ -361,15 +361,15 @@ decode-encode g s k f =
 
 -- t is s but for the part q
 abbrev pub But : Geometry → Part → State → State → Type 0
-But g q s t = (p : Part) → same q p ≡ false → bytesOf g s p ≡ bytesOf g t p
+But g q s t = (p : Part) → same q p ≡ false → partBytes g s p ≡ partBytes g t p
 
-pub put-part : (g : Geometry) (q : Part) (s t : State) → IsGlass g → has q (layout g) ≡ true → Sized g s → length (bytesOf g t q) ≡ size g q → But g q s t
-    → withWindow (at g q) (bytesOf g t q) (encode g s) ≡ encode g t
+pub put-part : (g : Geometry) (q : Part) (s t : State) → IsGlass g → has q (layout g) ≡ true → Sized g s → length (partBytes g t q) ≡ size g q → But g q s t
+    → withWindow (at g q) (partBytes g t q) (encode g s) ≡ encode g t
 unfolding encode
-put-part g q s t l h z n k = part-stored (size g) (bytesOf g s) (bytesOf g t) q (layout g) (sizes g s z) n k h (l .apart)
+put-part g q s t l h z n k = part-stored (size g) (partBytes g s) (partBytes g t) q (layout g) (sizes g s z) n k h (l .apart)
 
 pub put-head : (g : Geometry) (h : Head) (s : State) → IsGlass g → Sized g s → withWindow 0 (bytesOfHead h) (encode g s) ≡ encode g (withHead h s)
-unfolding bytesOf offset
+unfolding partBytes offset
 put-head g h s l z = put-part g head s (withHead h s) l (has-head g) z refl but
   where
     but : But g head s (withHead h s)
@@ -379,7 +379,7 @@ put-head g h s l z = put-part g head s (withHead h s) l (has-head g) z refl but
     but flags e = refl
 
 pub put-keys : (g : Geometry) (ks : List ℕ) (s : State) → IsGlass g → Sized g s → length ks ≡ 8 → withWindow (at g keys) (wordsBytes ks) (encode g s) ≡ encode g (withKeyWords ks s)
-unfolding bytesOf
+unfolding partBytes
 put-keys g ks s l z n = put-part g keys s (withKeyWords ks s) l (has-keys g) z (length-words ks ∙ ap (λ (k : ℕ). 4 * k) n) but
   where
     but : But g keys s (withKeyWords ks s)
@@ -389,7 +389,7 @@ put-keys g ks s l z n = put-part g keys s (withKeyWords ks s) l (has-keys g) z (
     but flags e = refl
 
 pub put-flags : (g : Geometry) (fs : List Bool) (s : State) → IsGlass g → Sized g s → length fs ≡ cells g → withWindow (at g flags) (bytesOfFlags fs) (encode g s) ≡ encode g (withFlags fs s)
-unfolding bytesOf
+unfolding partBytes
 put-flags g fs s l z n = put-part g flags s (withFlags fs s) l (has-flags g) z (length-flags fs ∙ n) but
   where
     but : But g flags s (withFlags fs s)
@@ -400,7 +400,7 @@ put-flags g fs s l z n = put-part g flags s (withFlags fs s) l (has-flags g) z (
 
 pub put-panel : (g : Geometry) (k : ℕ) (p : Pending) (s : State) → IsGlass g → Sized g s → k < g .panels → length (s .panels) ≡ g .panels → length (p .owed) ≡ g .bands
     → withWindow (at g (panel k)) (bytesOfPending p) (encode g s) ≡ encode g (withPanel k p s)
-unfolding bytesOf
+unfolding partBytes
 put-panel g k p s l z h c n =
     ap (λ (q : Pending). withWindow (at g (panel k)) (bytesOfPending q) (encode g s)) (sym here)
     ∙ put-part g (panel k) s (withPanel k p s) l (has-panel g k h) z (length-pending g (panelOf g (withPanel k p s) k) (ap (λ (q : Pending). length (q .owed)) here ∙ n)) but

@@ -9,7 +9,7 @@ use Rattle.model.specs.declared.Head.{Head}
 use Rattle.model.specs.Geometry.{Geometry, cells}
 use Rattle.model.specs.Bytes.{wordsAt, four, rectBytes, rectsBytes, wordsBytes, fourBytes, Bytes, Words}
 use Rattle.model.specs.Flags.{flagsFit}
-use Rattle.model.specs.Record.{Part, head, panel, keys, flags, has, layout, size, part, Pending, State, decode, encode, bytesOfHead, bytesOfPending, bytesOf, panelOf, headFits, pendingFits, partFits, valid, WellFormed}
+use Rattle.model.specs.Record.{Part, head, panel, keys, flags, has, layout, size, part, Pending, State, decode, encode, bytesOfHead, bytesOfPending, partBytes, panelOf, headFits, pendingFits, partFits, valid, WellFormed}
 use Rattle.model.specs.Glass.{IsGlass}
 use Rattle.laws.specs.Layout.{bytes-cons, bytes-nil, bytes-append, length-rectsAt}
 use Rattle.laws.specs.PartLists.{length-written, bytes-written, all-of}
@@ -75,21 +75,21 @@ pending-bytes p =
     (rect (p .hand) (fourBytes (p .sent)) (word (p .sent) [] bytes-nil))
 
 module _ (g : Geometry) (k : IsGlass g) (s : State) (f : WellFormed g s) where
-  part-bytes : (p : Part) → Bytes (bytesOf g s p)
-  unfolding bytesOf
+  part-bytes : (p : Part) → Bytes (partBytes g s p)
+  unfolding partBytes
   part-bytes head = head-bytes g (s .head) k (f .head)
   part-bytes (panel i) = pending-bytes (panelOf g s i)
   part-bytes keys = words-bytes (s .keys)
   part-bytes flags = flags-bytes (s .flags)
 
-  part-fits : (p : Part) → has p (layout g) ≡ true → partFits g p (bytesOf g s p) ≡ true
-  unfolding bytesOf partFits
+  part-fits : (p : Part) → has p (layout g) ≡ true → partFits g p (partBytes g s p) ≡ true
+  unfolding partBytes partFits
   part-fits head h = ap (headFits g) (head-back g (s .head) (f .head)) ∙ f .head
   part-fits (panel i) h =
       let w = f .panels i (panel-has g i (k .one) h) in
       ap (pendingFits g) (pending-back g (panelOf g s i) k w) ∙ w .passes
   part-fits keys h = refl
-  part-fits flags h = ap (λ (n : ℕ). flagsFit n (bytesOf g s flags)) (sym (f .flags)) ∙ flags-fit (s .flags)
+  part-fits flags h = ap (λ (n : ℕ). flagsFit n (partBytes g s flags)) (sym (f .flags)) ∙ flags-fit (s .flags)
 
   pub encode-passing : Passing g (encode g s)
   unfolding encode valid
@@ -97,7 +97,7 @@ module _ (g : Geometry) (k : IsGlass g) (s : State) (f : WellFormed g s) where
       let z = well-sized g s f in
       record {
         glass = k;
-        sized = length-written (size g) (bytesOf g s) (layout g) (sizes g s z);
-        bytes = bytes-written (bytesOf g s) (layout g) part-bytes;
+        sized = length-written (size g) (partBytes g s) (layout g) (sizes g s z);
+        bytes = bytes-written (partBytes g s) (layout g) part-bytes;
         passes = all-of (λ p. partFits g p (part g p (encode g s))) (layout g) (λ p h. ap (partFits g p) (part-encode g s z p h) ∙ part-fits p h);
       }

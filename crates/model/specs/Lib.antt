@@ -1,4 +1,4 @@
--- Document 01 as definitions, in its order. Geometry, Bits, Pixels, Rects, Memory and Bytes are its terms; the other files are its sections.
+-- Document 01 as definitions, in its order. Geometry, Bits, Pixels, Rects, Memory and Bytes are its terms, Characters is the bytes of a text; the other files are its sections.
 pub mod Geometry
 pub mod Bits
 pub mod Pixels
@@ -26,4 +26,5 @@ pub mod Flush
 pub mod Sends
 pub mod Calls
 pub mod Lists
+pub mod Characters
 pub mod Script

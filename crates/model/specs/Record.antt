@@ -102,11 +102,11 @@ nothingPending g = record { owed = replicate (g .bands) none; hand = none; sent 
 abbrev pub panelOf : Geometry → State → ℕ → Pending
 panelOf g s k = getD (s .panels) k (nothingPending g)
 
-unfoldable pub bytesOf : Geometry → State → Part → List ℕ
-bytesOf g s head = bytesOfHead (s .head)
-bytesOf g s (panel k) = bytesOfPending (panelOf g s k)
-bytesOf g s keys = wordsBytes (s .keys)
-bytesOf g s flags = bytesOfFlags (s .flags)
+unfoldable pub partBytes : Geometry → State → Part → List ℕ
+partBytes g s head = bytesOfHead (s .head)
+partBytes g s (panel k) = bytesOfPending (panelOf g s k)
+partBytes g s keys = wordsBytes (s .keys)
+partBytes g s flags = bytesOfFlags (s .flags)
 
 -- ---- tests: what STATE asks of the bytes of a part
 
@@ -209,7 +209,7 @@ decode g r = record {
 }
 
 unfoldable pub encode : Geometry → State → List ℕ
-encode g s = written (bytesOf g s) (layout g)
+encode g s = written (partBytes g s) (layout g)
 
 -- the bytes of a record pass STATE
 unfoldable pub valid : Geometry → List ℕ → Bool

@@ -1,3 +1,3 @@
--- The script program: `Read` gives the calls of a script, `Run` what they print.
+-- The script program: `Read` gives the calls of a script, `Output` what they print.
 pub mod Read
-pub mod Run
+pub mod Output

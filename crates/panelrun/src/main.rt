@@ -6,6 +6,12 @@ fn main() {
     let mut rec = [0u8; record::layout::RECORD_BYTES];
     let mut memory = [0u8; model::glass::MEMORY_BYTES];
     let mut panel = [0u8; model::glass::SCREEN_BYTES];
-    let end = script::run::run_script(&script[..n], &mut out, &mut rec, &mut memory, &mut panel);
+    let end = script_run::runner::run_script(
+        &script[..n],
+        &mut out,
+        &mut rec,
+        &mut memory,
+        &mut panel,
+    );
     io::write_all(1, &out[..end]);
 }

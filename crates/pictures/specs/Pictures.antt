@@ -1,5 +1,5 @@
 -- The known pictures of document 01 that it stars, and both of its scripts, from the definitions of crates/model/specs. Picture.antt says what a picture is:
--- each starts with dirty and owed empty, in any record that passes STATE and over any memory. `text` of crates/model/specs/Script/Run.antt is what a script prints.
+-- each starts with dirty and owed empty, in any record that passes STATE and over any memory. `scriptText` of crates/model/specs/Script/Output.antt is what a script prints.
 use mathlib.Core.Path.{_≡_, refl}
 use mathlib.Core.List.{[], _∷_}
 use Prim.Native.Nat.{ℕ, _/_, _%_, _≤_, _<_}
@@ -13,8 +13,8 @@ use Rattle.model.specs.Refusals.{SOURCE}
 use Rattle.model.specs.Ellipses.{part, parts, steps}
 use Rattle.model.specs.Codes.{inRow, indexIn, emojiIndex}
 use Rattle.model.specs.Calls.{drawPoint, drawLine, drawBox, drawCircle, paintBitmap, Lent, answered, outcome}
-use Rattle.model.specs.Script.Run.{text}
-use Rattle.pictures.specs.Texts.{bytesOf}
+use Rattle.model.specs.Characters.{bytesOf}
+use Rattle.model.specs.Script.Output.{scriptText}
 use Rattle.pictures.specs.Picture.{rect, sets, clears, inverts, screenIn, Unmarked, Drew, Picture}
 use Rattle.pictures.specs.Start.{clearBytes, clear-unmarked}
 use Rattle.pictures.specs.Shapes.{point-off, point-unknown, line-clamped, line-sloped, box-past-bottom, box-row, circle-parts, circle-steps, circle-two, circle-one}
@@ -86,9 +86,9 @@ pub record KnownPictures : Type 0 where
   pub codes-V1 : (emojiOf V1 0xFA46 ≡ At 0) × (emojiOf V1 0xFD7D ≡ At 526)
   pub codes-V2 : (emojiOf V2 0xF8A1 ≡ At 0) × (emojiOf V2 0xFDD9 ≡ At 526)
   -- The point form, then a send, prints `(done)`, `(sent 0 0 160)`, `(end 0 79)`
-  pub point-send : text (bytesOf "(point (3 0) or)\n(send)\n") ≡ bytesOf "(done)\n(sent 0 0 160)\n(end 0 79)\n"
+  pub point-send : scriptText (bytesOf "(point (3 0) or)\n(send)\n") ≡ bytesOf "(done)\n(sent 0 0 160)\n(end 0 79)\n"
   -- Send first gives `(sent 0 0 160)`, `(done)`, `(end 1 80)`
-  pub send-point : text (bytesOf "(send)\n(point (3 0) or)\n") ≡ bytesOf "(sent 0 0 160)\n(done)\n(end 1 80)\n"
+  pub send-point : scriptText (bytesOf "(send)\n(point (3 0) or)\n") ≡ bytesOf "(sent 0 0 160)\n(done)\n(end 1 80)\n"
 
 pub known-pictures : KnownPictures
 unfolding emojiIndex indexIn inRow

@@ -21,8 +21,9 @@ use Rattle.model.specs.Points.{pointOp, pointRect, point}
 use Rattle.model.specs.Sends.{firstOwed, restOwed, takeOwed, nextLine, lineSent, sendPending, lineNumbers, sendNumbers, copyLine, sendPanel}
 use Rattle.model.specs.Calls.{Call, drawPoint, send, Lent, lent, Outcome, answered, drawingWith, done, outcome}
 use Rattle.model.specs.Lists.{owedLines, linesLeft, differing}
-use Rattle.model.specs.Script.Read.{onFirst, lines, isDigit, goesOn, digits, atMost, number, word, orElse, mode, piece, isField, kept, andThen, matched, Line, call, choose, form, read}
-use Rattle.model.specs.Script.Run.{spelled, spaced, printed, endWord, said, answer, leaves, noKeys, opened, ending, runFrom, run, text}
+use Rattle.model.specs.Characters.{bytesOf}
+use Rattle.model.specs.Script.Read.{onFirst, scriptLines, isDigit, goesOn, takeDigits, atMost, takeNumber, takeWord, orTaken, takeMode, takePiece, isField, withField, andThen, matched, ScriptLine, callLine, ifMatched, readLine, readScript}
+use Rattle.model.specs.Script.Output.{spelled, spaced, printed, said, linePrints, lineLeaves, noKeys, opened, ending, runLinesFrom, runLines, scriptText}
 use Rattle.laws.specs.Tests.{by-eq, clash}
 use Rattle.laws.specs.Tables.{every-at}
 use Rattle.laws.specs.Calls.{own-decide, outcome-done}
@@ -37,17 +38,16 @@ use Rattle.laws.specs.Pendings.{well-send}
 use Rattle.order.specs.Formed.{marked-formed, panel-formed}
 use Rattle.order.specs.Opens.{length-clear, open-formed}
 use Rattle.pictures.specs.Picture.{rect}
-use Rattle.pictures.specs.Texts.{bytesOf}
 use Rattle.pictures.specs.Differing.{one-differs}
 
 -- ---- what is read
 
-point-then-send : read (bytesOf "(point (3 0) or)\n(send)\n") ≡ call (drawPoint 3 0 1) ∷ call send ∷ []
-unfolding bytesOf read lines onFirst form choose matched andThen kept isField piece mode orElse word number atMost digits goesOn isDigit
+point-then-send : readScript (bytesOf "(point (3 0) or)\n(send)\n") ≡ callLine (drawPoint 3 0 1) ∷ callLine send ∷ []
+unfolding readScript scriptLines onFirst readLine ifMatched matched andThen withField isField takePiece takeMode orTaken takeWord takeNumber atMost takeDigits goesOn isDigit
 point-then-send = refl
 
-send-then-point : read (bytesOf "(send)\n(point (3 0) or)\n") ≡ call send ∷ call (drawPoint 3 0 1) ∷ []
-unfolding bytesOf read lines onFirst form choose matched andThen kept isField piece mode orElse word number atMost digits goesOn isDigit
+send-then-point : readScript (bytesOf "(send)\n(point (3 0) or)\n") ≡ callLine send ∷ callLine (drawPoint 3 0 1) ∷ []
+unfolding readScript scriptLines onFirst readLine ifMatched matched andThen withField isField takePiece takeMode orTaken takeWord takeNumber atMost takeDigits goesOn isDigit
 send-then-point = refl
 
 -- ---- the record
@@ -176,18 +176,18 @@ module _ (z : List ℕ) (hz : length z ≡ 1600) where
 -- ---- what is printed
 
 two-lines : (c d : Call) (l m n : Lent) (ms ns : List ℕ) → outcome base c l ≡ answered 0 ms m → outcome base d m ≡ answered 0 ns n
-    → run (call c ∷ call d ∷ []) l ≡ said 0 ms ++ (said 0 ns ++ ending n)
-unfolding run runFrom answer leaves answered
+    → runLines (callLine c ∷ callLine d ∷ []) l ≡ said 0 ms ++ (said 0 ns ++ ending n)
+unfolding runLines runLinesFrom linePrints lineLeaves answered
 two-lines c d l m n ms ns e f =
     ap (λ (o : Outcome). said (o .code) (o .numbers) ++ (said (outcome base d (o .left) .code) (outcome base d (o .left) .numbers) ++ ending (outcome base d (o .left) .left))) e
     ∙ ap (λ (o : Outcome). said 0 ms ++ (said (o .code) (o .numbers) ++ ending (o .left))) f
 
 -- the end line of a screen z that stands at 4,096
 ended : (s : State) → WellFormed base s → (m p z : List ℕ) (d n : ℕ) → screenOf base 4096 m ≡ z → differing base z p ≡ d → linesLeft (panelOf base s 0) ≡ n
-    → ending (lent (encode base s) m p) ≡ printed endWord (d ∷ n ∷ [])
+    → ending (lent (encode base s) m p) ≡ printed (bytesOf "end") (d ∷ n ∷ [])
 unfolding ending
 ended s w m p z d n e f g =
-    λ i. printed endWord ((ap (λ (t : List ℕ). differing base t p) e ∙ f) i ∷ (ap (λ (t : State). linesLeft (panelOf base t 0)) (decode-encode base s base-glass w) ∙ g) i ∷ [])
+    λ i. printed (bytesOf "end") ((ap (λ (t : List ℕ). differing base t p) e ∙ f) i ∷ (ap (λ (t : State). linesLeft (panelOf base t 0)) (decode-encode base s base-glass w) ∙ g) i ∷ [])
 
 module _ (m : List ℕ) (hm : length m ≡ 65536) (e : screenOf base 4096 m ≡ zeros 1600) where
   dotted-long : length (dotted (screenOf base 4096 m)) ≡ 1600
@@ -201,8 +201,8 @@ module _ (m : List ℕ) (hm : length m ≡ 65536) (e : screenOf base 4096 m ≡ 
   dotted-memory = length-withWindow 4096 (dotted (screenOf base 4096 m)) m (rw dotted-long (omega arith)) ∙ hm
 
   -- the point, then the send
-  point-first : run (call (drawPoint 3 0 1) ∷ call send ∷ []) (lent (encode base openedState) m (zeros 1600))
-      ≡ said 0 [] ++ (said 0 (1 ∷ 0 ∷ 0 ∷ 160 ∷ []) ++ printed endWord (0 ∷ 79 ∷ []))
+  point-first : runLines (callLine (drawPoint 3 0 1) ∷ callLine send ∷ []) (lent (encode base openedState) m (zeros 1600))
+      ≡ said 0 [] ++ (said 0 (1 ∷ 0 ∷ 0 ∷ 160 ∷ []) ++ printed (bytesOf "end") (0 ∷ 79 ∷ []))
   unfolding pointed marked updateDirty openedState openState openPending nothingPending owing joinOwed join isEmpty cut sentOf sendPending lineSent takeOwed firstOwed restOwed nextLine sendNumbers lineNumbers sendPanel copyLine linesLeft owedLines
   point-first =
       let s = pointed openedState in
@@ -216,8 +216,8 @@ module _ (m : List ℕ) (hm : length m ≡ 65536) (e : screenOf base 4096 m ≡ 
       (ap (λ (t : List ℕ). differing base (dotted (zeros 1600)) (copyRun 20 t 0 0 160 (zeros 1600))) dotted-screen ∙ none-left (zeros 1600) (length-zeros 1600)) refl)
 
   -- the send, then the point
-  send-first : run (call send ∷ call (drawPoint 3 0 1) ∷ []) (lent (encode base openedState) m (zeros 1600))
-      ≡ said 0 (1 ∷ 0 ∷ 0 ∷ 160 ∷ []) ++ (said 0 [] ++ printed endWord (1 ∷ 80 ∷ []))
+  send-first : runLines (callLine send ∷ callLine (drawPoint 3 0 1) ∷ []) (lent (encode base openedState) m (zeros 1600))
+      ≡ said 0 (1 ∷ 0 ∷ 0 ∷ 160 ∷ []) ++ (said 0 [] ++ printed (bytesOf "end") (1 ∷ 80 ∷ []))
   unfolding pointed marked updateDirty openedState openState openPending nothingPending owing joinOwed join isEmpty cut sentOf sendPending lineSent takeOwed firstOwed restOwed nextLine sendNumbers lineNumbers sendPanel copyLine linesLeft owedLines
   send-first =
       let s = sentOf openedState in
@@ -232,10 +232,10 @@ module _ (m : List ℕ) (hm : length m ≡ 65536) (e : screenOf base 4096 m ≡ 
 
 -- ---- the scripts
 
-pub point-send : text (bytesOf "(point (3 0) or)\n(send)\n") ≡ bytesOf "(done)\n(sent 0 0 160)\n(end 0 79)\n"
-unfolding text bytesOf printed spaced spelled said opened openedState
-point-send = ap (λ (xs : List Line). run xs opened) point-then-send ∙ point-first (clearMemory noKeys) (length-clear noKeys) cleared-screen
+pub point-send : scriptText (bytesOf "(point (3 0) or)\n(send)\n") ≡ bytesOf "(done)\n(sent 0 0 160)\n(end 0 79)\n"
+unfolding scriptText printed spaced spelled said opened openedState
+point-send = ap (λ (xs : List ScriptLine). runLines xs opened) point-then-send ∙ point-first (clearMemory noKeys) (length-clear noKeys) cleared-screen
 
-pub send-point : text (bytesOf "(send)\n(point (3 0) or)\n") ≡ bytesOf "(sent 0 0 160)\n(done)\n(end 1 80)\n"
-unfolding text bytesOf printed spaced spelled said opened openedState
-send-point = ap (λ (xs : List Line). run xs opened) send-then-point ∙ send-first (clearMemory noKeys) (length-clear noKeys) cleared-screen
+pub send-point : scriptText (bytesOf "(send)\n(point (3 0) or)\n") ≡ bytesOf "(sent 0 0 160)\n(done)\n(end 1 80)\n"
+unfolding scriptText printed spaced spelled said opened openedState
+send-point = ap (λ (xs : List ScriptLine). runLines xs opened) send-then-point ∙ send-first (clearMemory noKeys) (length-clear noKeys) cleared-screen

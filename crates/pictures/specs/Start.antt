@@ -7,7 +7,7 @@ use Rattle.model.specs.Memory.{zeros}
 use Rattle.model.specs.Record.{State, WellFormed, withPanel, panelOf, nothingPending, total, encode, windows}
 use Rattle.model.specs.Open.{openState}
 use Rattle.model.specs.Calls.{Lent, lent}
-use Rattle.model.specs.Script.Run.{noKeys}
+use Rattle.model.specs.Script.Output.{noKeys}
 use Rattle.laws.specs.Loops.{length-zeros}
 use Rattle.laws.specs.Glasses.{base-glass}
 use Rattle.laws.specs.Record.{decode-encode}

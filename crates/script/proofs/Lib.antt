@@ -1,10 +1,5 @@
 pub mod Reading
 pub mod Matching
-pub mod Writing
-pub mod Splitting
-pub mod Counting
 pub mod Bounding
 pub mod Choosing
-pub mod Running
-pub mod Whole
-pub mod Sizing
+pub mod Splitting

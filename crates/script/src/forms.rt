@@ -4,8 +4,8 @@ use crate::Form;
 use crate::Got;
 use crate::words;
 ghost use mathlib.Core.Path.{_≡_};
-ghost use Rattle.model.specs.Script.Read.{isField, matched, noFields, kept, form};
-ghost use Rattle.script.specs.Meaning.{foundOf, fieldsOf, meaning};
+ghost use Rattle.model.specs.Script.Read.{isField, matched, noFields, withField, readLine};
+ghost use Rattle.script.specs.Meaning.{matchOf, fieldsOf, meaning};
 
 fn is_field(p: u8) -> bool
     ensures { λ r. ⌜ r ≡ isField p ⌝ }
@@ -28,8 +28,8 @@ fn fields(ok: bool) -> Fields
 }
 
 // The fields after p took v.
-fn kept_field(p: u8, v: u16, f: Fields) -> Fields
-    ensures { λ r. ⌜ (r .ok ≡ f .ok) × (fieldsOf r ≡ kept p v (fieldsOf f)) ⌝ }
+fn with_field(p: u8, v: u16, f: Fields) -> Fields
+    ensures { λ r. ⌜ (r .ok ≡ f .ok) × (fieldsOf r ≡ withField p v (fieldsOf f)) ⌝ }
 {
     if is_field(p) {
         return Fields {
@@ -47,18 +47,18 @@ fn kept_field(p: u8, v: u16, f: Fields) -> Fields
 
 // The line s is spelled as the pattern says, to its end.
 pub fn matched_line(pattern: &[u8], s: &[u8]) -> Fields
-    ensures { λ r. ⌜ foundOf r ≡ matched (now (pattern .entry)) (now (s .entry)) noFields ⌝ }
+    ensures { λ r. ⌜ matchOf r ≡ matched (now (pattern .entry)) (now (s .entry)) noFields ⌝ }
 {
     let mut f = fields(true);
     let mut at: usize = 0;
     let mut i: usize = 0;
     while i < pattern.len() {
         let p = pattern[i];
-        let g = words::piece_at(p, s, at);
+        let g = words::take_piece(p, s, at);
         let Got::At(v, next) = g else {
             return fields(false);
         };
-        f = kept_field(p, v, f);
+        f = with_field(p, v, f);
         at = next;
         i += 1;
     }
@@ -68,9 +68,9 @@ pub fn matched_line(pattern: &[u8], s: &[u8]) -> Fields
     f
 }
 
-// The form that a line has.
-pub fn form_of(s: &[u8]) -> Form
-    ensures { λ r. ⌜ meaning r ≡ form (now (s .entry)) ⌝ }
+// The form of a line.
+pub fn read_line(s: &[u8]) -> Form
+    ensures { λ r. ⌜ meaning r ≡ readLine (now (s .entry)) ⌝ }
 {
     let point = matched_line(b"(point (# #) *)", s);
     if point.ok {

@@ -1,10 +1,7 @@
-// The script program's work: a script read line by line, its calls made, and what they print written into lent bytes.
-pub mod count;
+// A script read line by line: what each line says.
 pub mod forms;
-pub mod lines;
-pub mod print;
 pub mod reader;
-pub mod run;
+pub mod split;
 pub mod words;
 
 // What one byte of a pattern takes of a line: a number and the place after it, or nothing.
@@ -40,7 +37,7 @@ pub enum Form {
 }
 
 // What stands at a place of a script: a line and the place after it, or the end.
-pub enum Step {
+pub enum LineOrEnd {
     Line(Form, usize),
     End,
 }

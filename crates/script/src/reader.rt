@@ -1,9 +1,9 @@
-// The reader: the lent script and a place in it. Each function over it takes it apart or makes it, and leaves the work to `step_at`.
-use crate::Step;
-use crate::lines;
+// The reader: the lent script and a place in it. Each function over it takes it apart or makes it, and leaves the work to `line_at`.
+use crate::LineOrEnd;
+use crate::split;
 ghost use mathlib.Core.Path.{_≡_};
 ghost use lib.ListN.{drop};
-ghost use Rattle.model.specs.Script.Read.{read};
+ghost use Rattle.model.specs.Script.Read.{readScript};
 ghost use Rattle.script.specs.Meaning.{readOf};
 
 pub struct Reader<'a> {
@@ -19,15 +19,15 @@ pub fn reader_at<'a>(src: &'a [u8], at: usize) -> Reader<'a>
 }
 
 // What stands at the reader's place.
-pub fn next<'a>(r: Reader<'a>) -> Step
-    ensures { λ s. ⌜ readOf (now (r .entry .src)) s ≡ read (drop (r .entry .at) (now (r .entry .src))) ⌝ }
+pub fn read_next<'a>(r: Reader<'a>) -> LineOrEnd
+    ensures { λ s. ⌜ readOf (now (r .entry .src)) s ≡ readScript (drop (r .entry .at) (now (r .entry .src))) ⌝ }
 {
-    lines::step_at(r.src, r.at)
+    split::line_at(r.src, r.at)
 }
 
-// One step of a reader over a script.
-pub fn read_step(s: &[u8], at: usize) -> Step
-    ensures { λ r. ⌜ readOf (now (s .entry)) r ≡ read (drop at (now (s .entry))) ⌝ }
+// What stands at a place of a script, by a reader.
+pub fn read_at(s: &[u8], at: usize) -> LineOrEnd
+    ensures { λ r. ⌜ readOf (now (s .entry)) r ≡ readScript (drop at (now (s .entry))) ⌝ }
 {
-    next(reader_at(s, at))
+    read_next(reader_at(s, at))
 }

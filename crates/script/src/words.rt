@@ -5,13 +5,13 @@ ghost use mathlib.Core.Path.{_≡_};
 ghost use mathlib.Core.List.{[], _∷_};
 ghost use Prim.Native.Nat.{_<_, _≤_};
 ghost use lib.ListN.{length, drop};
-ghost use Rattle.model.specs.Script.Read.{isDigit, goesOn, digits, number, word, orElse, mode, piece};
+ghost use Rattle.model.specs.Script.Read.{isDigit, goesOn, takeDigits, takeNumber, takeWord, orTaken, takeMode, takePiece};
 ghost use Rattle.script.specs.Meaning.{takenOf, numberOf};
 
 fn is_digit(d: u8) -> bool
     ensures { λ r. ⌜ r ≡ isDigit d ⌝ }
 {
-    (48 <= d) & (d <= 57)
+    (b'0' <= d) & (d <= b'9')
 }
 
 fn goes_on(v: u32, d: u8) -> bool
@@ -21,16 +21,16 @@ fn goes_on(v: u32, d: u8) -> bool
 }
 
 // The digits that follow those of v.
-fn digits_at(s: &[u8], at: usize, first: u32) -> Number
+fn take_digits(s: &[u8], at: usize, first: u32) -> Number
     requires { ⌜ first < 10 ⌝ }
-    ensures { λ r. ⌜ numberOf (now (s .entry)) r ≡ digits first (drop at (now (s .entry))) ⌝ }
+    ensures { λ r. ⌜ numberOf (now (s .entry)) r ≡ takeDigits first (drop at (now (s .entry))) ⌝ }
 {
     let mut v = first;
     let mut i = at;
     while i < s.len() {
         let d = s[i];
         if goes_on(v, d) {
-            v = 10 * v + ((d - 48) as u32);
+            v = 10 * v + ((d - b'0') as u32);
             i += 1;
         } else {
             return Number { value: v, next: i };
@@ -39,18 +39,18 @@ fn digits_at(s: &[u8], at: usize, first: u32) -> Number
     Number { value: v, next: i }
 }
 
-pub fn number_at(s: &[u8], at: usize, limit: u16) -> Got
-    ensures { λ r. ⌜ takenOf (now (s .entry)) r ≡ number limit (drop at (now (s .entry))) ⌝ }
+pub fn take_number(s: &[u8], at: usize, limit: u16) -> Got
+    ensures { λ r. ⌜ takenOf (now (s .entry)) r ≡ takeNumber limit (drop at (now (s .entry))) ⌝ }
 {
     if at >= s.len() {
         return Got::Nothing;
     }
     let d = s[at];
     if is_digit(d) {
-        if d == 48 {
+        if d == b'0' {
             return Got::At(0, at + 1);
         }
-        let n = digits_at(s, at + 1, (d - 48) as u32);
+        let n = take_digits(s, at + 1, (d - b'0') as u32);
         let v = n.value;
         if v <= limit as u32 {
             return Got::At(v as u16, n.next);
@@ -60,8 +60,8 @@ pub fn number_at(s: &[u8], at: usize, limit: u16) -> Got
 }
 
 // The word w, which stands for v.
-pub fn word_at(s: &[u8], at: usize, w: &[u8], v: u16) -> Got
-    ensures { λ r. ⌜ takenOf (now (s .entry)) r ≡ word v (now (w .entry)) (drop at (now (s .entry))) ⌝ }
+pub fn take_word(s: &[u8], at: usize, w: &[u8], v: u16) -> Got
+    ensures { λ r. ⌜ takenOf (now (s .entry)) r ≡ takeWord v (now (w .entry)) (drop at (now (s .entry))) ⌝ }
 {
     let mut i: usize = 0;
     let mut j = at;
@@ -78,27 +78,27 @@ pub fn word_at(s: &[u8], at: usize, w: &[u8], v: u16) -> Got
     Got::At(v, j)
 }
 
-fn or_word(g: Got, s: &[u8], at: usize, w: &[u8], v: u16) -> Got
-    ensures { λ r. ⌜ takenOf (now (s .entry)) r ≡ orElse (takenOf (now (s .entry)) g) (word v (now (w .entry)) (drop at (now (s .entry)))) ⌝ }
+fn or_take_word(g: Got, s: &[u8], at: usize, w: &[u8], v: u16) -> Got
+    ensures { λ r. ⌜ takenOf (now (s .entry)) r ≡ orTaken (takenOf (now (s .entry)) g) (takeWord v (now (w .entry)) (drop at (now (s .entry)))) ⌝ }
 {
     match g {
         Got::At(x, next) => Got::At(x, next),
-        Got::Nothing => word_at(s, at, w, v),
+        Got::Nothing => take_word(s, at, w, v),
     }
 }
 
-pub fn mode_at(s: &[u8], at: usize) -> Got
-    ensures { λ r. ⌜ takenOf (now (s .entry)) r ≡ mode (drop at (now (s .entry))) ⌝ }
+pub fn take_mode(s: &[u8], at: usize) -> Got
+    ensures { λ r. ⌜ takenOf (now (s .entry)) r ≡ takeMode (drop at (now (s .entry))) ⌝ }
 {
-    let clear = word_at(s, at, b"clear", 0);
-    let or = or_word(clear, s, at, b"or", 1);
-    let xor = or_word(or, s, at, b"xor", 2);
-    or_word(xor, s, at, b"unknown", 3)
+    let clear = take_word(s, at, b"clear", 0);
+    let or = or_take_word(clear, s, at, b"or", 1);
+    let xor = or_take_word(or, s, at, b"xor", 2);
+    or_take_word(xor, s, at, b"unknown", 3)
 }
 
 // A byte that stands for itself.
-fn byte_at(s: &[u8], at: usize, p: u8) -> Got
-    ensures { λ r. ⌜ takenOf (now (s .entry)) r ≡ word 0 (p ∷ []) (drop at (now (s .entry))) ⌝ }
+fn take_byte(s: &[u8], at: usize, p: u8) -> Got
+    ensures { λ r. ⌜ takenOf (now (s .entry)) r ≡ takeWord 0 (p ∷ []) (drop at (now (s .entry))) ⌝ }
 {
     if at < s.len() {
         if s[at] == p {
@@ -109,13 +109,13 @@ fn byte_at(s: &[u8], at: usize, p: u8) -> Got
 }
 
 // What the byte p of a pattern takes.
-pub fn piece_at(p: u8, s: &[u8], at: usize) -> Got
-    ensures { λ r. ⌜ takenOf (now (s .entry)) r ≡ piece p (drop at (now (s .entry))) ⌝ }
+pub fn take_piece(p: u8, s: &[u8], at: usize) -> Got
+    ensures { λ r. ⌜ takenOf (now (s .entry)) r ≡ takePiece p (drop at (now (s .entry))) ⌝ }
 {
     match p {
-        b'#' => number_at(s, at, 255),
-        b'@' => number_at(s, at, 65535),
-        b'*' => mode_at(s, at),
-        _ => byte_at(s, at, p),
+        b'#' => take_number(s, at, 255),
+        b'@' => take_number(s, at, 65535),
+        b'*' => take_mode(s, at),
+        _ => take_byte(s, at, p),
     }
 }

@@ -4,12 +4,12 @@ fn show(script: &[u8]) {
     let mut rec = [0u8; record::layout::RECORD_BYTES];
     let mut memory = [0u8; model::glass::MEMORY_BYTES];
     let mut panel = [0u8; model::glass::SCREEN_BYTES];
-    let end = script::run::run_script(script, &mut out, &mut rec, &mut memory, &mut panel);
+    let end = script_run::runner::run_script(script, &mut out, &mut rec, &mut memory, &mut panel);
     io::write_all(1, &out[..end]);
 }
 
-// The forms.
-fn forms() {
+// Lines that are forms.
+fn readable() {
     show(b"(point (3 0) or)\n(send)\n");
     show(b"(send)\n(point (3 0) or)\n");
     show(b"(line (0 0) (2 1) xor)\n(poke 4096 255)\n(send)");
@@ -42,7 +42,7 @@ fn unreadable() {
 }
 
 fn main() {
-    forms();
+    readable();
     unreadable();
     show(&[32u8; 4096]);
     show(&[32u8; 4097]);

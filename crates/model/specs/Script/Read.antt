@@ -1,10 +1,12 @@
--- Scripts, first stage: `read` gives for each line of a script the call that it names, or `bad` where no form fits.
+-- Scripts, first stage: `readScript` gives for each line of a script the call that it names, or `badLine` where no form fits.
 -- A form is a pattern, whose bytes stand for themselves, but `#` for a number 0-255, `@` for a number 0-65,535 and `*` for a mode.
 use mathlib.Core.Bool.{Bool, true, false, cond, _&&_, _||_}
 use mathlib.Core.List.{List, [], _∷_, map}
 use Prim.Native.Nat.{ℕ, _+_, _-_, _*_}
+use Prim.Native.Char.{code}
 use lib.Dec.{ltb, leb, eqb}
 use lib.ListN.{getD, take}
+use Rattle.model.specs.Characters.{bytesOf}
 use Rattle.model.specs.Calls.{Call, drawPoint, drawLine, writeByte, send}
 
 -- ---- lines
@@ -14,141 +16,129 @@ unfoldable pub onFirst : ℕ → List (List ℕ) → List (List ℕ)
 onFirst b [] = (b ∷ []) ∷ []
 onFirst b (l ∷ ls) = (b ∷ l) ∷ ls
 
--- Each newline (10) ends a line, and the last line may lack it. Nothing after the last newline is no line.
-unfoldable pub lines : List ℕ → List (List ℕ)
-lines [] = []
-lines (b ∷ s) = cond (eqb b 10) ([] ∷ lines s) (onFirst b (lines s))
+-- Each newline ends a line, and the last line may lack it. Nothing after the last newline is no line.
+unfoldable pub scriptLines : List ℕ → List (List ℕ)
+scriptLines [] = []
+scriptLines (b ∷ s) = cond (eqb b (code "\n")) ([] ∷ scriptLines s) (onFirst b (scriptLines s))
 
 -- ---- what one byte of a pattern takes of a line: a number and what is left, or nothing
 
 pub data Taken : Type 0 where
-  nothing : Taken
-  taken : ℕ → List ℕ → Taken
+  tookNone : Taken
+  took : ℕ → List ℕ → Taken
 
 unfoldable pub isDigit : ℕ → Bool
-isDigit d = leb 48 d && leb d 57
+isDigit d = leb (code "0") d && leb d (code "9")
 
 -- v has five digits, or d is none: the number ends before d
 unfoldable pub goesOn : ℕ → ℕ → Bool
 goesOn v d = isDigit d && ltb v 10000
 
 -- the digits that follow those of v
-unfoldable pub digits : ℕ → List ℕ → Taken
-digits v [] = taken v []
-digits v (d ∷ s) = cond (goesOn v d) (digits (10 * v + (d - 48)) s) (taken v (d ∷ s))
+unfoldable pub takeDigits : ℕ → List ℕ → Taken
+takeDigits v [] = took v []
+takeDigits v (d ∷ s) = cond (goesOn v d) (takeDigits (10 * v + (d - code "0")) s) (took v (d ∷ s))
 
 unfoldable pub atMost : ℕ → Taken → Taken
-atMost limit nothing = nothing
-atMost limit (taken v s) = cond (leb v limit) (taken v s) nothing
+atMost limit tookNone = tookNone
+atMost limit (took v s) = cond (leb v limit) (took v s) tookNone
 
 -- A number with no needless zero: after a 0 in front nothing more is taken. No form has a digit after a number, so a further digit is unreadable.
-unfoldable pub number : ℕ → List ℕ → Taken
-number limit [] = nothing
-number limit (d ∷ s) = cond (isDigit d) (cond (eqb d 48) (taken 0 s) (atMost limit (digits (d - 48) s))) nothing
+unfoldable pub takeNumber : ℕ → List ℕ → Taken
+takeNumber limit [] = tookNone
+takeNumber limit (d ∷ s) = cond (isDigit d) (cond (eqb d (code "0")) (took 0 s) (atMost limit (takeDigits (d - code "0") s))) tookNone
 
 -- the word w, which stands for v
-unfoldable pub word : ℕ → List ℕ → List ℕ → Taken
-word v [] s = taken v s
-word v (x ∷ w) [] = nothing
-word v (x ∷ w) (y ∷ s) = cond (eqb x y) (word v w s) nothing
+unfoldable pub takeWord : ℕ → List ℕ → List ℕ → Taken
+takeWord v [] s = took v s
+takeWord v (x ∷ w) [] = tookNone
+takeWord v (x ∷ w) (y ∷ s) = cond (eqb x y) (takeWord v w s) tookNone
 
-unfoldable pub orElse : Taken → Taken → Taken
-orElse nothing t = t
-orElse (taken v s) t = taken v s
+unfoldable pub orTaken : Taken → Taken → Taken
+orTaken tookNone t = t
+orTaken (took v s) t = took v s
 
--- clear
-abbrev pub clearWord : List ℕ
-clearWord = 99 ∷ 108 ∷ 101 ∷ 97 ∷ 114 ∷ []
+unfoldable pub takeMode : List ℕ → Taken
+takeMode s =
+    orTaken (orTaken (orTaken (takeWord 0 (bytesOf "clear") s)
+    (takeWord 1 (bytesOf "or") s))
+    (takeWord 2 (bytesOf "xor") s))
+    (takeWord 3 (bytesOf "unknown") s)
 
--- or
-abbrev pub orWord : List ℕ
-orWord = 111 ∷ 114 ∷ []
-
--- xor
-abbrev pub xorWord : List ℕ
-xorWord = 120 ∷ 111 ∷ 114 ∷ []
-
--- unknown
-abbrev pub unknownWord : List ℕ
-unknownWord = 117 ∷ 110 ∷ 107 ∷ 110 ∷ 111 ∷ 119 ∷ 110 ∷ []
-
-unfoldable pub mode : List ℕ → Taken
-mode s = orElse (orElse (orElse (word 0 clearWord s) (word 1 orWord s)) (word 2 xorWord s)) (word 3 unknownWord s)
-
-unfoldable pub piece : ℕ → List ℕ → Taken
-piece p s = cond (eqb p 35) (number 255 s) (cond (eqb p 64) (number 65535 s) (cond (eqb p 42) (mode s) (word 0 (p ∷ []) s)))
+unfoldable pub takePiece : ℕ → List ℕ → Taken
+takePiece p s =
+    cond (eqb p (code "#")) (takeNumber 255 s)
+    (cond (eqb p (code "@")) (takeNumber 65535 s)
+    (cond (eqb p (code "*")) (takeMode s)
+    (takeWord 0 (p ∷ []) s)))
 
 -- ---- patterns
 
 -- p stands for a number or a mode
 unfoldable pub isField : ℕ → Bool
-isField p = (eqb p 35 || eqb p 64) || eqb p 42
+isField p = (eqb p (code "#") || eqb p (code "@")) || eqb p (code "*")
 
 -- the last six numbers that a line gave, the latest first
 abbrev pub noFields : List ℕ
 noFields = 0 ∷ 0 ∷ 0 ∷ 0 ∷ 0 ∷ 0 ∷ []
 
-unfoldable pub kept : ℕ → ℕ → List ℕ → List ℕ
-kept p v fs = cond (isField p) (v ∷ take 5 fs) fs
+unfoldable pub withField : ℕ → ℕ → List ℕ → List ℕ
+withField p v fs = cond (isField p) (v ∷ take 5 fs) fs
 
-pub data Found : Type 0 where
-  no : Found
-  yes : List ℕ → Found
+pub data Match : Type 0 where
+  unmatched : Match
+  matchedWith : List ℕ → Match
 
-unfoldable pub andThen : Taken → (ℕ → List ℕ → Found) → Found
-andThen nothing k = no
-andThen (taken v s) k = k v s
+unfoldable pub andThen : Taken → (ℕ → List ℕ → Match) → Match
+andThen tookNone k = unmatched
+andThen (took v s) k = k v s
 
 -- the line s is spelled as the pattern says, to its end
-unfoldable pub matched : List ℕ → List ℕ → List ℕ → Found
-matched [] [] fs = yes fs
-matched [] (x ∷ s) fs = no
-matched (p ∷ ps) s fs = andThen (piece p s) (λ v t. matched ps t (kept p v fs))
+unfoldable pub matched : List ℕ → List ℕ → List ℕ → Match
+matched [] [] fs = matchedWith fs
+matched [] (x ∷ s) fs = unmatched
+matched (p ∷ ps) s fs = andThen (takePiece p s) (λ v t. matched ps t (withField p v fs))
 
--- (point (# #) *)
 abbrev pub pointPattern : List ℕ
-pointPattern = 40 ∷ 112 ∷ 111 ∷ 105 ∷ 110 ∷ 116 ∷ 32 ∷ 40 ∷ 35 ∷ 32 ∷ 35 ∷ 41 ∷ 32 ∷ 42 ∷ 41 ∷ []
+pointPattern = bytesOf "(point (# #) *)"
 
--- (line (# #) (# #) *)
 abbrev pub linePattern : List ℕ
-linePattern = 40 ∷ 108 ∷ 105 ∷ 110 ∷ 101 ∷ 32 ∷ 40 ∷ 35 ∷ 32 ∷ 35 ∷ 41 ∷ 32 ∷ 40 ∷ 35 ∷ 32 ∷ 35 ∷ 41 ∷ 32 ∷ 42 ∷ 41 ∷ []
+linePattern = bytesOf "(line (# #) (# #) *)"
 
--- (poke @ #)
 abbrev pub pokePattern : List ℕ
-pokePattern = 40 ∷ 112 ∷ 111 ∷ 107 ∷ 101 ∷ 32 ∷ 64 ∷ 32 ∷ 35 ∷ 41 ∷ []
+pokePattern = bytesOf "(poke @ #)"
 
--- (send)
 abbrev pub sendPattern : List ℕ
-sendPattern = 40 ∷ 115 ∷ 101 ∷ 110 ∷ 100 ∷ 41 ∷ []
+sendPattern = bytesOf "(send)"
 
 -- ---- forms
 
-pub data Line : Type 0 where
-  call : Call → Line
-  bad : Line
+pub data ScriptLine : Type 0 where
+  callLine : Call → ScriptLine
+  badLine : ScriptLine
 
-unfoldable pub choose : Found → (List ℕ → Line) → Line → Line
-choose no f other = other
-choose (yes fs) f other = f fs
+unfoldable pub ifMatched : Match → (List ℕ → ScriptLine) → ScriptLine → ScriptLine
+ifMatched unmatched f other = other
+ifMatched (matchedWith fs) f other = f fs
 
-abbrev pub pointForm : List ℕ → Line
-pointForm fs = call (drawPoint (getD fs 2 0) (getD fs 1 0) (getD fs 0 0))
+abbrev pub pointForm : List ℕ → ScriptLine
+pointForm fs = callLine (drawPoint (getD fs 2 0) (getD fs 1 0) (getD fs 0 0))
 
-abbrev pub lineForm : List ℕ → Line
-lineForm fs = call (drawLine (getD fs 4 0) (getD fs 3 0) (getD fs 2 0) (getD fs 1 0) (getD fs 0 0))
+abbrev pub lineForm : List ℕ → ScriptLine
+lineForm fs = callLine (drawLine (getD fs 4 0) (getD fs 3 0) (getD fs 2 0) (getD fs 1 0) (getD fs 0 0))
 
-abbrev pub pokeForm : List ℕ → Line
-pokeForm fs = call (writeByte (getD fs 1 0) (getD fs 0 0))
+abbrev pub pokeForm : List ℕ → ScriptLine
+pokeForm fs = callLine (writeByte (getD fs 1 0) (getD fs 0 0))
 
-abbrev pub sendForm : List ℕ → Line
-sendForm fs = call send
+abbrev pub sendForm : List ℕ → ScriptLine
+sendForm fs = callLine send
 
-unfoldable pub form : List ℕ → Line
-form l =
-    choose (matched pointPattern l noFields) pointForm
-    (choose (matched linePattern l noFields) lineForm
-    (choose (matched pokePattern l noFields) pokeForm
-    (choose (matched sendPattern l noFields) sendForm bad)))
+unfoldable pub readLine : List ℕ → ScriptLine
+readLine l =
+    ifMatched (matched pointPattern l noFields) pointForm
+    (ifMatched (matched linePattern l noFields) lineForm
+    (ifMatched (matched pokePattern l noFields) pokeForm
+    (ifMatched (matched sendPattern l noFields) sendForm badLine)))
 
-unfoldable pub read : List ℕ → List Line
-read s = map form (lines s)
+unfoldable pub readScript : List ℕ → List ScriptLine
+readScript s = map readLine (scriptLines s)

@@ -25,8 +25,8 @@ loop-holds c = (search needs, search match-start)
 shared-slice-read-p : tie.Need-shared-slice-read-p Inv-loop μ-loop
 shared-slice-read-p c = omega arith
 
-piece-at-requires : tie.Need-piece-at-requires Inv-loop μ-loop
-piece-at-requires c κs = search needs
+take-piece-requires : tie.Need-take-piece-requires Inv-loop μ-loop
+take-piece-requires c κs = search needs
 
 enum-known-g : tie.Need-enum-known-g Inv-loop μ-loop
 enum-known-g c = search needs
@@ -40,8 +40,8 @@ fields-requires-2 c κs = search needs
 returns : tie.Need-returns Inv-loop μ-loop
 returns c = search match-none
 
-kept-field-requires : tie.Need-kept-field-requires Inv-loop μ-loop
-kept-field-requires c κs = search needs
+with-field-requires : tie.Need-with-field-requires Inv-loop μ-loop
+with-field-requires c κs = search needs
 
 add-i : tie.Need-add-i Inv-loop μ-loop
 add-i c = omega arith
@@ -70,12 +70,12 @@ matched-line-spec =
     fields-requires
     loop-holds
     shared-slice-read-p
-    piece-at-requires
+    take-piece-requires
     enum-known-g
     enum-told
     fields-requires-2
     returns
-    kept-field-requires
+    with-field-requires
     add-i
     loop-less
     loop-again

@@ -1,9 +1,0 @@
--- The bytes of a text.
-use Prim.Native.Nat.{ℕ}
-use Prim.Native.Char.{code}
-use Prim.Native.String.{String, [], _∷_}
-use mathlib.Core.List.{List, [] as []ᴸ, _∷_ as _∷ᴸ_}
-
-unfoldable pub bytesOf : String → List ℕ
-bytesOf [] = []ᴸ
-bytesOf (c ∷ s) = code c ∷ᴸ bytesOf s

@@ -1,0 +1,5 @@
+pub mod Writing
+pub mod Counting
+pub mod Running
+pub mod Whole
+pub mod Sizing

@@ -1,0 +1,4 @@
+// A script run: its calls made, and what they print written into lent bytes.
+pub mod count;
+pub mod output;
+pub mod runner;
