@@ -1,12 +1,12 @@
 -- Bytes by their bits: the bits of `&`, `|`, `^`, of a complement and of a masked change; two bytes with equal bits are equal, and two screens with equal pixels are.
 use mathlib.Core.Path.{_≡_, refl, sym, ap, ap₂, _∙_}
-use mathlib.Core.Bool.{Bool, true, false, cond, not, xor, _&&_, _||_, Bool·beq, and-true, and-false, or-true, or-false}
+use mathlib.Core.Bool.{Bool, true, false, cond, not, xor, _&&_, _||_, Bool·beq, and-true, and-false, or-false}
 use mathlib.Core.List.{List}
 use Prim.Native.Nat.{ℕ, zero, suc, _+_, _-_, _*_, _/_, _%_, _^_, _<_}
 use native.Mathlib.Omega.{arith}
 use native.Mathlib.Nat.{div-add-mod, mod-lt}
 use lib.Dec.{eqb}
-use lib.Bits.{bitAnd, bitOr, bitXor, and-shr, or-shr, xor-shr, and-mod, or-mod, xor-mod, and-lt, or-lt, xor-lt}
+use lib.Bits.{bitAnd, bitOr, bitXor, and-shr, or-shr, xor-shr, and-mod, or-mod, xor-mod, and-lt, or-lt}
 use lib.ListN.{length, getD, set}
 use lib.Seq.{ext-getD, getD-set-same, getD-set-other, set-out}
 use borrow.Author.Tests.{eqb-true}
@@ -69,21 +69,6 @@ pub record Masked (m : ℕ) (f : ℕ → Bool → Bool) (b v : ℕ) : Type 0 whe
 abbrev pub mixed : ℕ → ℕ → ℕ → ℕ
 mixed m from onto = bitOr (bitAnd from m) (bitAnd onto (255 - m))
 
-or-cond : (s t : Bool) → (s || t) ≡ cond t true s
-or-cond s true = or-true s
-or-cond s false = or-false s
-
-and-cond : (s t : Bool) → (s && not t) ≡ cond t false s
-and-cond s true = and-false s
-and-cond s false = and-true s
-
-xor-cond : (s t : Bool) → xor s t ≡ cond t (not s) s
-unfolding xor
-xor-cond true true = refl
-xor-cond true false = refl
-xor-cond false true = refl
-xor-cond false false = refl
-
 mix-cond : (f o t : Bool) → (f && t || o && not t) ≡ cond t f o
 mix-cond f o true = rw (and-true f, and-false o) (or-false f)
 mix-cond f o false = rw (and-false f) (and-true o)
@@ -94,15 +79,6 @@ module _ (b m : ℕ) (hb : b < 256) (hm : m < 256) where
 
   kept-small : bitAnd b (255 - m) < 256
   kept-small = and-lt 8 b (255 - m) hb (omega arith)
-
-  pub or-masked : Masked m (λ k v. true) b (bitOr b m)
-  or-masked = record { small = or-lt 8 b m hb hm; bits = λ k h. bitAt-or b m k ∙ or-cond (bitAt b k) (bitAt m k) }
-
-  pub clear-masked : Masked m (λ k v. false) b (bitAnd b (255 - m))
-  clear-masked = record { small = kept-small; bits = λ k h. kept-bit k h ∙ and-cond (bitAt b k) (bitAt m k) }
-
-  pub flip-masked : Masked m (λ k v. not v) b (bitXor b m)
-  flip-masked = record { small = xor-lt 8 b m hb hm; bits = λ k h. bitAt-xor b m k ∙ xor-cond (bitAt b k) (bitAt m k) }
 
   pub mix-masked : (f : ℕ) → f < 256 → Masked m (λ k v. bitAt f k) b (mixed m f b)
   mix-masked f hf = record {

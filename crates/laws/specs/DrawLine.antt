@@ -39,11 +39,11 @@ module _ (st h x1 y1 x2 y2 : ℕ) (d : DrawMode) (s : List ℕ) where
   line-vertical n p q e k l w = rw (ne-eqb y1 y2 n, ← p, q, eq-eqb x1 x2 e) (w ∙ (λ i. drawnOn st h (verticalLine x1 (k i) (l i) d) s))
 
   -- from its left end on
-  pub line-sloped : {t : Bool} {a b c e : ℕ} {o : Drawn} → (y1 ≡ y2 → ⊥) → t ≡ isUnknown d → t ≡ false → (x1 ≡ x2 → ⊥)
+  pub line-slopes : {t : Bool} {a b c e : ℕ} {o : Drawn} → (y1 ≡ y2 → ⊥) → t ≡ isUnknown d → t ≡ false → (x1 ≡ x2 → ⊥)
       → a ≡ min x1 x2 → b ≡ cond (ltb x2 x1) y2 y1 → c ≡ max x1 x2 → e ≡ cond (ltb x2 x1) y1 y2
       → o ≡ drawnOn st h (slopedLine a b c e d) s → o ≡ drawnOn st h (line st h x1 y1 x2 y2 d) s
   unfolding line
-  line-sloped n p q k pa pb pc pe w =
+  line-slopes n p q k pa pb pc pe w =
       rw (ne-eqb y1 y2 n, ← p, q, ne-eqb x1 x2 k)
       (w ∙ (λ i. drawnOn st h (slopedLine (pa i) (pb i) (pc i) (pe i) d) s)
       ∙ by-lt x2 x1

@@ -112,16 +112,16 @@ module _ (st h x y r rx ry : ℕ) (fill : Bool) (d : DrawMode) where
   -- the same of what the code has: ps are drawn and were not the last, and a step gave v and qs
   module _ (q : Radii r rx ry) {w v : Walk} {ps qs : List Part} {b c : Bool} {s e t : List ℕ} (k : LeftToDraw st h x y r rx ry fill d b w ps s t)
       (p : e ≡ painted st h x y fill d ps s) (n : b ≡ false) (f : v ≡ step r rx ry w) (g : qs ≡ stepParts r rx ry w) (o : c ≡ ended v) where
-    here : Painting st h x y r rx ry fill d w e t
-    here = rw p (k .more n)
+    painting-now : Painting st h x y r rx ry fill d w e t
+    painting-now = rw p (k .more n)
 
     drawn-so : painted st h x y fill d qs e ≡ painted st h x y fill d (stepParts r rx ry w) e
     drawn-so = ap (λ (l : List Part). painted st h x y fill d l e) g
 
     pub painting-steps : LeftToDraw st h x y r rx ry fill d c v qs e t
     painting-steps =
-        record { last = λ z. painting-end w e _ t here drawn-so (sym (o ∙ ap ended f) ∙ z); more = λ z. rw f (painting-turn q w e _ t here drawn-so (sym (o ∙ ap ended f) ∙ z) .0) }
+        record { last = λ z. painting-end w e _ t painting-now drawn-so (sym (o ∙ ap ended f) ∙ z); more = λ z. rw f (painting-turn q w e _ t painting-now drawn-so (sym (o ∙ ap ended f) ∙ z) .0) }
 
     pub painting-less : turnsLeft r c v < turnsLeft r b w
     painting-less =
-        by-test c (λ z. rw (z, n) (omega arith)) (λ z. rw (z, n, f) (omega (arith, painting-turn q w e _ t here drawn-so (sym (o ∙ ap ended f) ∙ z) .1)))
+        by-test c (λ z. rw (z, n) (omega arith)) (λ z. rw (z, n, f) (omega (arith, painting-turn q w e _ t painting-now drawn-so (sym (o ∙ ap ended f) ∙ z) .1)))

@@ -6,7 +6,7 @@ use Prim.Native.Nat.{ℕ, zero, suc, _+_, _-_, _*_, _/_, _≤_, _<_}
 use native.Mathlib.Nat.{mul-le-mul-left}
 use native.Mathlib.Omega.{arith}
 use lib.Bits.{bitAnd, bitXor, and-lt, xor-lt}
-use lib.ListN.{length, getD, set, length-set}
+use lib.ListN.{length, getD, set}
 use Rattle.model.specs.Bits.{bitAt}
 use Rattle.model.specs.declared.DrawMode.{DrawMode}
 use Rattle.model.specs.declared.DrawMode.the-variants.{Clear, Or, Xor, Unknown}
@@ -193,10 +193,6 @@ bytes-append i (suc n) m d s =
     let e : suc n + m ≡ suc (n + m) = omega arith in
     let f : i + suc n ≡ suc i + n = omega arith in
     rw (e, f) (bytes-append (suc i) n m d (masked s i 255 d))
-
-pub length-masked : (s : List ℕ) (i m : ℕ) (d : DrawMode) → length (masked s i m d) ≡ length s
-unfolding masked
-length-masked s i m d = length-set s i _
 
 bytes-masked : (s : List ℕ) (i m : ℕ) (d : DrawMode) → Bytes s → m < 256 → Bytes (masked s i m d)
 unfolding masked Bytes

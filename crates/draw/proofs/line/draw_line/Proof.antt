@@ -1,4 +1,4 @@
-use Rattle.laws.specs.DrawLine.{line-horizontal, line-unknown, line-vertical, line-sloped}
+use Rattle.laws.specs.DrawLine.{line-horizontal, line-unknown, line-vertical, line-slopes}
 use borrow.Author.Needs.{needs}
 use Rattle.draw.proofs.line.draw_line.Statement.{statement}
 use Rattle.draw.proofs.line.draw_line.Tie as tie
@@ -61,7 +61,7 @@ same-length-3 : tie.Need-same-length-3
 same-length-3 c = search needs
 
 returns-4 : tie.Need-returns-4
-returns-4 c = search line-sloped
+returns-4 c = search line-slopes
 
 pub draw-line-spec : {M : Type 1} → statement M
 draw-line-spec =
