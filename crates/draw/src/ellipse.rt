@@ -144,16 +144,18 @@ fn draw_walk(
     ensures { λ _. ⌜ now (screen .exit) ≡ painted (canvas .stride) (canvas .height) x y fill (modeOf op) (parts rx ry) (now (screen .entry)) ⌝ }
 {
     let r = greatest(rx, ry);
-    draw_part(canvas, screen, x, y, rx, 0, fill, op);
     let mut w = start(r, rx);
+    let mut part = EllipsePart::At(rx, 0);
+    let mut last = false;
     loop {
-        let s = next_step(w, r, rx, ry);
-        let part = s.part;
         draw_step(canvas, screen, x, y, part, fill, op);
-        w = s.walk;
-        if ended(w) {
+        if last {
             break;
         }
+        let s = next_step(w, r, rx, ry);
+        part = s.part;
+        w = s.walk;
+        last = ended(w);
     }
 }
 

@@ -7,6 +7,7 @@ ghost use Rattle.model.specs.Lines.{isUnknown, horizontal, horizontalLine, pixe
 ghost use Rattle.pixels.specs.Raster.{modeOf, IsOp};
 use crate::ends::greatest;
 use crate::ends::least;
+use crate::ends::pick;
 use crate::slope::draw_slope;
 use marks::span::clamp;
 use marks::span::lowered_marks;
@@ -160,8 +161,14 @@ pub fn draw_line(
     if x1 == x2 {
         return draw_vertical(canvas, screen, x1, least(y1, y2), greatest(y1, y2), mode);
     }
-    if x2 < x1 {
-        return draw_sloped(canvas, screen, x2, y2, x1, y1, mode);
-    }
-    draw_sloped(canvas, screen, x1, y1, x2, y2, mode)
+    let leftwards = x2 < x1;
+    draw_sloped(
+        canvas,
+        screen,
+        least(x1, x2),
+        pick(leftwards, y2, y1),
+        greatest(x1, x2),
+        pick(leftwards, y1, y2),
+        mode,
+    )
 }

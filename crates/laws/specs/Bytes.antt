@@ -1,12 +1,12 @@
 -- Bytes by their bits: the bits of `&`, `|`, `^`, of a complement and of a masked change; two bytes with equal bits are equal, and two screens with equal pixels are.
 use mathlib.Core.Path.{_≡_, refl, sym, ap, ap₂, _∙_}
-use mathlib.Core.Bool.{Bool, true, false, cond, not, xor, _&&_, _||_, Bool·beq, and-true, and-false, or-true, or-false}
+use mathlib.Core.Bool.{Bool, true, false, cond, not, xor, _&&_, _||_, Bool·beq, and-true, and-false, or-false}
 use mathlib.Core.List.{List}
 use Prim.Native.Nat.{ℕ, zero, suc, _+_, _-_, _*_, _/_, _%_, _^_, _<_}
 use native.Mathlib.Omega.{arith}
 use native.Mathlib.Nat.{div-add-mod, mod-lt}
 use lib.Dec.{eqb}
-use lib.Bits.{bitAnd, bitOr, bitXor, and-shr, or-shr, xor-shr, and-mod, or-mod, xor-mod, and-lt, or-lt, xor-lt}
+use lib.Bits.{bitAnd, bitOr, bitXor, and-shr, or-shr, xor-shr, and-mod, or-mod, xor-mod, and-lt, or-lt}
 use lib.ListN.{length, getD, set}
 use lib.Seq.{ext-getD, getD-set-same, getD-set-other, set-out}
 use borrow.Author.Tests.{eqb-true}
@@ -14,7 +14,7 @@ use Rattle.model.specs.Bits.{bitAt}
 use Rattle.model.specs.Pixels.{bit, put, place}
 use Rattle.model.specs.Bytes.{Bytes}
 use Rattle.laws.specs.Tests.{by-lt, by-eq}
-use Rattle.laws.specs.Tables.{every, every-at, every₂-at, withBit-lt}
+use Rattle.laws.specs.Tables.{allBelow, every-at, every₂-at, withBit-lt}
 
 -- ---- an operation that works bit by bit
 
@@ -30,7 +30,7 @@ digit-rule op f i j = Bool·beq (eqb (op i j) 1) (f (eqb i 1) (eqb j 1))
 
 by-digits : (op : ℕ → ℕ → ℕ) (f : Bool → Bool → Bool)
     → ((a b k : ℕ) → op a b / 2 ^ k ≡ op (a / 2 ^ k) (b / 2 ^ k)) → ((a b k : ℕ) → op a b % 2 ^ k ≡ op (a % 2 ^ k) (b % 2 ^ k))
-    → every 2 (λ i. every 2 (digit-rule op f i)) ≡ true → (a b k : ℕ) → bitAt (op a b) k ≡ f (bitAt a k) (bitAt b k)
+    → allBelow 2 (λ i. allBelow 2 (digit-rule op f i)) ≡ true → (a b k : ℕ) → bitAt (op a b) k ≡ f (bitAt a k) (bitAt b k)
 unfolding bitAt
 by-digits op f shr low all a b k =
     ap (λ (n : ℕ). eqb (n % 2) 1) (shr a b k) ∙ ap (λ (n : ℕ). eqb n 1) (low (a / 2 ^ k) (b / 2 ^ k) 1)
@@ -51,7 +51,7 @@ bitAt-xor = by-digits bitXor xor xor-shr xor-mod refl
 abbrev not-rule : ℕ → ℕ → Bool
 not-rule m k = Bool·beq (bitAt (255 - m) k) (not (bitAt m k))
 
-not-all : every 256 (λ m. every 8 (not-rule m)) ≡ true
+not-all : allBelow 256 (λ m. allBelow 8 (not-rule m)) ≡ true
 unfolding bitAt
 not-all = refl
 
@@ -69,21 +69,6 @@ pub record Masked (m : ℕ) (f : ℕ → Bool → Bool) (b v : ℕ) : Type 0 whe
 abbrev pub mixed : ℕ → ℕ → ℕ → ℕ
 mixed m from onto = bitOr (bitAnd from m) (bitAnd onto (255 - m))
 
-or-cond : (s t : Bool) → (s || t) ≡ cond t true s
-or-cond s true = or-true s
-or-cond s false = or-false s
-
-and-cond : (s t : Bool) → (s && not t) ≡ cond t false s
-and-cond s true = and-false s
-and-cond s false = and-true s
-
-xor-cond : (s t : Bool) → xor s t ≡ cond t (not s) s
-unfolding xor
-xor-cond true true = refl
-xor-cond true false = refl
-xor-cond false true = refl
-xor-cond false false = refl
-
 mix-cond : (f o t : Bool) → (f && t || o && not t) ≡ cond t f o
 mix-cond f o true = rw (and-true f, and-false o) (or-false f)
 mix-cond f o false = rw (and-false f) (and-true o)
@@ -94,15 +79,6 @@ module _ (b m : ℕ) (hb : b < 256) (hm : m < 256) where
 
   kept-small : bitAnd b (255 - m) < 256
   kept-small = and-lt 8 b (255 - m) hb (omega arith)
-
-  pub or-masked : Masked m (λ k v. true) b (bitOr b m)
-  or-masked = record { small = or-lt 8 b m hb hm; bits = λ k h. bitAt-or b m k ∙ or-cond (bitAt b k) (bitAt m k) }
-
-  pub clear-masked : Masked m (λ k v. false) b (bitAnd b (255 - m))
-  clear-masked = record { small = kept-small; bits = λ k h. kept-bit k h ∙ and-cond (bitAt b k) (bitAt m k) }
-
-  pub flip-masked : Masked m (λ k v. not v) b (bitXor b m)
-  flip-masked = record { small = xor-lt 8 b m hb hm; bits = λ k h. bitAt-xor b m k ∙ xor-cond (bitAt b k) (bitAt m k) }
 
   pub mix-masked : (f : ℕ) → f < 256 → Masked m (λ k v. bitAt f k) b (mixed m f b)
   mix-masked f hf = record {
@@ -125,7 +101,7 @@ sum-same (suc n) f g e = ap₂ (λ (t : Bool) (m : ℕ). cond t (2 ^ n) 0 + m) (
 abbrev sum-rule : ℕ → Bool
 sum-rule b = eqb b (sum 8 (bitAt b))
 
-sum-all : every 256 sum-rule ≡ true
+sum-all : allBelow 256 sum-rule ≡ true
 unfolding bitAt
 sum-all = refl
 

@@ -1,9 +1,9 @@
 -- `draw_line`: every line is horizontal, vertical, sloped or nothing; what holds of these holds of it.
 use mathlib.Core.Path.{_≡_, refl, _∙_}
 use mathlib.Core.Logic.{inl}
-use mathlib.Core.Bool.{Bool, true, false}
+use mathlib.Core.Bool.{Bool, true, false, cond}
 use mathlib.Core.List.{List}
-use Prim.Native.Nat.{ℕ, _≤_, _<_, min, max}
+use Prim.Native.Nat.{ℕ, _<_, min, max}
 use native.Mathlib.Omega.{arith}
 use lib.Dec.{ltb, eqb}
 use borrow.Author.Tests.{ltb-true, lt-ltb, le-ltb, eq-eqb, ne-eqb}
@@ -13,7 +13,7 @@ use Rattle.model.specs.Pixels.{draw, seen}
 use Rattle.model.specs.Rects.{none, fits}
 use Rattle.model.specs.Marks.{Drawing, Drawn, drawn, drawnOn, within, owes}
 use Rattle.model.specs.Lines.{isUnknown, spanRect, horizontalLine, verticalLine, sloped, slopedLine, line}
-use Rattle.laws.specs.Tests.{tests, if-cases}
+use Rattle.laws.specs.Tests.{tests, if-cases, by-lt}
 use Rattle.laws.specs.Writes.{within-none, OwesItsMark, owes-mark}
 use Rattle.laws.specs.Rects.{fits-passes}
 use Rattle.laws.specs.Points.{both}
@@ -38,15 +38,17 @@ module _ (st h x1 y1 x2 y2 : ℕ) (d : DrawMode) (s : List ℕ) where
   unfolding line
   line-vertical n p q e k l w = rw (ne-eqb y1 y2 n, ← p, q, eq-eqb x1 x2 e) (w ∙ (λ i. drawnOn st h (verticalLine x1 (k i) (l i) d) s))
 
-  pub line-leftwards : {t : Bool} {o : Drawn} → (y1 ≡ y2 → ⊥) → t ≡ isUnknown d → t ≡ false → (x1 ≡ x2 → ⊥) → x2 < x1
-      → o ≡ drawnOn st h (slopedLine x2 y2 x1 y1 d) s → o ≡ drawnOn st h (line st h x1 y1 x2 y2 d) s
+  -- from its left end on
+  pub line-slopes : {t : Bool} {a b c e : ℕ} {o : Drawn} → (y1 ≡ y2 → ⊥) → t ≡ isUnknown d → t ≡ false → (x1 ≡ x2 → ⊥)
+      → a ≡ min x1 x2 → b ≡ cond (ltb x2 x1) y2 y1 → c ≡ max x1 x2 → e ≡ cond (ltb x2 x1) y1 y2
+      → o ≡ drawnOn st h (slopedLine a b c e d) s → o ≡ drawnOn st h (line st h x1 y1 x2 y2 d) s
   unfolding line
-  line-leftwards n p q e l w = rw (ne-eqb y1 y2 n, ← p, q, ne-eqb x1 x2 e, lt-ltb x2 x1 l) w
-
-  pub line-rightwards : {t : Bool} {o : Drawn} → (y1 ≡ y2 → ⊥) → t ≡ isUnknown d → t ≡ false → (x1 ≡ x2 → ⊥) → x1 ≤ x2
-      → o ≡ drawnOn st h (slopedLine x1 y1 x2 y2 d) s → o ≡ drawnOn st h (line st h x1 y1 x2 y2 d) s
-  unfolding line
-  line-rightwards n p q e l w = rw (ne-eqb y1 y2 n, ← p, q, ne-eqb x1 x2 e, le-ltb x2 x1 l) w
+  line-slopes n p q k pa pb pc pe w =
+      rw (ne-eqb y1 y2 n, ← p, q, ne-eqb x1 x2 k)
+      (w ∙ (λ i. drawnOn st h (slopedLine (pa i) (pb i) (pc i) (pe i) d) s)
+      ∙ by-lt x2 x1
+      (λ l. let u : min x1 x2 ≡ x2 = omega arith in let v : max x1 x2 ≡ x1 = omega arith in rw (lt-ltb x2 x1 l, u, v))
+      (λ l. let u : min x1 x2 ≡ x1 = omega arith in let v : max x1 x2 ≡ x2 = omega arith in rw (le-ltb x2 x1 l, u, v)))
 
 -- ---- every line: its mark passes STATE, and no write lies outside what it owes
 

@@ -13,11 +13,10 @@ use Rattle.model.specs.declared.DrawMode.{DrawMode}
 use Rattle.model.specs.Pixels.{PixelWrite, onScreen, seen}
 use Rattle.model.specs.Rects.{none, fits, lowered}
 use Rattle.model.specs.Marks.{whole, within, owes}
-use Rattle.model.specs.Points.{pointWrite, pointRect, point}
+use Rattle.model.specs.Points.{point}
 use Rattle.model.specs.Ellipses.{Part, parts, steps, up, down, corners, chord, chords, partWrites, partsWrites, wraps, ellipseMark, ellipseDrawn, isPoint, isNothing, ellipse, radiiFit, stepsFit}
 use Rattle.laws.specs.Tests.{tests, if-cases, by-test, either, and-true, and-false, or-right, neither}
 use Rattle.laws.specs.Rects.{fits-passes}
-use Rattle.laws.specs.Marks.{in-inside}
 use Rattle.laws.specs.Pixels.{Each}
 use Rattle.laws.specs.Writes.{within-none, within-more, within-append, within-seen, OwesItsMark}
 use Rattle.laws.specs.Points.{on-true, point-within, point-fits}

@@ -7,7 +7,7 @@ use native.Mathlib.Omega.{arith}
 use Rattle.model.specs.declared.DrawMode.{DrawMode}
 use Rattle.model.specs.Pixels.{PixelWrite, draw, seen}
 use Rattle.model.specs.Ellipses.{Walk, Part, part, start, step, stepParts, ended, partsFrom, mostSteps, parts, partWrites, partsWrites}
-use Rattle.laws.specs.Tests.{clash}
+use Rattle.laws.specs.Tests.{by-test, clash}
 use Rattle.laws.specs.Writes.{drawn-append}
 use Rattle.laws.specs.Ellipses.{Radii}
 use Rattle.laws.specs.EllipseSteps.{OnWay, Next, ends, goes, next, on-start}
@@ -17,7 +17,7 @@ abbrev pub painted : ℕ → ℕ → ℕ → ℕ → Bool → DrawMode → List 
 painted st h x y fill d qs s = draw st (seen st h (partsWrites st h x y fill d qs)) s
 
 -- the steps that are left, from f of both axes
-abbrev pub stepsLeft : ℕ → Walk → ℕ
+abbrev stepsLeft : ℕ → Walk → ℕ
 stepsLeft r w = (w .x .f + 1) / 2 + (r - w .y .f / 2)
 
 left-is : (r rx ry n : ℕ) (w : Walk) → OnWay r rx ry n w → stepsLeft r w ≡ n
@@ -53,22 +53,26 @@ pub record Painting (st h x y r rx ry : ℕ) (fill : Bool) (d : DrawMode) (w : W
   pub enough : left ≤ most
   pub rest : painted st h x y fill d (partsFrom most r rx ry w) s ≡ t
 
-module _ (st h x y r rx ry : ℕ) (fill : Bool) (d : DrawMode) where
-  -- the walk begins
-  pub painting-start : Radii r rx ry → {w : Walk} (s : List ℕ) → w ≡ start r rx
-      → Painting st h x y r rx ry fill d w s (painted st h x y fill d (partsFrom mostSteps r rx ry w) s)
-  painting-start q s e =
-      rw e (record { most = mostSteps; left = r + r; way = on-start r rx ry q; enough = omega arith; rest = refl })
+-- with ps still to be drawn, which are the last where b says so
+pub record LeftToDraw (st h x y r rx ry : ℕ) (fill : Bool) (d : DrawMode) (b : Bool) (w : Walk) (ps : List Part) (s t : List ℕ) : Type 0 where
+  pub last : b ≡ true → painted st h x y fill d ps s ≡ t
+  pub more : b ≡ false → Painting st h x y r rx ry fill d w (painted st h x y fill d ps s) t
 
-  -- and with the first part before it, it is the whole
-  pub painting-whole : {w : Walk} (s e : List ℕ) → r ≡ max rx ry → w ≡ start r rx → e ≡ draw st (seen st h (partWrites st h x y fill d (part rx 0))) s
-      → painted st h x y fill d (partsFrom mostSteps r rx ry w) e ≡ painted st h x y fill d (parts rx ry) s
+-- the turns that are left then
+abbrev pub turnsLeft : ℕ → Bool → Walk → ℕ
+turnsLeft r b w = cond b 0 (suc (stepsLeft r w))
+
+module _ (st h x y r rx ry : ℕ) (fill : Bool) (d : DrawMode) where
+  -- the walk begins, with the first part still to be drawn
+  pub painting-starts : Radii r rx ry → {w : Walk} {ps : List Part} (s : List ℕ) → r ≡ max rx ry → w ≡ start r rx → ps ≡ part rx 0 ∷ []
+      → LeftToDraw st h x y r rx ry fill d false w ps s (painted st h x y fill d (parts rx ry) s)
   unfolding parts
-  painting-whole {w} s e m f k =
-      ap (painted st h x y fill d (partsFrom mostSteps r rx ry w)) (k ∙ sym (painted-one st h x y fill d (part rx 0) s))
-      ∙ sym (painted-append st h x y fill d (part rx 0 ∷ []) (partsFrom mostSteps r rx ry w) s)
-      ∙ ap (λ (v : Walk). painted st h x y fill d (part rx 0 ∷ partsFrom mostSteps r rx ry v) s) f
-      ∙ ap (λ (n : ℕ). painted st h x y fill d (part rx 0 ∷ partsFrom mostSteps n rx ry (start n rx)) s) m
+  painting-starts q {w} s m f g =
+      let e = painted st h x y fill d (part rx 0 ∷ []) s in
+      let t : painted st h x y fill d (partsFrom mostSteps r rx ry (start r rx)) e ≡ painted st h x y fill d (parts rx ry) s
+      = sym (painted-append st h x y fill d (part rx 0 ∷ []) (partsFrom mostSteps r rx ry (start r rx)) s)
+      ∙ ap (λ (n : ℕ). painted st h x y fill d (part rx 0 ∷ partsFrom mostSteps n rx ry (start n rx)) s) m in
+      record { last = λ z. clash false z refl; more = λ z. rw (f, g) (record { most = mostSteps; left = r + r; way = on-start r rx ry q; enough = omega arith; rest = t }) }
 
   -- a step's parts drawn, the rest is left
   turned-rest : (n : ℕ) (w : Walk) (s e t : List ℕ) → e ≡ painted st h x y fill d (stepParts r rx ry w) s
@@ -85,7 +89,7 @@ module _ (st h x y r rx ry : ℕ) (fill : Bool) (d : DrawMode) where
   goes-on zero m w s e t k u l f o = absurd (omega arith)
   goes-on (suc n) m w s e t k u l f o = record { most = n; left = m; way = o; enough = omega arith; rest = rw f at (turned-rest n w s e t k u) }
 
-  pub painting-turn : Radii r rx ry → (w : Walk) (s e t : List ℕ) → Painting st h x y r rx ry fill d w s t
+  painting-turn : Radii r rx ry → (w : Walk) (s e t : List ℕ) → Painting st h x y r rx ry fill d w s t
       → e ≡ painted st h x y fill d (stepParts r rx ry w) s → ended (step r rx ry w) ≡ false
       → Painting st h x y r rx ry fill d (step r rx ry w) e t × (stepsLeft r (step r rx ry w) < stepsLeft r w)
   painting-turn q w s e t k p f = go (next r rx ry (k .left) w q (k .way))
@@ -97,7 +101,7 @@ module _ (st h x y r rx ry : ℕ) (fill : Bool) (d : DrawMode) where
         omega (arith, left-is r rx ry (k .left) w (k .way), left-is r rx ry m (step r rx ry w) o),
       )
 
-  pub painting-end : (w : Walk) (s e t : List ℕ) → Painting st h x y r rx ry fill d w s t
+  painting-end : (w : Walk) (s e t : List ℕ) → Painting st h x y r rx ry fill d w s t
       → e ≡ painted st h x y fill d (stepParts r rx ry w) s → ended (step r rx ry w) ≡ true → e ≡ t
   painting-end w s e t k p f = go (k .most) (k .rest) (k .enough)
     where
@@ -105,14 +109,19 @@ module _ (st h x y r rx ry : ℕ) (fill : Bool) (d : DrawMode) where
       go zero u l = absurd (omega (arith, k .way .left))
       go (suc n) u l = sym (painted-none st h x y fill d e) ∙ (rw f at (turned-rest n w s e t p u))
 
-  -- the same of the state and the parts that the code has, after its test of the end
-  module _ (q : Radii r rx ry) {w v : Walk} {ps : List Part} {b : Bool} {s e t : List ℕ} (k : Painting st h x y r rx ry fill d w s t)
-      (f : v ≡ step r rx ry w) (g : ps ≡ stepParts r rx ry w) (p : e ≡ painted st h x y fill d ps s) (o : b ≡ ended v) where
-    painted-so : e ≡ painted st h x y fill d (stepParts r rx ry w) s
-    painted-so = p ∙ ap (λ (l : List Part). painted st h x y fill d l s) g
+  -- the same of what the code has: ps are drawn and were not the last, and a step gave v and qs
+  module _ (q : Radii r rx ry) {w v : Walk} {ps qs : List Part} {b c : Bool} {s e t : List ℕ} (k : LeftToDraw st h x y r rx ry fill d b w ps s t)
+      (p : e ≡ painted st h x y fill d ps s) (n : b ≡ false) (f : v ≡ step r rx ry w) (g : qs ≡ stepParts r rx ry w) (o : c ≡ ended v) where
+    painting-now : Painting st h x y r rx ry fill d w e t
+    painting-now = rw p (k .more n)
 
-    pub painting-next : b ≡ false → Painting st h x y r rx ry fill d v e t × (stepsLeft r v < stepsLeft r w)
-    painting-next n = rw f (painting-turn q w s e t k painted-so (sym (o ∙ ap ended f) ∙ n))
+    drawn-so : painted st h x y fill d qs e ≡ painted st h x y fill d (stepParts r rx ry w) e
+    drawn-so = ap (λ (l : List Part). painted st h x y fill d l e) g
 
-    pub painting-last : b ≡ true → e ≡ t
-    painting-last n = painting-end w s e t k painted-so (sym (o ∙ ap ended f) ∙ n)
+    pub painting-steps : LeftToDraw st h x y r rx ry fill d c v qs e t
+    painting-steps =
+        record { last = λ z. painting-end w e _ t painting-now drawn-so (sym (o ∙ ap ended f) ∙ z); more = λ z. rw f (painting-turn q w e _ t painting-now drawn-so (sym (o ∙ ap ended f) ∙ z) .0) }
+
+    pub painting-less : turnsLeft r c v < turnsLeft r b w
+    painting-less =
+        by-test c (λ z. rw (z, n) (omega arith)) (λ z. rw (z, n, f) (omega (arith, painting-turn q w e _ t painting-now drawn-so (sym (o ∙ ap ended f) ∙ z) .1)))

@@ -16,7 +16,7 @@ use Rattle.model.specs.Bits.{bitAt}
 use Rattle.model.specs.Pixels.{place, bit, put, PixelWrite, writePixel, draw, copyRun}
 use Rattle.model.specs.Bytes.{Bytes}
 use Rattle.laws.specs.Tests.{by-lt, by-eq}
-use Rattle.laws.specs.Tables.{every, every-at, every₂-at}
+use Rattle.laws.specs.Tables.{allBelow, every-at, every₂-at}
 use Rattle.laws.specs.Bytes.{same-bool, bitAt-and, Masked, bytes-set, bytes-put, screens-equal}
 use Rattle.laws.specs.Pixels.{place-line, length-put, put-same, put-other}
 
@@ -43,22 +43,22 @@ start-rule i j = Bool·beq (bitAt (255 / 2 ^ i) (7 - j)) (leb i j)
 abbrev end-rule : ℕ → ℕ → Bool
 end-rule i j = Bool·beq (bitAt (255 - 127 / 2 ^ i) (7 - j)) (leb j i)
 
-start-all : every 8 (λ i. every 8 (start-rule i)) ≡ true
+start-all : allBelow 8 (λ i. allBelow 8 (start-rule i)) ≡ true
 unfolding bitAt
 start-all = refl
 
-end-all : every 8 (λ i. every 8 (end-rule i)) ≡ true
+end-all : allBelow 8 (λ i. allBelow 8 (end-rule i)) ≡ true
 unfolding bitAt
 end-all = refl
 
 abbrev point-rule : ℕ → ℕ → Bool
 point-rule i j = Bool·beq (bitAt (128 / 2 ^ i) (7 - j)) (leb i j && leb j i)
 
-point-all : every 8 (λ i. every 8 (point-rule i)) ≡ true
+point-all : allBelow 8 (λ i. allBelow 8 (point-rule i)) ≡ true
 unfolding bitAt
 point-all = refl
 
-whole-all : every 8 (bitAt 255) ≡ true
+whole-all : allBelow 8 (bitAt 255) ≡ true
 unfolding bitAt
 whole-all = refl
 

@@ -13,7 +13,7 @@ use Rattle.model.specs.Glass.{geometry, Suits}
 use Rattle.model.specs.Memory.{zeros, withWindow}
 use Rattle.model.specs.Rects.{none}
 use Rattle.model.specs.Bytes.{rectsBytes, rectBytes, wordsBytes, fourBytes, Words}
-use Rattle.model.specs.Record.{Part, head, panel, keys, flags, offset, written, total, layout, size, pendingBytes, recordBytes, Pending, State, decode, encode, partBytes, bytesOfHead, bytesOfPending, panelOf, nothingPending}
+use Rattle.model.specs.Record.{RecordPart, head, panel, keys, flags, offset, written, total, layout, size, pendingBytes, recordBytes, Pending, State, decode, encode, partBytes, bytesOfHead, bytesOfPending, panelOf, nothingPending}
 use Rattle.model.specs.Marks.{whole, owing}
 use Rattle.model.specs.Open.{clearHead, clearFlags, openPending, openState}
 use Rattle.laws.specs.ListLaws.{getD-replicate, getD-in, map-replicate}
@@ -31,7 +31,7 @@ zeros-append zero b n e = let z : b ≡ n = omega arith in ap (λ (k : ℕ). rep
 zeros-append (suc a) b zero e = absurd (omega arith)
 zeros-append (suc a) b (suc n) e = ap (λ (l : List ℕ). 0 ∷ l) (zeros-append a b n (omega arith))
 
-written-zeros : (n : Part → ℕ) (ps : List Part) → written (λ p. zeros (n p)) ps ≡ zeros (total n ps)
+written-zeros : (n : RecordPart → ℕ) (ps : List RecordPart) → written (λ p. zeros (n p)) ps ≡ zeros (total n ps)
 unfolding written total zeros
 written-zeros n [] = refl
 written-zeros n (p ∷ ps) = ap (λ (l : List ℕ). zeros (n p) ++ l) (written-zeros n ps) ∙ zeros-append (n p) (total n ps) (n p + total n ps) refl
@@ -55,7 +55,7 @@ noHead = record { graphics = 0; text = 0; row = 0; column = 0; screen = 0; print
 abbrev noKeys : List ℕ
 noKeys = 0 ∷ 0 ∷ 0 ∷ 0 ∷ 0 ∷ 0 ∷ 0 ∷ 0 ∷ []
 
-part-zeros : (g : Geometry) (p : Part) → partBytes g (blank g noHead noKeys) p ≡ zeros (size g p)
+part-zeros : (g : Geometry) (p : RecordPart) → partBytes g (blank g noHead noKeys) p ≡ zeros (size g p)
 unfolding partBytes zeros
 part-zeros g head = refl
 part-zeros g (panel k) = ap bytesOfPending (getD-replicate (g .panels) k (nothingPending g)) ∙ pending-zeros g

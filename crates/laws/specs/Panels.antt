@@ -15,7 +15,7 @@ use Rattle.model.specs.Glass.{geometry, IsGlass, Suits}
 use Rattle.model.specs.Memory.{window, withWindow}
 use Rattle.model.specs.Bytes.{rectsAt, rectBytes, rectsBytes, fourBytes}
 use Rattle.model.specs.Flags.{flagBytes}
-use Rattle.model.specs.Record.{head, panel, flags, tag, same, offset, panelsFrom, size, at, part, recordBytes, pendingBytes, Pending, State, decode, encode, bytesOfPending, partBytes, panelOf, nothingPending, withPanel, withPanels}
+use Rattle.model.specs.Record.{head, panel, flags, tag, samePart, offset, panelsFrom, size, at, partIn, recordBytes, pendingBytes, Pending, State, decode, encode, bytesOfPending, partBytes, panelOf, nothingPending, withPanel, withPanels}
 use Rattle.model.specs.Marks.{joinOwed, owing}
 use Rattle.laws.specs.Tests.{by-eq}
 use Rattle.laws.specs.Layout.{AllShort, rects-at, rects-back, length-rects, rects-short}
@@ -33,10 +33,10 @@ offset-from g i k (suc n) l u =
     (λ e. let z : i - k ≡ 0 = omega arith in rw (eq-same e, z) (omega arith))
     (λ e. let z : i - k ≡ suc (i - suc k) = omega arith in rw (ne-same e, z) (let r = offset-from g i (suc k) n (omega arith) (omega arith) in omega arith))
   where
-    eq-same : i ≡ k → same (panel i) (panel k) ≡ true
+    eq-same : i ≡ k → samePart (panel i) (panel k) ≡ true
     eq-same e = eq-eqb (tag (panel i)) (tag (panel k)) (omega arith)
 
-    ne-same : (i ≡ k → ⊥) → same (panel i) (panel k) ≡ false
+    ne-same : (i ≡ k → ⊥) → samePart (panel i) (panel k) ≡ false
     ne-same e = ne-eqb (tag (panel i)) (tag (panel k)) (λ p. e (omega arith))
 
 -- the first right after the head
@@ -142,7 +142,7 @@ module _ (g : Geometry) (m : Rect) (l : IsGlass g) where
       ∙ marks-state (decode g r) (count-decode g r) (sized-decode g r (k .sized)) short
     where
       short : (i : ℕ) → 0 ≤ i → i < g .panels → AllShort (panelOf g (decode g r) i .owed)
-      short i o h = rw (panel-decoded g r i h) (rects-short (g .bands) (part g (panel i) r) 0 (bytes-part g (panel i) r (k .bytes)))
+      short i o h = rw (panel-decoded g r i h) (rects-short (g .bands) (partIn g (panel i) r) 0 (bytes-part g (panel i) r (k .bytes)))
 
 -- ---- the same as the code goes, with the glass by value
 

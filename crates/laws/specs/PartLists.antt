@@ -9,30 +9,30 @@ use lib.Seq.{take-at, drop-at, drop-append-add, take-append-add, drop-drop}
 use borrow.Author.Tests.{eqb-true, eq-eqb}
 use Rattle.model.specs.Memory.{window, withWindow}
 use Rattle.model.specs.Bytes.{Bytes}
-use Rattle.model.specs.Record.{Part, head, panel, keys, flags, tag, same, has, distinct, written, total, offset, all}
+use Rattle.model.specs.Record.{RecordPart, head, panel, keys, flags, tag, samePart, has, distinct, written, total, offset, all}
 use Rattle.laws.specs.Tests.{by-test, clash, and-true, or-left, or-right}
 use Rattle.laws.specs.Layout.{bytes-nil, bytes-append}
 use Rattle.laws.specs.Memory.{append-window}
 
 -- ---- parts with one number are one part
 
-untag : ℕ → Part
+untag : ℕ → RecordPart
 untag zero = head
 untag (suc zero) = keys
 untag (suc (suc zero)) = flags
 untag (suc (suc (suc k))) = panel k
 
-untag-tag : (p : Part) → untag (tag p) ≡ p
+untag-tag : (p : RecordPart) → untag (tag p) ≡ p
 unfolding untag
 untag-tag head = refl
 untag-tag keys = refl
 untag-tag flags = refl
 untag-tag (panel k) = refl
 
-pub same-part : (p q : Part) → same p q ≡ true → p ≡ q
+pub same-part : (p q : RecordPart) → samePart p q ≡ true → p ≡ q
 same-part p q e = sym (untag-tag p) ∙ ap untag (eqb-true (tag p) (tag q) e) ∙ untag-tag q
 
-pub same-self : (p : Part) → same p p ≡ true
+pub same-self : (p : RecordPart) → samePart p p ≡ true
 same-self p = eq-eqb (tag p) (tag p) refl
 
 -- ---- membership
@@ -42,40 +42,40 @@ not-true true e = sym e
 not-true false e = refl
 
 -- a part of what follows is not the first
-pub other : (p q : Part) (ps : List Part) → has p ps ≡ false → has q ps ≡ true → same q p ≡ false
+pub other : (p q : RecordPart) (ps : List RecordPart) → has p ps ≡ false → has q ps ≡ true → samePart q p ≡ false
 other p q ps n h =
-    by-test (same q p)
-    (λ e. clash (has p ps) (ap (λ (x : Part). has x ps) (sym (same-part q p e)) ∙ h) n)
+    by-test (samePart q p)
+    (λ e. clash (has p ps) (ap (λ (x : RecordPart). has x ps) (sym (same-part q p e)) ∙ h) n)
     (λ e. e)
 
 -- ---- what the parts give is the same where they are
 
-pub written-same : (f f′ : Part → List ℕ) (ps : List Part) → ((p : Part) → has p ps ≡ true → f p ≡ f′ p) → written f ps ≡ written f′ ps
+pub written-same : (f f′ : RecordPart → List ℕ) (ps : List RecordPart) → ((p : RecordPart) → has p ps ≡ true → f p ≡ f′ p) → written f ps ≡ written f′ ps
 unfolding written has
 written-same f f′ [] e = refl
 written-same f f′ (p ∷ ps) e =
-    λ i. e p (or-left (has p ps) (same-self p)) i ++ written-same f f′ ps (λ q h. e q (or-right (same q p) h)) i
+    λ i. e p (or-left (has p ps) (same-self p)) i ++ written-same f f′ ps (λ q h. e q (or-right (samePart q p) h)) i
 
-pub all-at : (t : Part → Bool) (ps : List Part) (p : Part) → all t ps ≡ true → has p ps ≡ true → t p ≡ true
+pub all-at : (t : RecordPart → Bool) (ps : List RecordPart) (p : RecordPart) → all t ps ≡ true → has p ps ≡ true → t p ≡ true
 unfolding all has
 all-at t [] p e h = clash false h refl
 all-at t (q ∷ ps) p e h =
     let k = and-true (t q) (all t ps) e in
-    by-test (same p q)
+    by-test (samePart p q)
     (λ s. ap t (same-part p q s) ∙ k .0)
     (λ s. all-at t ps p (k .1) (rw s at h))
 
-pub all-of : (t : Part → Bool) (ps : List Part) → ((p : Part) → has p ps ≡ true → t p ≡ true) → all t ps ≡ true
+pub all-of : (t : RecordPart → Bool) (ps : List RecordPart) → ((p : RecordPart) → has p ps ≡ true → t p ≡ true) → all t ps ≡ true
 unfolding all has
 all-of t [] f = refl
-all-of t (p ∷ ps) f = λ i. f p (or-left (has p ps) (same-self p)) i && all-of t ps (λ q h. f q (or-right (same q p) h)) i
+all-of t (p ∷ ps) f = λ i. f p (or-left (has p ps) (same-self p)) i && all-of t ps (λ q h. f q (or-right (samePart q p) h)) i
 
-pub length-written : (n : Part → ℕ) (f : Part → List ℕ) (ps : List Part) → ((p : Part) → length (f p) ≡ n p) → length (written f ps) ≡ total n ps
+pub length-written : (n : RecordPart → ℕ) (f : RecordPart → List ℕ) (ps : List RecordPart) → ((p : RecordPart) → length (f p) ≡ n p) → length (written f ps) ≡ total n ps
 unfolding written total
 length-written n f [] e = refl
 length-written n f (p ∷ ps) e = omega (arith, length-append (f p) (written f ps), e p, length-written n f ps e)
 
-pub bytes-written : (f : Part → List ℕ) (ps : List Part) → ((p : Part) → Bytes (f p)) → Bytes (written f ps)
+pub bytes-written : (f : RecordPart → List ℕ) (ps : List RecordPart) → ((p : RecordPart) → Bytes (f p)) → Bytes (written f ps)
 unfolding written
 bytes-written f [] b = bytes-nil
 bytes-written f (p ∷ ps) b = bytes-append (f p) (written f ps) (b p) (bytes-written f ps b)
@@ -106,44 +106,44 @@ put-next n i a b l e =
     s : length a + i + length b ≡ length a + (i + length b)
     s = omega arith
 
-module _ (n : Part → ℕ) where
+module _ (n : RecordPart → ℕ) where
   -- the bytes of a part stand at its offset
-  pub part-written : (f : Part → List ℕ) (q : Part) (ps : List Part) → ((p : Part) → length (f p) ≡ n p) → has q ps ≡ true
+  pub part-written : (f : RecordPart → List ℕ) (q : RecordPart) (ps : List RecordPart) → ((p : RecordPart) → length (f p) ≡ n p) → has q ps ≡ true
       → window (offset n q ps) (n q) (written f ps) ≡ f q
   unfolding written has offset
   part-written f q [] s h = clash false h refl
   part-written f q (p ∷ ps) s h =
-      by-test (same q p)
-      (λ e. rw e (ap (λ (x : Part). window 0 (n x) (f p ++ written f ps)) (same-part q p e) ∙ window-first (n p) (f p) (written f ps) (s p) ∙ ap f (sym (same-part q p e))))
+      by-test (samePart q p)
+      (λ e. rw e (ap (λ (x : RecordPart). window 0 (n x) (f p ++ written f ps)) (same-part q p e) ∙ window-first (n p) (f p) (written f ps) (s p) ∙ ap f (sym (same-part q p e))))
       (λ e. rw e (window-next (n p) (offset n q ps) (n q) (f p) (written f ps) (s p) ∙ part-written f q ps s (rw e at h)))
 
   -- a store of the bytes of one part leaves the others
-  pub part-stored : (f f′ : Part → List ℕ) (q : Part) (ps : List Part) → ((p : Part) → length (f p) ≡ n p) → length (f′ q) ≡ n q
-      → ((p : Part) → same q p ≡ false → f p ≡ f′ p) → has q ps ≡ true → distinct ps ≡ true
+  pub part-stored : (f f′ : RecordPart → List ℕ) (q : RecordPart) (ps : List RecordPart) → ((p : RecordPart) → length (f p) ≡ n p) → length (f′ q) ≡ n q
+      → ((p : RecordPart) → samePart q p ≡ false → f p ≡ f′ p) → has q ps ≡ true → distinct ps ≡ true
       → withWindow (offset n q ps) (f′ q) (written f ps) ≡ written f′ ps
   unfolding written has offset distinct
   part-stored f f′ q [] s l k h d = clash false h refl
   part-stored f f′ q (p ∷ ps) s l k h d =
       let a = and-true (not (has p ps)) (distinct ps) d in
       let rest = written f ps in
-      by-test (same q p)
+      by-test (samePart q p)
       (λ e. rw e (
-      ap (λ (x : Part). withWindow 0 (f′ x) (f p ++ rest)) (same-part q p e)
+      ap (λ (x : RecordPart). withWindow 0 (f′ x) (f p ++ rest)) (same-part q p e)
       ∙ append-window [] (f′ p) (f p ++ rest) 0 refl
-      ∙ ap (λ (x : List ℕ). f′ p ++ x) (drop-at (f p) rest (length (f′ p)) (s p ∙ sym (ap (λ (x : Part). n x) (same-part q p e)) ∙ sym l ∙ ap (λ (x : Part). length (f′ x)) (same-part q p e)))
+      ∙ ap (λ (x : List ℕ). f′ p ++ x) (drop-at (f p) rest (length (f′ p)) (s p ∙ sym (ap (λ (x : RecordPart). n x) (same-part q p e)) ∙ sym l ∙ ap (λ (x : RecordPart). length (f′ x)) (same-part q p e)))
       ∙ ap (λ (x : List ℕ). f′ p ++ x) (written-same f f′ ps (λ x m. k x (differs x p q ps e (not-true (has p ps) (a .0)) m)))))
       (λ e. rw e (
       put-next (n p) (offset n q ps) (f p) (f′ q) rest (s p)
       ∙ (λ i. k p e i ++ part-stored f f′ q ps s l k (rw e at h) (a .1) i)))
     where
-      differs : (x p q : Part) (ps : List Part) → same q p ≡ true → has p ps ≡ false → has x ps ≡ true → same q x ≡ false
+      differs : (x p q : RecordPart) (ps : List RecordPart) → samePart q p ≡ true → has p ps ≡ false → has x ps ≡ true → samePart q x ≡ false
       differs x p q ps e m h =
-          by-test (same q x)
-          (λ t. clash (has p ps) (ap (λ (y : Part). has y ps) (sym (same-part q p e) ∙ same-part q x t) ∙ h) m)
+          by-test (samePart q x)
+          (λ t. clash (has p ps) (ap (λ (y : RecordPart). has y ps) (sym (same-part q p e) ∙ same-part q x t) ∙ h) m)
           (λ t. t)
 
   -- a record is its parts, one after another
-  pub parts-written : (r : List ℕ) (ps : List Part) → distinct ps ≡ true → length r ≡ total n ps
+  pub parts-written : (r : List ℕ) (ps : List RecordPart) → distinct ps ≡ true → length r ≡ total n ps
       → written (λ p. window (offset n p ps) (n p) r) ps ≡ r
   unfolding written offset distinct total window
   parts-written [] [] d l = refl

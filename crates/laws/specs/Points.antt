@@ -22,7 +22,7 @@ use Rattle.model.specs.Marks.{drawn, drawnOn, within, owes}
 use Rattle.model.specs.Points.{pointOp, pixelRect, pointWrite, pointRect, point, isSet}
 use Rattle.laws.specs.Tests.{if-cases, by-test, by-lt, and-true}
 use Rattle.laws.specs.Pixels.{place-lt}
-use Rattle.laws.specs.Tables.{every, every-at, or-is, and-is, flip-is, see-is}
+use Rattle.laws.specs.Tables.{allBelow, every-at, or-is, and-is, flip-is, see-is}
 use Rattle.laws.specs.Rects.{fits-passes}
 use Rattle.laws.specs.Marks.{in-inside}
 use Rattle.laws.specs.Writes.{OwesItsMark}
@@ -73,7 +73,7 @@ masks = 128 ∷ 64 ∷ 32 ∷ 16 ∷ 8 ∷ 4 ∷ 2 ∷ 1 ∷ []
 abbrev mask-rule : ℕ → Bool
 mask-rule k = eqb (getD masks k 0) (128 / 2 ^ k)
 
-mask-all : every 8 mask-rule ≡ true
+mask-all : allBelow 8 mask-rule ≡ true
 mask-all = refl
 
 pub mask-at : (x : ℕ) → getD masks (x % 8) 0 ≡ maskOf x

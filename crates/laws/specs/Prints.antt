@@ -53,10 +53,10 @@ module _ (rows columns : ℕ) (v : Bool) where
 -- ---- the clearing
 
 -- the cell is there and not 0
-abbrev pub isSet : List ℕ → ℕ → Bool
-isSet t i = not (eqb (getD t i 0) 0)
+abbrev pub cellWritten : List ℕ → ℕ → Bool
+cellWritten t i = not (eqb (getD t i 0) 0)
 
-pub set-in : (t : List ℕ) (i : ℕ) {b : Bool} → b ≡ isSet t i → b ≡ true → i < length t
+pub set-in : (t : List ℕ) (i : ℕ) {b : Bool} → b ≡ cellWritten t i → b ≡ true → i < length t
 set-in t i e f =
     by-lt i (length t) (λ l. l)
     (λ l. absurd (eqb-false (getD t i 0) 0 (not-true (eqb (getD t i 0) 0) (sym e ∙ f)) (List·getD-eq-default t 0 {n = i} l)))
@@ -65,14 +65,14 @@ pub until-start : (at : ℕ) (t : List ℕ) → clearUntil (length t - (at + 1))
 unfolding clearFrom
 until-start at t = ap (λ (k : ℕ). clearUntil (length t - k) k (set t at 0)) (add-one at)
 
-pub until-turn : (n i : ℕ) (t : List ℕ) {b : Bool} → i < n → b ≡ isSet t i → b ≡ true → clearUntil (n - (i + 1)) (i + 1) (set t i 0) ≡ clearUntil (n - i) i t
+pub until-turn : (n i : ℕ) (t : List ℕ) {b : Bool} → i < n → b ≡ cellWritten t i → b ≡ true → clearUntil (n - (i + 1)) (i + 1) (set t i 0) ≡ clearUntil (n - i) i t
 unfolding clearUntil
 until-turn n i t h e f =
     let k : n - i ≡ suc (n - (i + 1)) = omega arith in
     ap (λ (j : ℕ). clearUntil (n - (i + 1)) j (set t i 0)) (add-one i)
     ∙ sym (ap (λ (j : ℕ). clearUntil j i t) k ∙ rw (not-true (eqb (getD t i 0) 0) (sym e ∙ f)))
 
-pub until-end : (n i : ℕ) (t : List ℕ) {b : Bool} → b ≡ isSet t i → b ≡ false → clearUntil n i t ≡ t
+pub until-end : (n i : ℕ) (t : List ℕ) {b : Bool} → b ≡ cellWritten t i → b ≡ false → clearUntil n i t ≡ t
 unfolding clearUntil
 until-end zero i t e f = refl
 until-end (suc n) i t e f = rw (not-false (eqb (getD t i 0) 0) (sym e ∙ f))

@@ -16,7 +16,7 @@ use Rattle.model.specs.Memory.{window, withWindow}
 use Rattle.model.specs.Rects.{none, fits}
 use Rattle.model.specs.Bytes.{four, rectAt, rectsAt, wordsAt, rectBytes, rectsBytes, wordsBytes, fourBytes, Bytes, Words}
 use Rattle.model.specs.Flags.{flagsIn, bytesOfFlags}
-use Rattle.model.specs.Record.{Part, head, panel, keys, flags, tag, same, has, written, total, offset, panelsFrom, layout, size, at, part, recordBytes, pendingBytes, Pending, State, decode, encode, listing, headOf, pendingOf, bytesOfHead, bytesOfPending, partBytes, panelOf, nothingPending, bandsFit, windows, windowTests, headTests, headFits, pendingFits, partFits, valid, withHead, withPanel, withKeyWords, withFlags, WellPending, WellFormed}
+use Rattle.model.specs.Record.{RecordPart, head, panel, keys, flags, tag, samePart, has, written, total, offset, panelsFrom, layout, size, at, partIn, recordBytes, pendingBytes, Pending, State, decode, encode, listing, headOf, pendingOf, bytesOfHead, bytesOfPending, partBytes, panelOf, nothingPending, bandsFit, windows, windowTests, headTests, headFits, pendingFits, partFits, valid, withHead, withPanel, withKeyWords, withFlags, WellPending, WellFormed}
 use Rattle.model.specs.Glass.{IsGlass}
 use Rattle.laws.specs.Tests.{tests, by-test, by-lt, by-eq, clash, and-true, all-true, either, or-right}
 use Rattle.laws.specs.Rects.{passes-fits}
@@ -28,27 +28,27 @@ use Rattle.laws.specs.Layout.{Short, AllShort, bytes-drop, bytes-take, f
 
 -- ---- which parts there are
 
-has-right : (q : Part) (ps qs : List Part) → has q qs ≡ true → has q (ps ++ qs) ≡ true
+has-right : (q : RecordPart) (ps qs : List RecordPart) → has q qs ≡ true → has q (ps ++ qs) ≡ true
 unfolding has
 has-right q [] qs h = h
-has-right q (p ∷ ps) qs h = or-right (same q p) (has-right q ps qs h)
+has-right q (p ∷ ps) qs h = or-right (samePart q p) (has-right q ps qs h)
 
 has-from : (i k n : ℕ) → k ≤ i → i < k + n → has (panel i) (panelsFrom k n) ≡ true
 unfolding has
 has-from i k zero l u = absurd (omega arith)
 has-from i k (suc n) l u =
-    by-test (same (panel i) (panel k))
+    by-test (samePart (panel i) (panel k))
     (λ e. rw e)
-    (λ e. or-right (same (panel i) (panel k)) (has-from i (suc k) n (next e) (omega arith)))
+    (λ e. or-right (samePart (panel i) (panel k)) (has-from i (suc k) n (next e) (omega arith)))
   where
-    next : same (panel i) (panel k) ≡ false → suc k ≤ i
+    next : samePart (panel i) (panel k) ≡ false → suc k ≤ i
     next e = omega (arith, tests)
 
 from-has : (i k n : ℕ) → has (panel i) (panelsFrom k n) ≡ true → i < k + n
 unfolding has
 from-has i k zero h = clash false h refl
 from-has i k (suc n) h =
-    by-test (same (panel i) (panel k))
+    by-test (samePart (panel i) (panel k))
     (λ e. omega (arith, tests))
     (λ e. let r = from-has i (suc k) n (rw e at h) in omega arith)
 
@@ -81,22 +81,22 @@ module _ (g : Geometry) where
 
 -- ---- the bytes of a part in a record
 
-offset-fits : (n : Part → ℕ) (q : Part) (ps : List Part) → has q ps ≡ true → offset n q ps + n q ≤ total n ps
+offset-fits : (n : RecordPart → ℕ) (q : RecordPart) (ps : List RecordPart) → has q ps ≡ true → offset n q ps + n q ≤ total n ps
 unfolding has offset total
 offset-fits n q [] h = clash false h refl
 offset-fits n q (p ∷ ps) h =
-    by-test (same q p)
+    by-test (samePart q p)
     (λ e. rw e (let s = ap n (same-part q p e) in omega arith))
     (λ e. rw e (let r = offset-fits n q ps (rw e at h) in omega arith))
 
 -- a part ends within its record
-pub part-in : (g : Geometry) (q : Part) → has q (layout g) ≡ true → at g q + size g q ≤ recordBytes g
+pub part-in : (g : Geometry) (q : RecordPart) → has q (layout g) ≡ true → at g q + size g q ≤ recordBytes g
 part-in g q h = offset-fits (size g) q (layout g) h
 
-pub length-part : (g : Geometry) (q : Part) (r : List ℕ) → has q (layout g) ≡ true → length r ≡ recordBytes g → length (part g q r) ≡ size g q
+pub length-part : (g : Geometry) (q : RecordPart) (r : List ℕ) → has q (layout g) ≡ true → length r ≡ recordBytes g → length (partIn g q r) ≡ size g q
 length-part g q r h l = length-window (at g q) (size g q) r (rw l (part-in g q h))
 
-pub bytes-part : (g : Geometry) (q : Part) (r : List ℕ) → Bytes r → Bytes (part g q r)
+pub bytes-part : (g : Geometry) (q : RecordPart) (r : List ℕ) → Bytes r → Bytes (partIn g q r)
 unfolding window
 bytes-part g q r b = bytes-take (size g q) (drop (at g q) r) (bytes-drop (at g q) r b)
 
@@ -161,28 +161,28 @@ pub record Passing (g : Geometry) (r : List ℕ) : Type 0 where
   pub bytes : Bytes r
   pub passes : valid g r ≡ true
 
-pub panel-decoded : (g : Geometry) (r : List ℕ) (i : ℕ) → i < g .panels → panelOf g (decode g r) i ≡ pendingOf g (part g (panel i) r) 0
+pub panel-decoded : (g : Geometry) (r : List ℕ) (i : ℕ) → i < g .panels → panelOf g (decode g r) i ≡ pendingOf g (partIn g (panel i) r) 0
 unfolding decode
-panel-decoded g r i h = getD-listing (λ j. pendingOf g (part g (panel j) r) 0) 0 (g .panels) i (nothingPending g) h ∙ ap (λ (j : ℕ). pendingOf g (part g (panel j) r) 0) (zero-add i)
+panel-decoded g r i h = getD-listing (λ j. pendingOf g (partIn g (panel j) r) 0) 0 (g .panels) i (nothingPending g) h ∙ ap (λ (j : ℕ). pendingOf g (partIn g (panel j) r) 0) (zero-add i)
 
 module _ (g : Geometry) (r : List ℕ) (k : Passing g r) where
-  pub part-passes : (p : Part) → has p (layout g) ≡ true → partFits g p (part g p r) ≡ true
+  pub part-passes : (p : RecordPart) → has p (layout g) ≡ true → partFits g p (partIn g p r) ≡ true
   unfolding valid
-  part-passes p h = all-at (λ q. partFits g q (part g q r)) (layout g) p (k .passes) h
+  part-passes p h = all-at (λ q. partFits g q (partIn g q r)) (layout g) p (k .passes) h
 
   -- what is read of a part is written as its bytes
-  pub part-again : (p : Part) → has p (layout g) ≡ true → partBytes g (decode g r) p ≡ part g p r
+  pub part-again : (p : RecordPart) → has p (layout g) ≡ true → partBytes g (decode g r) p ≡ partIn g p r
   unfolding partBytes decode partFits
-  part-again head h = head-again (part g head r) (bytes-part g head r (k .bytes)) (length-part g head r h (k .sized))
+  part-again head h = head-again (partIn g head r) (bytes-part g head r (k .bytes)) (length-part g head r h (k .sized))
   part-again (panel i) h =
       ap bytesOfPending (panel-decoded g r i (panel-has g i (k .glass .one) h))
-      ∙ pending-whole g (part g (panel i) r) (bytes-part g (panel i) r (k .bytes)) (length-part g (panel i) r h (k .sized))
-  part-again keys h = words-whole 8 (part g keys r) (bytes-part g keys r (k .bytes)) (length-part g keys r h (k .sized))
-  part-again flags h = flags-read (cells g) (part g flags r) (length-part g flags r h (k .sized)) (part-passes flags h)
+      ∙ pending-whole g (partIn g (panel i) r) (bytes-part g (panel i) r (k .bytes)) (length-part g (panel i) r h (k .sized))
+  part-again keys h = words-whole 8 (partIn g keys r) (bytes-part g keys r (k .bytes)) (length-part g keys r h (k .sized))
+  part-again flags h = flags-read (cells g) (partIn g flags r) (length-part g flags r h (k .sized)) (part-passes flags h)
 
   pub encode-decode : encode g (decode g r) ≡ r
   unfolding encode
-  encode-decode = written-same (partBytes g (decode g r)) (λ p. part g p r) (layout g) part-again ∙ parts-written (size g) r (layout g) (k .glass .apart) (k .sized)
+  encode-decode = written-same (partBytes g (decode g r)) (λ p. partIn g p r) (layout g) part-again ∙ parts-written (size g) r (layout g) (k .glass .apart) (k .sized)
 
 -- ---- encode, then decode
 
@@ -196,7 +196,7 @@ pub length-pending : (g : Geometry) (p : Pending) → length (p .owed) ≡ g .ba
 length-pending g p e =
     omega (arith, length-append (rectsBytes (p .owed)) (rectBytes (p .hand) ++ fourBytes (p .sent)), length-rects (p .owed), ap (λ (n : ℕ). 8 * n) e)
 
-pub sizes : (g : Geometry) (s : State) → Sized g s → (p : Part) → length (partBytes g s p) ≡ size g p
+pub sizes : (g : Geometry) (s : State) → Sized g s → (p : RecordPart) → length (partBytes g s p) ≡ size g p
 unfolding partBytes
 sizes g s z head = refl
 sizes g s z (panel k) = length-pending g (panelOf g s k) (z .owed k)
@@ -205,10 +205,10 @@ sizes g s z flags = length-flags (s .flags) ∙ z .flags
 
 pub count-decode : (g : Geometry) (r : List ℕ) → length (decode g r .panels) ≡ g .panels
 unfolding decode
-count-decode g r = length-listing (λ k. pendingOf g (part g (panel k) r) 0) 0 (g .panels)
+count-decode g r = length-listing (λ k. pendingOf g (partIn g (panel k) r) 0) 0 (g .panels)
 
 -- the bytes of a part of an encoded state
-pub part-encode : (g : Geometry) (s : State) → Sized g s → (p : Part) → has p (layout g) ≡ true → part g p (encode g s) ≡ partBytes g s p
+pub part-encode : (g : Geometry) (s : State) → Sized g s → (p : RecordPart) → has p (layout g) ≡ true → partIn g p (encode g s) ≡ partBytes g s p
 unfolding encode
 part-encode g s z p h = part-written (size g) (partBytes g s) p (layout g) (sizes g s z) h
 
@@ -223,9 +223,9 @@ all-owed g s n e k =
 pub sized-decode : (g : Geometry) (r : List ℕ) → length r ≡ recordBytes g → Sized g (decode g r)
 unfolding decode
 sized-decode g r l = record {
-  owed = all-owed g (decode g r) (count-decode g r) (λ k h. ap (λ (p : Pending). length (p .owed)) (panel-decoded g r k h) ∙ length-rectsAt (g .bands) (part g (panel k) r) 0);
+  owed = all-owed g (decode g r) (count-decode g r) (λ k h. ap (λ (p : Pending). length (p .owed)) (panel-decoded g r k h) ∙ length-rectsAt (g .bands) (partIn g (panel k) r) 0);
   keys = refl;
-  flags = length-flagsIn (cells g) (part g flags r) (length-part g flags r (has-flags g) l);
+  flags = length-flagsIn (cells g) (partIn g flags r) (length-part g flags r (has-flags g) l);
 }
 
 pub well-sized : (g : Geometry) (s : State) → WellFormed g s → Sized g s
@@ -258,7 +258,7 @@ bands-short w band lo (q ∷ qs) hw h e =
     let p = and-true (fits w lo (lo + band) q) (bandsFit w band (lo + band) qs) e in
     (fits-short w lo (lo + band) q hw (omega arith) (p .0), bands-short w band (lo + band) qs hw (omega arith) (p .1))
 
--- what a head that passes tells of its numbers
+-- what a head that passes tells of its head-tells
 pub record Numbers (g : Geometry) (h : Head) : Type 0 where
   pub graphics : h .graphics ≤ 65535 - screenBytes g
   pub text : h .text ≤ 65535 - cells g
@@ -270,9 +270,9 @@ pub record Numbers (g : Geometry) (h : Head) : Type 0 where
   pub version : h .version ≤ 1
   pub dirty : fits 256 0 256 (h .dirty) ≡ true
 
-pub numbers : (g : Geometry) (h : Head) → headFits g h ≡ true → Numbers g h
+pub head-tells : (g : Geometry) (h : Head) → headFits g h ≡ true → Numbers g h
 unfolding headFits windows
-numbers g h e =
+head-tells g h e =
     let t = all-true (headTests g h) e in
     let w = all-true (windowTests g (h .graphics) (h .text)) (t .0) in
     record {
@@ -305,7 +305,7 @@ head-equal e1 e2 e3 e4 e5 e6 e7 e8 e9 = λ i. record {
 
 pub head-back : (g : Geometry) (h : Head) → headFits g h ≡ true → headOf (bytesOfHead h) ≡ h
 head-back g h e =
-    let n = numbers g h e in
+    let n = head-tells g h e in
     head-equal (two-back (h .graphics) (omega (arith, n))) (two-back (h .text) (omega (arith, n))) refl refl refl refl refl refl
     (rect-back (h .dirty) [] (fits-short 256 0 256 (h .dirty) (omega arith) (omega arith) (n .dirty)))
 
@@ -351,7 +351,7 @@ decode-encode g s k f =
     let b = part-encode g s z in
     λ i. record {
       head = (ap headOf (b head (has-head g)) ∙ head-back g (s .head) (f .head)) i;
-      panels = listing-is (λ j. pendingOf g (part g (panel j) (encode g s)) 0) (g .panels) (s .panels) (nothingPending g) (f .count)
+      panels = listing-is (λ j. pendingOf g (partIn g (panel j) (encode g s)) 0) (g .panels) (s .panels) (nothingPending g) (f .count)
           (λ j h. ap (λ (c : List ℕ). pendingOf g c 0) (b (panel j) (has-panel g j h)) ∙ pending-back g (panelOf g s j) k (f .panels j h)) i;
       keys = keys-back g s z (f .keys) i;
       flags = (ap (flagsIn (cells g)) (b flags (has-flags g)) ∙ flags-written (cells g) (s .flags) (f .flags)) i;
@@ -360,10 +360,10 @@ decode-encode g s k f =
 -- ---- a store of one part: the bytes of the state with that part changed, and no other
 
 -- t is s but for the part q
-abbrev pub But : Geometry → Part → State → State → Type 0
-But g q s t = (p : Part) → same q p ≡ false → partBytes g s p ≡ partBytes g t p
+abbrev pub But : Geometry → RecordPart → State → State → Type 0
+But g q s t = (p : RecordPart) → samePart q p ≡ false → partBytes g s p ≡ partBytes g t p
 
-pub put-part : (g : Geometry) (q : Part) (s t : State) → IsGlass g → has q (layout g) ≡ true → Sized g s → length (partBytes g t q) ≡ size g q → But g q s t
+pub put-part : (g : Geometry) (q : RecordPart) (s t : State) → IsGlass g → has q (layout g) ≡ true → Sized g s → length (partBytes g t q) ≡ size g q → But g q s t
     → withWindow (at g q) (partBytes g t q) (encode g s) ≡ encode g t
 unfolding encode
 put-part g q s t l h z n k = part-stored (size g) (partBytes g s) (partBytes g t) q (layout g) (sizes g s z) n k h (l .apart)

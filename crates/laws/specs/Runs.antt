@@ -6,7 +6,7 @@ use Prim.Native.Nat.{ℕ, zero, suc, _+_, _-_, _*_, _/_, _≤_, _<_}
 use native.Mathlib.Nat.{mul-le-mul-left}
 use native.Mathlib.Omega.{arith}
 use lib.Bits.{bitAnd, bitXor, and-lt, xor-lt}
-use lib.ListN.{length, getD, set, length-set}
+use lib.ListN.{length, getD, set}
 use Rattle.model.specs.Bits.{bitAt}
 use Rattle.model.specs.declared.DrawMode.{DrawMode}
 use Rattle.model.specs.declared.DrawMode.the-variants.{Clear, Or, Xor, Unknown}
@@ -15,7 +15,7 @@ use Rattle.model.specs.Bytes.{Bytes}
 use Rattle.model.specs.Points.{pointOp, pointWrite}
 use Rattle.model.specs.Lines.{isUnknown, runOp, pixelRun}
 use Rattle.laws.specs.Tests.{clash, by-lt}
-use Rattle.laws.specs.Tables.{every, every-at}
+use Rattle.laws.specs.Tables.{allBelow, every-at}
 use Rattle.laws.specs.Bytes.{Masked, same-bool, bitAt-and, bitAt-xor, bitAt-not, bytes-set}
 use Rattle.laws.specs.Masks.{Mask, startMask, endMask, start-mask, end-mask, both-masks, whole-mask, point-mask, run-equal, run-masked, run-draw}
 use Rattle.laws.specs.Writes.{draw-append, drawn-append, screen-draw}
@@ -46,7 +46,7 @@ allOrNone false = 0
 unfoldable pub maskByte : DrawMode → ℕ → ℕ → ℕ
 maskByte d b m = bitXor (bitAnd b (255 - bitAnd m (allOrNone (clears d)))) (bitAnd m (allOrNone (flips d)))
 
-alike : (t : Bool) → every 8 (λ k. Bool·beq (bitAt (allOrNone t) k) t) ≡ true
+alike : (t : Bool) → allBelow 8 (λ k. Bool·beq (bitAt (allOrNone t) k) t) ≡ true
 unfolding bitAt
 alike true = refl
 alike false = refl
@@ -193,10 +193,6 @@ bytes-append i (suc n) m d s =
     let e : suc n + m ≡ suc (n + m) = omega arith in
     let f : i + suc n ≡ suc i + n = omega arith in
     rw (e, f) (bytes-append (suc i) n m d (masked s i 255 d))
-
-pub length-masked : (s : List ℕ) (i m : ℕ) (d : DrawMode) → length (masked s i m d) ≡ length s
-unfolding masked
-length-masked s i m d = length-set s i _
 
 bytes-masked : (s : List ℕ) (i m : ℕ) (d : DrawMode) → Bytes s → m < 256 → Bytes (masked s i m d)
 unfolding masked Bytes

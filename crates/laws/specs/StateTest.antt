@@ -16,7 +16,7 @@ use Rattle.model.specs.Memory.{window}
 use Rattle.model.specs.Rects.{fits}
 use Rattle.model.specs.Bytes.{rectAt, rectsAt}
 use Rattle.model.specs.Flags.{flagBytes, flagsFit}
-use Rattle.model.specs.Record.{Part, head, panel, keys, flags, recordBytes, same, has, all, layout, at, part, headOf, pendingOf, windows, headFits, bandsFit, pendingFits, partFits, valid}
+use Rattle.model.specs.Record.{RecordPart, head, panel, keys, flags, recordBytes, samePart, has, all, layout, at, partIn, headOf, pendingOf, windows, headFits, bandsFit, pendingFits, partFits, valid}
 use Rattle.laws.specs.Tests.{by-eq, and-true}
 use Rattle.laws.specs.PartLists.{all-of, all-at}
 use Rattle.laws.specs.Record.{has-head, has-panel, panel-has, has-flags, part-in, length-part}
@@ -59,12 +59,12 @@ each-panels g r k (suc n) f =
 -- ---- the whole
 
 pub valid-is : (g : Geometry) (r : List ℕ) {a b c : Bool} → IsGlass g → a ≡ headFits g (headOf r) → b ≡ panelsFit g r 0 (g .panels)
-    → c ≡ flagsFit (cells g) (part g flags r) → ((a && b) && c) ≡ valid g r
+    → c ≡ flagsFit (cells g) (partIn g flags r) → ((a && b) && c) ≡ valid g r
 unfolding valid partFits
 valid-is g r {a} {b} {c} l fa fb fc = same-truth ((a && b) && c) (valid g r) there back
   where
-    there : ((a && b) && c) ≡ true → all (λ p. partFits g p (part g p r)) (layout g) ≡ true
-    there h = all-of (λ p. partFits g p (part g p r)) (layout g) each
+    there : ((a && b) && c) ≡ true → all (λ p. partFits g p (partIn g p r)) (layout g) ≡ true
+    there h = all-of (λ p. partFits g p (partIn g p r)) (layout g) each
       where
         two : ((a && b) ≡ true) × (c ≡ true)
         two = and-true (a && b) c h
@@ -72,21 +72,21 @@ valid-is g r {a} {b} {c} l fa fb fc = same-truth ((a && b) && c) (valid g r) the
         one : (a ≡ true) × (b ≡ true)
         one = and-true a b (two .0)
 
-        each : (p : Part) → has p (layout g) ≡ true → partFits g p (part g p r) ≡ true
+        each : (p : RecordPart) → has p (layout g) ≡ true → partFits g p (partIn g p r) ≡ true
         each head m = ap (headFits g) (head-part g r) ∙ sym fa ∙ one .0
         each (panel k) m = ap (pendingFits g) (pending-part g r k) ∙ panels-each g r 0 (g .panels) k (sym fb ∙ one .1) (omega arith) (let u = panel-has g k (l .one) m in omega arith)
         each keys m = refl
         each flags m = sym fc ∙ two .1
 
-    back : all (λ p. partFits g p (part g p r)) (layout g) ≡ true → ((a && b) && c) ≡ true
+    back : all (λ p. partFits g p (partIn g p r)) (layout g) ≡ true → ((a && b) && c) ≡ true
     back h =
         and-yes _ c (and-yes a b
         (fa ∙ ap (headFits g) (sym (head-part g r)) ∙ at-part head (has-head g))
         (fb ∙ each-panels g r 0 (g .panels) (λ i o u. ap (pendingFits g) (sym (pending-part g r i)) ∙ at-part (panel i) (has-panel g i (omega arith)))))
         (fc ∙ at-part flags (has-flags g))
       where
-        at-part : (p : Part) → has p (layout g) ≡ true → partFits g p (part g p r) ≡ true
-        at-part p m = all-at (λ q. partFits g q (part g q r)) (layout g) p h m
+        at-part : (p : RecordPart) → has p (layout g) ≡ true → partFits g p (partIn g p r) ≡ true
+        at-part p m = all-at (λ q. partFits g q (partIn g q r)) (layout g) p h m
 
 -- ---- as the code goes, with the glass by value
 
@@ -149,7 +149,7 @@ pub flags-room : (v : Glass) → Suits v → (v .flags ≤ v .others) × (v .oth
 flags-room v z = let f = part-in (geometry v) flags (has-flags (geometry v)) in (omega (arith, z), omega (arith, z))
 
 -- and their lent part is theirs
-pub flags-part : (v : Glass) (r : List ℕ) → Suits v → take (v .others - v .flags) (drop (v .flags) r) ≡ part (geometry v) flags r
+pub flags-part : (v : Glass) (r : List ℕ) → Suits v → take (v .others - v .flags) (drop (v .flags) r) ≡ partIn (geometry v) flags r
 unfolding window
 flags-part v r z =
     let n : v .others - v .flags ≡ flagBytes (cells (geometry v)) = omega (arith, z .is-others, z .is-flags) in
@@ -160,4 +160,4 @@ pub is-valid : (v : Glass) (r : List ℕ) {h : Head} {a b c : Bool} → Suits v 
 is-valid v r z l h a b c =
     let g = geometry v in
     let p = flags-part v r z in
-    valid-is g r (z .glass) (a ∙ ap (headFits g) h) b (c ∙ (λ i. flagsFit (length (p i)) (p i)) ∙ ap (λ (n : ℕ). flagsFit n (part g flags r)) (length-part g flags r (has-flags g) l))
+    valid-is g r (z .glass) (a ∙ ap (headFits g) h) b (c ∙ (λ i. flagsFit (length (p i)) (p i)) ∙ ap (λ (n : ℕ). flagsFit n (partIn g flags r)) (length-part g flags r (has-flags g) l))

@@ -9,12 +9,12 @@ use Rattle.model.specs.declared.Head.{Head}
 use Rattle.model.specs.Geometry.{Geometry, cells}
 use Rattle.model.specs.Bytes.{wordsAt, four, rectBytes, rectsBytes, wordsBytes, fourBytes, Bytes, Words}
 use Rattle.model.specs.Flags.{flagsFit}
-use Rattle.model.specs.Record.{Part, head, panel, keys, flags, has, layout, size, part, Pending, State, decode, encode, bytesOfHead, bytesOfPending, partBytes, panelOf, headFits, pendingFits, partFits, valid, WellFormed}
+use Rattle.model.specs.Record.{RecordPart, head, panel, keys, flags, has, layout, size, partIn, Pending, State, decode, encode, bytesOfHead, bytesOfPending, partBytes, panelOf, headFits, pendingFits, partFits, valid, WellFormed}
 use Rattle.model.specs.Glass.{IsGlass}
 use Rattle.laws.specs.Layout.{bytes-cons, bytes-nil, bytes-append, length-rectsAt}
 use Rattle.laws.specs.PartLists.{length-written, bytes-written, all-of}
 use Rattle.laws.specs.Flags.{length-flagsIn, flags-fit, flags-bytes}
-use Rattle.laws.specs.Record.{Passing, numbers, part-passes, has-head, has-flags, has-panel, panel-has, length-part, bytes-part, panel-decoded, count-decode, well-sized, sizes, part-encode, head-back, pending-back}
+use Rattle.laws.specs.Record.{Passing, head-tells, part-passes, has-head, has-flags, has-panel, panel-has, length-part, bytes-part, panel-decoded, count-decode, well-sized, sizes, part-encode, head-back, pending-back}
 
 -- ---- a record that passes
 
@@ -33,12 +33,12 @@ well-formed g r p = record {
   count = count-decode g r;
   panels = λ k h. rw (panel-decoded g r k h) (record {
     passes = part-passes g r p (panel k) (has-panel g k h);
-    bands = length-rectsAt (g .bands) (part g (panel k) r) 0;
-    counted = four-lt (part g (panel k) r) (0 + 8 * g .bands + 8) (bytes-part g (panel k) r (p .bytes));
+    bands = length-rectsAt (g .bands) (partIn g (panel k) r) 0;
+    counted = four-lt (partIn g (panel k) r) (0 + 8 * g .bands + 8) (bytes-part g (panel k) r (p .bytes));
   });
   words = refl;
-  keys = words 8 (part g keys r) 0 (bytes-part g keys r (p .bytes));
-  flags = length-flagsIn (cells g) (part g flags r) (length-part g flags r (has-flags g) (p .sized));
+  keys = words 8 (partIn g keys r) 0 (bytes-part g keys r (p .bytes));
+  flags = length-flagsIn (cells g) (partIn g flags r) (length-part g flags r (has-flags g) (p .sized));
 }
 
 -- ---- a well formed state
@@ -63,7 +63,7 @@ words-bytes (w ∷ ws) = word w (wordsBytes ws) (words-bytes ws)
 
 head-bytes : (g : Geometry) (h : Head) → IsGlass g → headFits g h ≡ true → Bytes (bytesOfHead h)
 head-bytes g h k e =
-    let n = numbers g h e in
+    let n = head-tells g h e in
     pair (h .graphics) _ (pair (h .text) _
     (bytes-cons (h .row) _ (omega (arith, n, k)) (bytes-cons (h .column) _ (omega (arith, n, k))
     (bytes-cons (h .screen) _ (omega (arith, n)) (bytes-cons (h .print) _ (omega (arith, n))
@@ -75,14 +75,14 @@ pending-bytes p =
     (rect (p .hand) (fourBytes (p .sent)) (word (p .sent) [] bytes-nil))
 
 module _ (g : Geometry) (k : IsGlass g) (s : State) (f : WellFormed g s) where
-  part-bytes : (p : Part) → Bytes (partBytes g s p)
+  part-bytes : (p : RecordPart) → Bytes (partBytes g s p)
   unfolding partBytes
   part-bytes head = head-bytes g (s .head) k (f .head)
   part-bytes (panel i) = pending-bytes (panelOf g s i)
   part-bytes keys = words-bytes (s .keys)
   part-bytes flags = flags-bytes (s .flags)
 
-  part-fits : (p : Part) → has p (layout g) ≡ true → partFits g p (partBytes g s p) ≡ true
+  part-fits : (p : RecordPart) → has p (layout g) ≡ true → partFits g p (partBytes g s p) ≡ true
   unfolding partBytes partFits
   part-fits head h = ap (headFits g) (head-back g (s .head) (f .head)) ∙ f .head
   part-fits (panel i) h =
@@ -99,5 +99,5 @@ module _ (g : Geometry) (k : IsGlass g) (s : State) (f : WellFormed g s) where
         glass = k;
         sized = length-written (size g) (partBytes g s) (layout g) (sizes g s z);
         bytes = bytes-written (partBytes g s) (layout g) part-bytes;
-        passes = all-of (λ p. partFits g p (part g p (encode g s))) (layout g) (λ p h. ap (partFits g p) (part-encode g s z p h) ∙ part-fits p h);
+        passes = all-of (λ p. partFits g p (partIn g p (encode g s))) (layout g) (λ p h. ap (partFits g p) (part-encode g s z p h) ∙ part-fits p h);
       }

@@ -14,7 +14,7 @@ use Rattle.model.specs.Geometry.{Geometry, width, cells}
 use Rattle.model.specs.Glass.{geometry, canvas, Suits}
 use Rattle.model.specs.Memory.{withWindow}
 use Rattle.model.specs.Flags.{bytesOfFlags}
-use Rattle.model.specs.Record.{head, keys, flags, recordBytes, offset, part, Pending, State, decode, encode, bytesOfHead, panelOf, nothingPending, headFits, partFits, withHead, withPanels, withFlags, WellFormed}
+use Rattle.model.specs.Record.{head, keys, flags, recordBytes, offset, partIn, Pending, State, decode, encode, bytesOfHead, panelOf, nothingPending, headFits, partFits, withHead, withPanels, withFlags, WellFormed}
 use Rattle.model.specs.Rects.{none, isEmpty, join}
 use Rattle.model.specs.Marks.{whole, owing, withDirty, updateDirty, marked}
 use Rattle.model.specs.Open.{clearHead, clearFlags, resetState}
@@ -23,7 +23,7 @@ use Rattle.laws.specs.Rects.{join-none}
 use Rattle.laws.specs.Bands.{joinOwed-none}
 use Rattle.laws.specs.Parts.{part-back}
 use Rattle.laws.specs.Flags.{length-flags, length-no-flags}
-use Rattle.laws.specs.Record.{Passing, Sized, Numbers, numbers, part-passes, has-head, has-keys, has-flags, length-part, put-head, put-flags, all-owed, part-in, encode-decode, decode-encode, sized-decode, count-decode}
+use Rattle.laws.specs.Record.{Passing, Sized, Numbers, head-tells, part-passes, has-head, has-keys, has-flags, length-part, put-head, put-flags, all-owed, part-in, encode-decode, decode-encode, sized-decode, count-decode}
 use Rattle.laws.specs.States.{well-formed, encode-passing}
 use Rattle.laws.specs.StateTest.{flags-part}
 use Rattle.laws.specs.Panels.{Known, markFrom, marks-all, length-owing}
@@ -31,7 +31,7 @@ use Rattle.laws.specs.Panels.{Known, markFrom, marks-all, length-owing}
 -- what STATE tells of the head
 pub head-numbers : (v : Glass) (r : List ℕ) (h : Head) → Known v r → h ≡ decode (geometry v) r .head → Numbers (geometry v) h
 unfolding decode partFits
-head-numbers v r h k e = let g = geometry v in numbers g h (ap (headFits g) e ∙ part-passes g r (k .passing) head (has-head g))
+head-numbers v r h k e = let g = geometry v in head-tells g h (ap (headFits g) e ∙ part-passes g r (k .passing) head (has-head g))
 
 -- the head lies in the record
 pub head-in : (g : Geometry) → 18 ≤ recordBytes g

@@ -9,7 +9,7 @@ use lib.Seq.{getD-take, getD-drop}
 use Rattle.model.specs.Geometry.{Geometry}
 use Rattle.model.specs.Memory.{window}
 use Rattle.model.specs.Bytes.{two, four, rectAt, rectsAt, wordsAt}
-use Rattle.model.specs.Record.{head, panel, keys, offset, at, part, pendingBytes, headOf, pendingOf, keysOf}
+use Rattle.model.specs.Record.{head, panel, keys, offset, at, partIn, pendingBytes, headOf, pendingOf, keysOf}
 use Rattle.laws.specs.Rects.{rect-equal}
 use Rattle.laws.specs.Record.{head-equal}
 
@@ -44,13 +44,13 @@ module _ (a m : ℕ) (r : List ℕ) where
       let e : a + (i + 4) ≡ a + i + 4 = omega arith in
       λ k. four-window i (omega arith) k ∷ (words-window n (i + 4) (omega arith) ∙ ap (wordsAt n r) e) k
 
-pub keys-part : (g : Geometry) (r : List ℕ) → keysOf (part g keys r) ≡ wordsAt 8 r (at g keys)
+pub keys-part : (g : Geometry) (r : List ℕ) → keysOf (partIn g keys r) ≡ wordsAt 8 r (at g keys)
 keys-part g r = words-window (at g keys) 32 r 8 0 (omega arith) ∙ ap (wordsAt 8 r) (add-zero (at g keys))
 
 pub rects-part : (n a m : ℕ) (r : List ℕ) → 8 * n ≤ m → rectsAt n (window a m r) 0 ≡ rectsAt n r a
 rects-part n a m r h = rects-window a m r n 0 (omega arith) ∙ ap (rectsAt n r) (add-zero a)
 
-pub pending-part : (g : Geometry) (r : List ℕ) (k : ℕ) → pendingOf g (part g (panel k) r) 0 ≡ pendingOf g r (at g (panel k))
+pub pending-part : (g : Geometry) (r : List ℕ) (k : ℕ) → pendingOf g (partIn g (panel k) r) 0 ≡ pendingOf g r (at g (panel k))
 pending-part g r k =
     let a = at g (panel k) in
     let m = pendingBytes g in
@@ -62,7 +62,7 @@ pending-part g r k =
       sent = (four-window a m r (0 + 8 * g .bands + 8) (omega arith) ∙ ap (four r) f) i;
     }
 
-pub head-part : (g : Geometry) (r : List ℕ) → headOf (part g head r) ≡ headOf r
+pub head-part : (g : Geometry) (r : List ℕ) → headOf (partIn g head r) ≡ headOf r
 unfolding offset
 head-part g r =
     head-equal (two-window 0 18 r 0 (omega arith)) (two-window 0 18 r 2 (omega arith))

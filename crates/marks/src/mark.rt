@@ -1,7 +1,6 @@
 // Marks, on the structs by value.
 use crate::rect;
 use crate::span::no_marks;
-use crate::span::owed_as_is;
 use model::Canvas;
 use model::Head;
 use model::Marks;
@@ -39,7 +38,11 @@ pub fn whole_marks(canvas: Canvas) -> Marks
     requires { ⌜ (canvas .stride ≤ 32) × (canvas .height ≤ 256) ⌝ }
     ensures { λ r. ⌜ (r .dirty ≡ whole (canvas .stride) (canvas .height)) × (r .owed ≡ whole (canvas .stride) (canvas .height)) ⌝ }
 {
-    owed_as_is(whole_screen(canvas))
+    let screen = whole_screen(canvas);
+    Marks {
+        dirty: screen,
+        owed: screen,
+    }
 }
 
 // What is owed, with nothing dirty.

@@ -31,20 +31,20 @@ pub record State : Type 0 where
 
 -- ---- the parts, and the order in which they stand
 
-pub data Part : Type 0 where
+pub data RecordPart : Type 0 where
   -- bases, row, column, modes, cursor, version, dirty
-  head : Part
+  head : RecordPart
   -- owed, in hand and lines sent of a panel
-  panel : ℕ → Part
-  keys : Part
-  flags : Part
+  panel : ℕ → RecordPart
+  keys : RecordPart
+  flags : RecordPart
 
 -- n panels, the first of them k
-abbrev pub panelsFrom : ℕ → ℕ → List Part
+abbrev pub panelsFrom : ℕ → ℕ → List RecordPart
 panelsFrom k zero = []
 panelsFrom k (suc n) = panel k ∷ panelsFrom (suc k) n
 
-abbrev pub layout : Geometry → List Part
+abbrev pub layout : Geometry → List RecordPart
 layout g = head ∷ panel 0 ∷ keys ∷ flags ∷ panelsFrom 1 (g .panels - 1)
 
 -- ---- sizes
@@ -52,7 +52,7 @@ layout g = head ∷ panel 0 ∷ keys ∷ flags ∷ panelsFrom 1 (g .panels - 1)
 abbrev pub pendingBytes : Geometry → ℕ
 pendingBytes g = 8 * g .bands + 12
 
-abbrev pub size : Geometry → Part → ℕ
+abbrev pub size : Geometry → RecordPart → ℕ
 size g head = 18
 size g (panel k) = pendingBytes g
 size g keys = 32
@@ -102,7 +102,7 @@ nothingPending g = record { owed = replicate (g .bands) none; hand = none; sent 
 abbrev pub panelOf : Geometry → State → ℕ → Pending
 panelOf g s k = getD (s .panels) k (nothingPending g)
 
-unfoldable pub partBytes : Geometry → State → Part → List ℕ
+unfoldable pub partBytes : Geometry → State → RecordPart → List ℕ
 partBytes g s head = bytesOfHead (s .head)
 partBytes g s (panel k) = bytesOfPending (panelOf g s k)
 partBytes g s keys = wordsBytes (s .keys)
@@ -137,7 +137,7 @@ bandsFit w band lo (q ∷ qs) = fits w lo (lo + band) q && bandsFit w band (lo +
 unfoldable pub pendingFits : Geometry → Pending → Bool
 pendingFits g p = bandsFit (width g) (g .band) 0 (p .owed) && fits (width g) 0 (height g) (p .hand)
 
-unfoldable pub partFits : Geometry → Part → List ℕ → Bool
+unfoldable pub partFits : Geometry → RecordPart → List ℕ → Bool
 partFits g head c = headFits g (headOf c)
 partFits g (panel k) c = pendingFits g (pendingOf g c 0)
 partFits g keys c = true
@@ -146,40 +146,40 @@ partFits g flags c = flagsFit (cells g) c
 -- ---- what follows from a list of parts, whatever they are
 
 -- a number for each part, no number twice
-abbrev pub tag : Part → ℕ
+abbrev pub tag : RecordPart → ℕ
 tag head = 0
 tag keys = 1
 tag flags = 2
 tag (panel k) = suc (suc (suc k))
 
-abbrev pub same : Part → Part → Bool
-same p q = eqb (tag p) (tag q)
+abbrev pub samePart : RecordPart → RecordPart → Bool
+samePart p q = eqb (tag p) (tag q)
 
-unfoldable pub has : Part → List Part → Bool
+unfoldable pub has : RecordPart → List RecordPart → Bool
 has q [] = false
-has q (p ∷ ps) = same q p || has q ps
+has q (p ∷ ps) = samePart q p || has q ps
 
 -- no part stands twice
-unfoldable pub distinct : List Part → Bool
+unfoldable pub distinct : List RecordPart → Bool
 distinct [] = true
 distinct (p ∷ ps) = not (has p ps) && distinct ps
 
 -- the bytes of all parts, one after another
-unfoldable pub written : (Part → List ℕ) → List Part → List ℕ
+unfoldable pub written : (RecordPart → List ℕ) → List RecordPart → List ℕ
 written f [] = []
 written f (p ∷ ps) = f p ++ written f ps
 
-unfoldable pub total : (Part → ℕ) → List Part → ℕ
+unfoldable pub total : (RecordPart → ℕ) → List RecordPart → ℕ
 total n [] = 0
 total n (p ∷ ps) = n p + total n ps
 
 -- where the part q begins
-unfoldable pub offset : (Part → ℕ) → Part → List Part → ℕ
+unfoldable pub offset : (RecordPart → ℕ) → RecordPart → List RecordPart → ℕ
 offset n q [] = 0
-offset n q (p ∷ ps) = cond (same q p) 0 (n p + offset n q ps)
+offset n q (p ∷ ps) = cond (samePart q p) 0 (n p + offset n q ps)
 
 -- every part passes
-unfoldable pub all : (Part → Bool) → List Part → Bool
+unfoldable pub all : (RecordPart → Bool) → List RecordPart → Bool
 all t [] = true
 all t (p ∷ ps) = t p && all t ps
 
@@ -188,12 +188,12 @@ all t (p ∷ ps) = t p && all t ps
 abbrev pub recordBytes : Geometry → ℕ
 recordBytes g = total (size g) (layout g)
 
-abbrev pub at : Geometry → Part → ℕ
+abbrev pub at : Geometry → RecordPart → ℕ
 at g p = offset (size g) p (layout g)
 
 -- the bytes of a part
-abbrev pub part : Geometry → Part → List ℕ → List ℕ
-part g p r = window (at g p) (size g p) r
+abbrev pub partIn : Geometry → RecordPart → List ℕ → List ℕ
+partIn g p r = window (at g p) (size g p) r
 
 -- f k ∷ f (k + 1) ∷ .., n of them
 unfoldable pub listing : {A : Type 0} → (ℕ → A) → ℕ → ℕ → List A
@@ -202,10 +202,10 @@ listing f k (suc n) = f k ∷ listing f (suc k) n
 
 unfoldable pub decode : Geometry → List ℕ → State
 decode g r = record {
-  head = headOf (part g head r);
-  panels = listing (λ k. pendingOf g (part g (panel k) r) 0) 0 (g .panels);
-  keys = keysOf (part g keys r);
-  flags = flagsIn (cells g) (part g flags r);
+  head = headOf (partIn g head r);
+  panels = listing (λ k. pendingOf g (partIn g (panel k) r) 0) 0 (g .panels);
+  keys = keysOf (partIn g keys r);
+  flags = flagsIn (cells g) (partIn g flags r);
 }
 
 unfoldable pub encode : Geometry → State → List ℕ
@@ -213,7 +213,7 @@ encode g s = written (partBytes g s) (layout g)
 
 -- the bytes of a record pass STATE
 unfoldable pub valid : Geometry → List ℕ → Bool
-valid g r = all (λ p. partFits g p (part g p r)) (layout g)
+valid g r = all (λ p. partFits g p (partIn g p r)) (layout g)
 
 -- ---- the state with one part changed
 

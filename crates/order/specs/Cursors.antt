@@ -13,7 +13,7 @@ use Rattle.model.specs.Cursor.{cursorFor, blinkOf, blinkNext, cursorBox, underC
 use Rattle.model.specs.Calls.{Lent, blinked, cursorCleared}
 use Rattle.model.specs.Lists.{nothing, blinks}
 use Rattle.laws.specs.Tests.{if-cases, by-test}
-use Rattle.laws.specs.Record.{numbers}
+use Rattle.laws.specs.Record.{head-tells}
 use Rattle.laws.specs.Boxes.{box-fits}
 use Rattle.order.specs.Formed.{cursor-fits}
 use Rattle.order.specs.Step.{Lendable, Step, old, known, same-step}
@@ -40,7 +40,7 @@ module _ (g : Geometry) (k : ℕ) (there : k < g .panels) (l : Lent) (q : Lendab
   box-in =
       let z = q .passing .glass in
       let h = old g l .head in
-      let t = numbers g h (known g l q .head) in
+      let t = head-tells g h (known g l q .head) in
       let c = blinkOf (h .cursor) (underCursor g h (l .memory)) in
       let n : c ≤ 2 = of-most (h .cursor) (underCursor g h (l .memory)) (t .cursor) in
       box-fits (g .stride) (height g) (8 * h .column) (16 * h .row) (8 * h .column + 8 * c - 1) (16 * h .row + 15) true Xor

@@ -17,7 +17,7 @@ use Rattle.model.specs.Text.{withRow, withColumn, withScreenMode, withPrintMode
 use Rattle.laws.specs.Tests.{AllTrue, all-true, true-all, by-eq}
 use Rattle.laws.specs.Rects.{Fits, fits-passes, passes-fits, join-fits}
 use Rattle.laws.specs.ListLaws.{getD-map}
-use Rattle.laws.specs.Record.{numbers}
+use Rattle.laws.specs.Record.{head-tells}
 use Rattle.laws.specs.Pendings.{well-owing}
 
 -- ---- a head that passes STATE passes with another number that does
@@ -100,4 +100,4 @@ marked-formed g dirty owed s d w =
     head-formed g (withPanels (map (owing g owed) (s .panels)) s) (owing-formed g s w owed) (updateDirty dirty (s .head)) (dirty-fits g (s .head) (w .head) _ joined)
   where
     joined : Fits 256 0 256 (updateDirty dirty (s .head) .dirty)
-    joined = join-fits 256 0 256 (s .head .dirty) dirty (passes-fits 256 0 256 (s .head .dirty) (numbers g (s .head) (w .head) .dirty)) d
+    joined = join-fits 256 0 256 (s .head .dirty) dirty (passes-fits 256 0 256 (s .head .dirty) (head-tells g (s .head) (w .head) .dirty)) d

@@ -21,7 +21,7 @@ use Rattle.laws.specs.Tests.{true-all}
 use Rattle.laws.specs.Marks.{whole-agrees}
 use Rattle.laws.specs.Loops.{length-zeros}
 use Rattle.laws.specs.Keys.{length-withKeys}
-use Rattle.laws.specs.Record.{numbers}
+use Rattle.laws.specs.Record.{head-tells}
 use Rattle.laws.specs.Flags.{length-no-flags}
 use Rattle.laws.specs.Updates.{flags-formed}
 use Rattle.laws.specs.Pendings.{well-open}
@@ -72,6 +72,6 @@ reset-step g k there l q =
     marks-step g k there l q m (resetState g s) (clearMemory (s .keys))
     (flags-formed g (clearFlags g) _
     (head-formed g owed (owing-formed g s w m) (clearHead (h .graphics) (h .text) (h .version))
-    (clear-fits g (q .passing .glass) (h .graphics) (h .text) (h .version) (bases-fit g h (w .head)) (le-leb (h .version) 1 (numbers g h (w .head) .version))))
+    (clear-fits g (q .passing .glass) (h .graphics) (h .text) (h .version) (bases-fit g h (w .head)) (le-leb (h .version) 1 (head-tells g h (w .head) .version))))
     (length-no-flags (cells g)))
     (length-clear (s .keys)) refl refl (whole-agrees (g .stride) (height g) _ _)

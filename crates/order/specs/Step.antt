@@ -16,7 +16,7 @@ use Rattle.model.specs.Lists.{Effect, nothing, marks, affected}
 use Rattle.model.specs.Marks.{updateDirty, owing, marked}
 use Rattle.laws.specs.Rects.{Fits}
 use Rattle.laws.specs.ListLaws.{getD-map}
-use Rattle.laws.specs.Record.{Passing, numbers, decode-encode}
+use Rattle.laws.specs.Record.{Passing, head-tells, decode-encode}
 use Rattle.laws.specs.States.{well-formed, encode-passing}
 use Rattle.laws.specs.Memory.{length-window}
 use Rattle.laws.specs.Marks.{AgreeOutside}
@@ -93,10 +93,10 @@ module _ (g : Geometry) (k : ℕ) where
 
 module _ (g : Geometry) (z : IsGlass g) (h : Head) (e : headFits g h ≡ true) where
   pub text-in : h .text + cells g ≤ memoryBytes
-  text-in = omega (arith, numbers g h e .text, z .text)
+  text-in = omega (arith, head-tells g h e .text, z .text)
 
   pub screen-in : h .graphics + screenBytes g ≤ memoryBytes
-  screen-in = omega (arith, numbers g h e .graphics, z .screen)
+  screen-in = omega (arith, head-tells g h e .graphics, z .screen)
 
   pub screen-long : (m : List ℕ) → length m ≡ memoryBytes → length (screenOf g (h .graphics) m) ≡ screenBytes g
   screen-long m n = length-window (h .graphics) (screenBytes g) m (rw n screen-in)

@@ -24,7 +24,7 @@ use Rattle.laws.specs.Tests.{all-true, by-test, or-cases, either}
 use Rattle.laws.specs.Memory.{length-window, length-withWindow, window-same, window-other}
 use Rattle.laws.specs.Loops.{length-zeros}
 use Rattle.laws.specs.Flags.{length-no-flags}
-use Rattle.laws.specs.Record.{numbers}
+use Rattle.laws.specs.Record.{head-tells}
 use Rattle.laws.specs.Updates.{flags-formed}
 use Rattle.laws.specs.Scrolls.{length-times}
 use Rattle.laws.specs.Marks.{AgreeOutside, whole-agrees}
@@ -88,7 +88,7 @@ module _ (g : Geometry) (l : Lent) (q : Lendable g l) where
 
   -- the screen mode that stands there
   pub mode-listed : leb (s .head .screen) 1 ≡ true
-  mode-listed = le-leb (s .head .screen) 1 (numbers g (s .head) fit .screen)
+  mode-listed = le-leb (s .head .screen) 1 (head-tells g (s .head) fit .screen)
 
   -- ---- pages
 
@@ -98,8 +98,8 @@ module _ (g : Geometry) (l : Lent) (q : Lendable g l) where
     wide = q .passing .glass .columns;
     text = length-window (s .head .text) (cells g) (l .memory) text-room;
     flags = known g l q .flags;
-    row = numbers g (s .head) fit .row;
-    room = omega (arith, numbers g (s .head) fit .column);
+    row = head-tells g (s .head) fit .row;
+    room = omega (arith, head-tells g (s .head) fit .column);
   }
 
   -- a text row of the screen lies on it

@@ -16,7 +16,7 @@ pub record Wrote (at : ℕ) (t o o′ : List ℕ) (e : ℕ) : Type 0 where
   pub end : e ≡ at + length t
 
 -- the buffers that a script runs on
-pub record Sized (r m p : List ℕ) : Type 0 where
+pub record BuffersSized (r m p : List ℕ) : Type 0 where
   pub rec : length r ≡ recordBytes base
   pub memory : length m ≡ memoryBytes
   pub panel : length p ≡ screenBytes base

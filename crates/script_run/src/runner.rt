@@ -15,7 +15,7 @@ ghost use Rattle.model.specs.Calls.{lent, sentNumbers};
 ghost use Rattle.model.specs.Script.Read.{readScript};
 ghost use Rattle.model.specs.Script.Output.{said, linePrints, ending, runLines, longest, scriptText};
 ghost use Rattle.script.specs.Meaning.{meaning};
-ghost use Rattle.script_run.specs.Buffers.{Wrote, Sized, Answered};
+ghost use Rattle.script_run.specs.Buffers.{Wrote, BuffersSized, Answered};
 
 const GRAPHICS_BASE: u16 = 4096;
 
@@ -84,7 +84,7 @@ fn answer_line(
 
 // The last line.
 fn put_ending(out: &mut [u8], at: usize, rec: &[u8], memory: &[u8], panel: &[u8]) -> usize
-    requires { ⌜ Sized (now rec) (now memory) (now panel) ⌝ }
+    requires { ⌜ BuffersSized (now rec) (now memory) (now panel) ⌝ }
     requires { ⌜ at + length (ending (lent (now rec) (now memory) (now panel))) ≤ length (now out) ⌝ }
     ensures { λ r. ⌜ Wrote at (ending (lent (now (rec .entry)) (now (memory .entry)) (now (panel .entry)))) (now (out .entry)) (now (out .exit)) r ⌝ }
 {
@@ -103,7 +103,7 @@ fn run_lines(
     memory: &mut [u8],
     panel: &mut [u8],
 ) -> usize
-    requires { ⌜ Sized (now rec) (now memory) (now panel) ⌝ }
+    requires { ⌜ BuffersSized (now rec) (now memory) (now panel) ⌝ }
     requires { ⌜ length (now script) ≤ longest ⌝ }
     requires { ⌜ length (runLines (readScript (now script)) (lent (now rec) (now memory) (now panel))) ≤ length (now out) ⌝ }
     ensures { λ r. ⌜ Wrote 0 (runLines (readScript (now (script .entry))) (lent (now (rec .entry)) (now (memory .entry)) (now (panel .entry)))) (now (out .entry)) (now (out .exit)) r ⌝ }
@@ -130,7 +130,7 @@ pub fn run_script(
     memory: &mut [u8],
     panel: &mut [u8],
 ) -> usize
-    requires { ⌜ Sized (now rec) (now memory) (now panel) ⌝ }
+    requires { ⌜ BuffersSized (now rec) (now memory) (now panel) ⌝ }
     requires { ⌜ length (scriptText (now script)) ≤ length (now out) ⌝ }
     ensures { λ r. ⌜ Wrote 0 (scriptText (now (script .entry))) (now (out .entry)) (now (out .exit)) r ⌝ }
 {

@@ -13,7 +13,7 @@ use Rattle.model.specs.Print.{screenScrolls, Page, printByte, printPair, printB
 use Rattle.laws.specs.Tests.{and-true}
 use Rattle.laws.specs.Scrolls.{times-most}
 use Rattle.laws.specs.Pages.{length-clear, byte-sheet, pair-sheet, bytes-sheet}
-use Rattle.laws.specs.Prints.{byte-turn, pair-turn, bytes-end, isSet, until-start, until-end}
+use Rattle.laws.specs.Prints.{byte-turn, pair-turn, bytes-end, cellWritten, until-start, until-end}
 use Rattle.text.specs.declared.page.Place.{Place}
 use Rattle.text.specs.declared.print.Turn.{Turn}
 use Rattle.text.specs.Written.{page, Ready, Written}
@@ -68,10 +68,10 @@ module _ (rows columns : ℕ) (v : Bool) (bs : List ℕ) (t f s g : List ℕ) (p
 
 -- ---- the clearing
 
-pub not-set : (t : List ℕ) (i : ℕ) → length t ≤ i → false ≡ isSet t i
+pub not-set : (t : List ℕ) (i : ℕ) → length t ≤ i → false ≡ cellWritten t i
 not-set t i h = rw (eq-eqb (getD t i 0) 0 (List·getD-eq-default t 0 {n = i} h))
 
-pub was-cleared : (at i : ℕ) (t s : List ℕ) {b : Bool} → b ≡ isSet s i → b ≡ false
+pub was-cleared : (at i : ℕ) (t s : List ℕ) {b : Bool} → b ≡ cellWritten s i → b ≡ false
     → clearUntil (length (set t at 0) - i) i s ≡ clearUntil (length (set t at 0) - (at + 1)) (at + 1) (set t at 0) → s ≡ clearFrom at t
 was-cleared at i t s e f h =
     sym (until-end (length (set t at 0) - i) i s e f) ∙ h

@@ -3,11 +3,11 @@ ghost use mathlib.Core.Path.{_≡_};
 ghost use Prim.Native.Nat.{_<_};
 ghost use lib.ListN.{length};
 ghost use Rattle.model.specs.Print.{clearFrom};
-ghost use Rattle.laws.specs.Prints.{isSet};
+ghost use Rattle.laws.specs.Prints.{cellWritten};
 
 // Whether the cell is there and not 0.
 fn is_set(text: &[u8], i: usize) -> bool
-    ensures { λ r. ⌜ r ≡ isSet (now (text .entry)) i ⌝ }
+    ensures { λ r. ⌜ r ≡ cellWritten (now (text .entry)) i ⌝ }
 {
     if i < text.len() {
         return text[i] != 0;

@@ -1,4 +1,4 @@
-use Rattle.laws.specs.DrawLine.{line-horizontal, line-unknown, line-vertical, line-leftwards, line-rightwards}
+use Rattle.laws.specs.DrawLine.{line-horizontal, line-unknown, line-vertical, line-slopes}
 use borrow.Author.Needs.{needs}
 use Rattle.draw.proofs.line.draw_line.Statement.{statement}
 use Rattle.draw.proofs.line.draw_line.Tie as tie
@@ -42,6 +42,18 @@ same-length-2 c = search needs
 returns-3 : tie.Need-returns-3
 returns-3 c = search line-vertical
 
+least-requires-3 : tie.Need-least-requires-3
+least-requires-3 c κs = search needs
+
+pick-requires : tie.Need-pick-requires
+pick-requires c κs = search needs
+
+greatest-requires-3 : tie.Need-greatest-requires-3
+greatest-requires-3 c κs = search needs
+
+pick-requires-2 : tie.Need-pick-requires-2
+pick-requires-2 c κs = search needs
+
 draw-sloped-requires : tie.Need-draw-sloped-requires
 draw-sloped-requires c κs = search needs
 
@@ -49,16 +61,7 @@ same-length-3 : tie.Need-same-length-3
 same-length-3 c = search needs
 
 returns-4 : tie.Need-returns-4
-returns-4 c = search line-leftwards
-
-draw-sloped-requires-2 : tie.Need-draw-sloped-requires-2
-draw-sloped-requires-2 c κs = search needs
-
-same-length-4 : tie.Need-same-length-4
-same-length-4 c = search needs
-
-returns-5 : tie.Need-returns-5
-returns-5 c = search line-rightwards
+returns-4 c = search line-slopes
 
 pub draw-line-spec : {M : Type 1} → statement M
 draw-line-spec =
@@ -77,9 +80,10 @@ draw-line-spec =
     draw-vertical-requires
     same-length-2
     returns-3
+    least-requires-3
+    pick-requires
+    greatest-requires-3
+    pick-requires-2
     draw-sloped-requires
     same-length-3
-    returns-4
-    draw-sloped-requires-2
-    same-length-4
-    returns-5)
+    returns-4)

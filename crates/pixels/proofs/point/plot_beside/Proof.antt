@@ -1,6 +1,5 @@
 use native.Mathlib.Omega.{arith}
 use Rattle.model.specs.Bytes.{Bytes}
-use Rattle.laws.specs.Points.{place-in}
 use Rattle.laws.specs.Runs.{line-in, beside-drawn, beside-none}
 use Rattle.pixels.specs.Raster.{op-known}
 use borrow.Author.Needs.{needs}

@@ -3,13 +3,13 @@ use native.Mathlib.Omega.{arith}
 use lib.ListN.{length, drop}
 use Rattle.model.specs.Calls.{lent}
 use Rattle.model.specs.Script.Read.{readScript}
-use Rattle.script_run.specs.Buffers.{Sized}
+use Rattle.script_run.specs.Buffers.{BuffersSized}
 use Rattle.script_run.proofs.Whole.{Ran, ran-start, ran-turn, ran-end, line-room, end-room, fewer, counts-on}
 use Rattle.script_run.proofs.runner.run_lines.Statement.{statement}
 use Rattle.script_run.proofs.runner.run_lines.Tie as tie
 
 abbrev Inv-loop : tie.InvT-loop
-Inv-loop script out₀ rec₀ memory₀ panel₀ at₀ n₀ end₀ out rec memory panel at n end = Ran script out₀ (lent rec₀ memory₀ panel₀) out (lent rec memory panel) at n end × Sized rec memory panel
+Inv-loop script out₀ rec₀ memory₀ panel₀ at₀ n₀ end₀ out rec memory panel at n end = Ran script out₀ (lent rec₀ memory₀ panel₀) out (lent rec memory panel) at n end × BuffersSized rec memory panel
 
 abbrev μ-loop : tie.MeasureT-loop
 μ-loop script out₀ rec₀ memory₀ panel₀ at₀ n₀ end₀ out rec memory panel at n end = length (readScript (drop at script))
