@@ -1,3 +1,4 @@
 pub mod Drawing
 pub mod Sending
 pub mod Opening
+pub mod Flushing

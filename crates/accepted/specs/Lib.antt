@@ -1,3 +1,4 @@
 pub mod Given
 pub mod Opened
 pub mod NoLine
+pub mod Texts

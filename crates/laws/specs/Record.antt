@@ -258,7 +258,7 @@ bands-short w band lo (q ∷ qs) hw h e =
     let p = and-true (fits w lo (lo + band) q) (bandsFit w band (lo + band) qs) e in
     (fits-short w lo (lo + band) q hw (omega arith) (p .0), bands-short w band (lo + band) qs hw (omega arith) (p .1))
 
--- what a head that passes tells of its head-tells
+-- what a head that passes tells of its numbers
 pub record Numbers (g : Geometry) (h : Head) : Type 0 where
   pub graphics : h .graphics ≤ 65535 - screenBytes g
   pub text : h .text ≤ 65535 - cells g
