@@ -1,1 +1,3 @@
 pub mod Drawing
+pub mod Painting
+pub mod Poking
