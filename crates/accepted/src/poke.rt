@@ -55,9 +55,9 @@ pub fn write_byte(rec: &mut [u8], memory: &mut [u8], glass: Glass, h: Head, addr
     }
     memory[address as usize] = byte;
     let graphics = h.graphics;
-    if in_screen(glass, graphics, address) {
-        let q = byte_rect(glass.stride, (address - graphics) as usize);
-        update::mark_record(rec, glass, h, owed_as_is(q));
+    if !in_screen(glass, graphics, address) {
         return;
     }
+    let q = byte_rect(glass.stride, (address - graphics) as usize);
+    update::mark_record(rec, glass, h, owed_as_is(q));
 }

@@ -1,3 +1,4 @@
+-- o: the source lies in memory, and finds room in the array that keeps it.
 use mathlib.Core.Path.{sym, ap, _∙_}
 use Prim.Native.Nat.{ℕ}
 use native.Mathlib.Omega.{arith}
@@ -16,7 +17,10 @@ source-bytes-requires : tie.Need-source-bytes-requires
 source-bytes-requires c κs = search needs
 
 add-end : tie.Need-add-end
-add-end c = let a = c .before .before .before in let o = is-source (a .args .memory .now) (a .args .address) (a .args .width) (a .args .height) (omega arith) (omega arith) (omega arith) (a .pre .0 .memory) (a .pre .1) (c .source-bytes .ensures) in omega (arith, o .inside)
+add-end c =
+    let a = c .before .before .before in
+    let o = is-source (a .args .memory .now) (a .args .address) (a .args .width) (a .args .height) (omega arith) (omega arith) (omega arith) (a .pre .0 .memory) (a .pre .1) (c .source-bytes .ensures) in
+    omega (arith, o .inside)
 
 slice-aggregate-put-bytes : tie.Need-slice-aggregate-put-bytes
 slice-aggregate-put-bytes c = search needs
@@ -28,10 +32,16 @@ part-put-bytes-start : tie.Need-part-put-bytes-start
 part-put-bytes-start c = search needs
 
 part-put-bytes-end : tie.Need-part-put-bytes-end
-part-put-bytes-end c = let a = c .before .before .before .before .before in let o = is-source (a .args .memory .now) (a .args .address) (a .args .width) (a .args .height) (omega arith) (omega arith) (omega arith) (a .pre .0 .memory) (a .pre .1) (c .before .before .source-bytes .ensures) in o .inside
+part-put-bytes-end c =
+    let a = c .before .before .before .before .before in
+    let o = is-source (a .args .memory .now) (a .args .address) (a .args .width) (a .args .height) (omega arith) (omega arith) (omega arith) (a .pre .0 .memory) (a .pre .1) (c .before .before .source-bytes .ensures) in
+    o .inside
 
 put-bytes-requires : tie.Need-put-bytes-requires
-put-bytes-requires c κs = let a = c .before .before .before .before .before .before in let o = is-source (a .args .memory .now) (a .args .address) (a .args .width) (a .args .height) (omega arith) (omega arith) (omega arith) (a .pre .0 .memory) (a .pre .1) (c .before .before .before .source-bytes .ensures) in omega (arith, o .short, part-length (a .args .address) _ (a .args .memory .now) (o .inside))
+put-bytes-requires c κs =
+    let a = c .before .before .before .before .before .before in
+    let o = is-source (a .args .memory .now) (a .args .address) (a .args .width) (a .args .height) (omega arith) (omega arith) (omega arith) (a .pre .0 .memory) (a .pre .1) (c .before .before .before .source-bytes .ensures) in
+    omega (arith, o .short, part-length (a .args .address) _ (a .args .memory .now) (o .inside))
 
 cast-from : tie.Need-cast-from
 cast-from c = search needs
@@ -55,16 +65,27 @@ part-paint-bitmap-end : tie.Need-part-paint-bitmap-end
 part-paint-bitmap-end c = screen-room (c .before .before .before .before .before .before .before .before .before .before .before .before .pre .0)
 
 array-share-prefix-source : tie.Need-array-share-prefix-source
-array-share-prefix-source c = let a = c .before .before .before .before .before .before .before .before .before .before .before .before .before in let o = is-source (a .args .memory .now) (a .args .address) (a .args .width) (a .args .height) (omega arith) (omega arith) (omega arith) (a .pre .0 .memory) (a .pre .1) (c .before .before .before .before .before .before .before .before .before .before .source-bytes .ensures) in source-room o _ _ (c .before .before .before .before .before .before .put-bytes .ensures) (omega (arith, o .short))
+array-share-prefix-source c =
+    let a = c .before .before .before .before .before .before .before .before .before .before .before .before .before in
+    let o = is-source (a .args .memory .now) (a .args .address) (a .args .width) (a .args .height) (omega arith) (omega arith) (omega arith) (a .pre .0 .memory) (a .pre .1) (c .before .before .before .before .before .before .before .before .before .before .source-bytes .ensures) in
+    source-room o _ _ (c .before .before .before .before .before .before .put-bytes .ensures) (omega (arith, o .short))
 
 slice-aggregate-paint-bitmap : tie.Need-slice-aggregate-paint-bitmap
-slice-aggregate-paint-bitmap c = let a = c .before .before .before .before .before .before .before .before .before .before .before .before .before .before in let o = is-source (a .args .memory .now) (a .args .address) (a .args .width) (a .args .height) (omega arith) (omega arith) (omega arith) (a .pre .0 .memory) (a .pre .1) (c .before .before .before .before .before .before .before .before .before .before .before .source-bytes .ensures) in sym (source-length o _ _ (c .before .before .before .before .before .before .before .put-bytes .ensures))
+slice-aggregate-paint-bitmap c =
+    let a = c .before .before .before .before .before .before .before .before .before .before .before .before .before .before in
+    let o = is-source (a .args .memory .now) (a .args .address) (a .args .width) (a .args .height) (omega arith) (omega arith) (omega arith) (a .pre .0 .memory) (a .pre .1) (c .before .before .before .before .before .before .before .before .before .before .before .source-bytes .ensures) in
+    sym (source-length o _ _ (c .before .before .before .before .before .before .before .put-bytes .ensures))
 
 paint-bitmap-requires : tie.Need-paint-bitmap-requires
-paint-bitmap-requires c κs = let a = c .before .before .before .before .before .before .before .before .before .before .before .before .before .before in let o = is-source (a .args .memory .now) (a .args .address) (a .args .width) (a .args .height) (omega arith) (omega arith) (omega arith) (a .pre .0 .memory) (a .pre .1) (c .before .before .before .before .before .before .before .before .before .before .before .source-bytes .ensures) in (screen-part (a .pre .0) (c .before .before .canvas-of .ensures), source-length o _ _ (c .before .before .before .before .before .before .before .put-bytes .ensures) ∙ c .before .before .before .before .before .before .before .before .before .before .before .source-bytes .ensures)
+paint-bitmap-requires c κs =
+    let a = c .before .before .before .before .before .before .before .before .before .before .before .before .before .before in
+    let o = is-source (a .args .memory .now) (a .args .address) (a .args .width) (a .args .height) (omega arith) (omega arith) (omega arith) (a .pre .0 .memory) (a .pre .1) (c .before .before .before .before .before .before .before .before .before .before .before .source-bytes .ensures) in
+    (screen-part (a .pre .0) (c .before .before .canvas-of .ensures), source-length o _ _ (c .before .before .before .before .before .before .before .put-bytes .ensures) ∙ c .before .before .before .before .before .before .before .before .before .before .before .source-bytes .ensures)
 
 mark-record-requires : tie.Need-mark-record-requires
-mark-record-requires c κs = let a = c .before .before .before .before .before .before .before .before .before .before .before .before .before .before .before .before .before .before in (a .pre .0 .known, a .pre .0 .head)
+mark-record-requires c κs =
+    let a = c .before .before .before .before .before .before .before .before .before .before .before .before .before .before .before .before .before .before in
+    (a .pre .0 .known, a .pre .0 .head)
 
 same-length : tie.Need-same-length
 same-length c = search needs
@@ -74,7 +95,10 @@ same-length-2 c = search needs
 
 returns : tie.Need-returns
 unfolding done
-returns c = let a = c .before .before .before .before .before .before .before .before .before .before .before .before .before .before .before .before .before .before .before .before .before in let o = is-source (a .args .memory .now) (a .args .address) (a .args .width) (a .args .height) (omega arith) (omega arith) (omega arith) (a .pre .0 .memory) (a .pre .1) (c .before .before .before .before .before .before .before .before .before .before .before .before .before .before .before .before .before .before .source-bytes .ensures) in let kept = source-kept o _ _ (c .before .before .before .before .before .before .before .before .before .before .before .before .before .before .put-bytes .ensures) ∙ ap (λ (k : ℕ). window (a .args .address) k (a .args .memory .now)) (c .before .before .before .before .before .before .before .before .before .before .before .before .before .before .before .before .before .before .source-bytes .ensures) in
+returns c =
+    let a = c .before .before .before .before .before .before .before .before .before .before .before .before .before .before .before .before .before .before .before .before .before in
+    let o = is-source (a .args .memory .now) (a .args .address) (a .args .width) (a .args .height) (omega arith) (omega arith) (omega arith) (a .pre .0 .memory) (a .pre .1) (c .before .before .before .before .before .before .before .before .before .before .before .before .before .before .before .before .before .before .source-bytes .ensures) in
+    let kept = source-kept o _ _ (c .before .before .before .before .before .before .before .before .before .before .before .before .before .before .put-bytes .ensures) ∙ ap (λ (k : ℕ). window (a .args .address) k (a .args .memory .now)) (c .before .before .before .before .before .before .before .before .before .before .before .before .before .before .before .before .before .before .source-bytes .ensures) in
     let painted = rw (toZ-ofZ {w = w32} {z = a .args .x} (a .fits .x), toZ-ofZ {w = w32} {z = a .args .y} (a .fits .y), kept) at (c .before .before .before .before .before .before .paint-bitmap .ensures) in
     drew (a .pre .0) (λ st h d. bitmap st h (window (a .args .address) (sourceBytes (a .args .width) (a .args .height)) (a .args .memory .now)) (a .args .x) (a .args .y) (a .args .width) (a .args .height) d) _ _ (c .before .before .before .before .before .before .before .before .before .before .paint-mode .ensures) (c .before .before .before .before .before .before .before .before .before .canvas-of .ensures) painted (c .before .before .mark-record .ensures)
 

@@ -18,7 +18,8 @@ returns-4 : tie.Need-returns-4
 returns-4 c = search needs
 
 returns-5 : tie.Need-returns-5
-returns-5 c = let h : 4 ≤ c .before .args .mode = omega (arith, c .match .rest) in last-mode (c .before .args .mode) h
+returns-5 c =
+    let h : 4 ≤ c .before .args .mode = omega (arith, c .match .rest) in last-mode (c .before .args .mode) h
 
 pub paint-mode-spec : {M : Type 1} → statement M
 paint-mode-spec = tie.close (tie.spec returns returns-2 returns-3 returns-4 returns-5)

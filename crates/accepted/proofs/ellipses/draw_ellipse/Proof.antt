@@ -41,7 +41,9 @@ same-length-2 c = search needs
 
 returns : tie.Need-returns
 unfolding done
-returns c = let a = c .before .before .before .before .before .before .before .before .before .before .before .before .before .before in drew (a .pre .0) (λ st h d. ellipse st h (a .args .x) (a .args .y) (a .args .rx) (a .args .ry) (filled (a .args .fill)) d) _ _ (c .before .before .before .before .before .before .before .before .before .draw-mode .ensures) (c .before .before .before .before .before .before .before .before .canvas-of .ensures) (c .before .before .before .before .before .before .draw-ellipse .ensures) (c .before .before .mark-record .ensures)
+returns c =
+    let a = c .before .before .before .before .before .before .before .before .before .before .before .before .before .before in
+    drew (a .pre .0) (λ st h d. ellipse st h (a .args .x) (a .args .y) (a .args .rx) (a .args .ry) (filled (a .args .fill)) d) _ _ (c .before .before .before .before .before .before .before .before .before .draw-mode .ensures) (c .before .before .before .before .before .before .before .before .canvas-of .ensures) (c .before .before .before .before .before .before .draw-ellipse .ensures) (c .before .before .mark-record .ensures)
 
 pub draw-ellipse-spec : {M : Type 1} → statement M
 draw-ellipse-spec =

@@ -12,7 +12,9 @@ radii-fit-requires : tie.Need-radii-fit-requires
 radii-fit-requires c κs = search needs
 
 returns : tie.Need-returns
-returns c = let a = c .before .before .args in c .radii-fit .ensures ∙ ap (radiiFit (a .rx) (a .ry) (filled (a .fill))) (c .before .draw-mode .ensures)
+returns c =
+    let a = c .before .before .args in
+    c .radii-fit .ensures ∙ ap (radiiFit (a .rx) (a .ry) (filled (a .fill))) (c .before .draw-mode .ensures)
 
 pub radii-fit-spec : {M : Type 1} → statement M
 radii-fit-spec = tie.close (tie.spec draw-mode-requires radii-fit-requires returns)

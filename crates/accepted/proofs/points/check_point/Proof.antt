@@ -29,10 +29,14 @@ check-point-requires : tie.Need-check-point-requires
 check-point-requires c κs = part-screen (c .before .before .before .before .before .args .h .graphics) (c .before .before .before .before .before .args .memory .now) (c .before .before .before .before .before .pre .0) (c .before .before .before .before .before .pre .1) (c .before .canvas-of .ensures)
 
 returns : tie.Need-returns
-returns c = let a = c .before .before .before .before .before .before .before in ap flag (sym (c .if1 .taken) ∙ checked (a .args .h .graphics) (a .args .memory .now) (a .args .x) (a .args .y) (a .pre .0) (c .before .before .before .canvas-of .ensures) (rw (toZ-ofZ {w = w32} {z = a .args .x} (a .fits .x), toZ-ofZ {w = w32} {z = a .args .y} (a .fits .y)) at (c .before .check-point .ensures)))
+returns c =
+    let a = c .before .before .before .before .before .before .before in
+    ap flag (sym (c .if1 .taken) ∙ checked (a .args .h .graphics) (a .args .memory .now) (a .args .x) (a .args .y) (a .pre .0) (c .before .before .before .canvas-of .ensures) (rw (toZ-ofZ {w = w32} {z = a .args .x} (a .fits .x), toZ-ofZ {w = w32} {z = a .args .y} (a .fits .y)) at (c .before .check-point .ensures)))
 
 returns-2 : tie.Need-returns-2
-returns-2 c = let a = c .before .before .before .before .before .before .before in ap flag (sym (c .if1 .left) ∙ checked (a .args .h .graphics) (a .args .memory .now) (a .args .x) (a .args .y) (a .pre .0) (c .before .before .before .canvas-of .ensures) (rw (toZ-ofZ {w = w32} {z = a .args .x} (a .fits .x), toZ-ofZ {w = w32} {z = a .args .y} (a .fits .y)) at (c .before .check-point .ensures)))
+returns-2 c =
+    let a = c .before .before .before .before .before .before .before in
+    ap flag (sym (c .if1 .left) ∙ checked (a .args .h .graphics) (a .args .memory .now) (a .args .x) (a .args .y) (a .pre .0) (c .before .before .before .canvas-of .ensures) (rw (toZ-ofZ {w = w32} {z = a .args .x} (a .fits .x), toZ-ofZ {w = w32} {z = a .args .y} (a .fits .y)) at (c .before .check-point .ensures)))
 
 pub check-point-spec : {M : Type 1} → statement M
 check-point-spec =

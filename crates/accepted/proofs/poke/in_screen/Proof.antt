@@ -7,7 +7,9 @@ add-end : tie.Need-add-end
 add-end c = search needs
 
 returns : tie.Need-returns
-returns c = let a = c .before in in-screen (a .args .glass) (a .args .graphics) (a .args .address) (a .pre)
+returns c =
+    let a = c .before in
+    in-screen (a .args .glass) (a .args .graphics) (a .args .address) (a .pre)
 
 pub in-screen-spec : {M : Type 1} → statement M
 in-screen-spec = tie.close (tie.spec add-end returns)
