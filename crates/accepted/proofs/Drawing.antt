@@ -1,9 +1,11 @@
 -- Drawings over the screen part of memory, lent and come back, for any glass.
 use mathlib.Core.Path.{_≡_, refl, sym, ap, _∙_}
 use mathlib.Core.List.{List, []}
+use mathlib.Core.Bool.{Bool}
 use Prim.Native.Nat.{ℕ, zero, suc, _+_, _-_, _*_, _≤_}
 use native.Mathlib.Omega.{arith}
 use borrow.Rule.Slice.PartMut.{putMid}
+use lib.IntN.{ℤ}
 use lib.ListN.{length, take, drop, length-take, length-drop}
 use Rattle.model.specs.declared.Canvas.{Canvas}
 use Rattle.model.specs.declared.DrawMode.the-variants.{Unknown}
@@ -11,12 +13,12 @@ use Rattle.model.specs.declared.Head.{Head}
 use Rattle.model.specs.declared.Marks.{Marks}
 use Rattle.model.specs.declared.glass.Glass.{Glass}
 use Rattle.model.specs.Geometry.{height, screenBytes, cells}
-use Rattle.model.specs.Glass.{geometry, canvas}
+use Rattle.model.specs.Glass.{geometry, canvas, Suits}
 use Rattle.model.specs.Pixels.{Screen, seen}
-use Rattle.model.specs.Memory.{window, withWindow}
+use Rattle.model.specs.Memory.{window, withWindow, screenOf}
 use Rattle.model.specs.Record.{decode, encode, withHead}
 use Rattle.model.specs.Marks.{Drawing, Drawn, drawn, drawnOn, marked}
-use Rattle.model.specs.Points.{drawMode}
+use Rattle.model.specs.Points.{drawMode, isSet}
 use Rattle.model.specs.Calls.{lent, answered, drawingWith, drawing}
 use Rattle.laws.specs.Pixels.{length-draw}
 use Rattle.laws.specs.Parts.{part-window, part-back}
@@ -38,6 +40,25 @@ drawn-length : (st h : ℕ) (d : Drawing) (s : List ℕ) → length (drawnOn st 
 unfolding drawnOn
 drawn-length st h d s = length-draw st (seen st h (d .writes)) s
 
+-- v's screen at a of m
+pub part-screen : {v : Glass} (a : ℕ) (m : List ℕ) {k : Canvas} → Suits v → a + v .screen ≤ length m → k ≡ canvas v → Screen (k .stride) (k .height) (take (a + v .screen - a) (drop a m))
+part-screen {v} a m z l e =
+    rw e (record {
+      wide = omega (arith, z .glass .columns);
+      narrow = omega (arith, z .glass .cursor);
+      high = omega (arith, z .is-height, z .glass .row);
+      low = omega (arith, z .is-height, z .glass .high);
+      sized = part-length a (v .screen) m l ∙ z .is-screen ∙ ap (λ (n : ℕ). v .stride * n) (sym (z .is-height));
+    })
+
+-- what a check of the lent part tells
+pub checked : {v : Glass} (a : ℕ) (m : List ℕ) (x y : ℤ) {k : Canvas} {t : Bool} → Suits v → k ≡ canvas v
+    → t ≡ isSet (k .stride) (k .height) (take (a + v .screen - a) (drop a m)) x y
+    → t ≡ isSet (v .stride) (height (geometry v)) (screenOf (geometry v) a m) x y
+checked {v} a m x y z q e =
+    e ∙ (λ i. isSet (q i .stride) (q i .height) (part-window a (v .screen) m i) x y)
+    ∙ (λ i. isSet (v .stride) (z .is-height i) (window a (z .is-screen i) m) x y)
+
 module _ {v : Glass} {r : List ℕ} {h : Head} {m : List ℕ} (w : Given v r h m) where
   -- screen and text end within memory
   pub screen-in : h .graphics + v .screen ≤ 65535
@@ -53,15 +74,7 @@ module _ {v : Glass} {r : List ℕ} {h : Head} {m : List ℕ} (w : Given v r h m
   text-room = omega (arith, text-in, w .memory)
 
   pub screen-part : {k : Canvas} → k ≡ canvas v → Screen (k .stride) (k .height) (take (h .graphics + v .screen - h .graphics) (drop (h .graphics) m))
-  screen-part e =
-      let z = w .known .suits in
-      rw e (record {
-        wide = omega (arith, z .glass .columns);
-        narrow = omega (arith, z .glass .cursor);
-        high = omega (arith, z .is-height, z .glass .row);
-        low = omega (arith, z .is-height, z .glass .high);
-        sized = part-length (h .graphics) (v .screen) m screen-room ∙ z .is-screen ∙ ap (λ (n : ℕ). v .stride * n) (sym (z .is-height));
-      })
+  screen-part e = part-screen (h .graphics) m (w .known .suits) screen-room e
 
   -- what a drawing on the lent part leaves of record and memory, with the head that f makes; a and b are the mode as the code and as the definition has it
   pub drew-with : {A : Type 0} (f : Head → Head) (shape : ℕ → ℕ → A → Drawing) (c : Marks) (s : List ℕ) {a b : A} {k : Canvas} {t : List ℕ} {n : Head} → a ≡ b → k ≡ canvas v

@@ -1,5 +1,9 @@
 // What each accepted call does to the lent bytes, proved equal to `done` of the definitions.
+pub mod bitmaps;
+pub mod ellipses;
 pub mod flushes;
+pub mod lines;
 pub mod open;
 pub mod points;
+pub mod poke;
 pub mod sends;

@@ -6,8 +6,10 @@ use record::glass::canvas_of;
 use record::update;
 ghost use mathlib.Core.Path.{_≡_};
 ghost use mathlib.Core.List.{[]};
+ghost use Prim.Native.Nat.{_+_, _≤_};
+ghost use lib.ListN.{length};
 ghost use Rattle.model.specs.Geometry.{height};
-ghost use Rattle.model.specs.Glass.{geometry};
+ghost use Rattle.model.specs.Glass.{geometry, Suits};
 ghost use Rattle.model.specs.Memory.{screenOf};
 ghost use Rattle.model.specs.Points.{drawMode, isSet};
 ghost use Rattle.model.specs.Calls.{drawPoint, lent, answered, flag, done};
@@ -34,4 +36,19 @@ pub fn draw_point(rec: &mut [u8], memory: &mut [u8], glass: Glass, h: Head, x: u
     let d = draw_mode(mode);
     let m = draw::draw_point(canvas_of(glass), &mut memory[from..to], x, y, d);
     update::mark_record(rec, glass, h, m);
+}
+
+// Whether pixel (x, y) is set, 1 or 0.
+pub fn check_point(memory: &[u8], glass: Glass, h: Head, x: i32, y: i32) -> u32
+    requires { ⌜ Suits glass ⌝ }
+    requires { ⌜ h .graphics + glass .screen ≤ length (now memory) ⌝ }
+    ensures { λ r. ⌜ r ≡ flag (isSet (glass .stride) (height (geometry glass)) (screenOf (geometry glass) (h .graphics) (now (memory .entry))) x y) ⌝ }
+{
+    let from = h.graphics as usize;
+    let to = from + glass.screen;
+    if draw::check_point(canvas_of(glass), &memory[from..to], x, y) {
+        1
+    } else {
+        0
+    }
 }

@@ -1,10 +1,10 @@
 -- The ends of a call, once for all calls: refused at the entry, refused by a test of its own, done. All over the glass that the record's length chooses.
 use mathlib.Core.Path.{_≡_, refl, sym, ap, _∙_}
 use mathlib.Core.List.{List, [], _∷_, _++_}
-use mathlib.Core.Bool.{Bool, true, false, _&&_}
+use mathlib.Core.Bool.{Bool, true, false, not, _&&_}
 use Prim.Native.Nat.{ℕ, zero, suc, _<_, _≤_}
 use native.Mathlib.Omega.{arith}
-use borrow.Author.Tests.{eqb-true, lt-ltb, le-ltb}
+use borrow.Author.Tests.{eqb-true, not-true, not-false, lt-ltb, le-ltb}
 use lib.Dec.{eqb, ltb}
 use lib.ListN.{length}
 use Rattle.model.specs.declared.Head.{Head}
@@ -50,6 +50,13 @@ passes n ts e r = rw e r
 pub none-left : refusal [] ≡ 0
 unfolding refusal
 none-left = refl
+
+-- the test b as a function's answer t, refused where t is false
+pub failed : {b t : Bool} → t ≡ b → not t ≡ true → b ≡ false
+failed {t = t} e f = sym e ∙ not-true t f
+
+pub passed : {b t : Bool} → t ≡ b → not t ≡ false → b ≡ true
+passed {t = t} e f = sym e ∙ not-false t f
 
 -- ---- outcomes by the refusal's number
 

@@ -1,6 +1,10 @@
 // The exported calls: each tests all that it is given, and lends what it was lent on to what an accepted call does.
+pub mod bitmaps;
 pub mod dirty;
+pub mod ellipses;
+pub mod lines;
 pub mod open;
 pub mod place;
 pub mod points;
+pub mod poke;
 pub mod sends;

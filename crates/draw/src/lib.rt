@@ -9,5 +9,5 @@ pub use boxes::draw_box;
 pub use ellipse::draw_ellipse;
 pub use ellipse::radii_fit;
 pub use line::draw_line;
-pub use pixels::point::check_pixel;
+pub use pixels::point::check_point;
 pub use pixels::point::draw_point;

@@ -138,7 +138,7 @@ pub fn pixel(canvas: Canvas, screen: &[u8], x: usize, y: usize) -> bool
     screen[at] & mask != 0
 }
 
-pub fn check_pixel(canvas: Canvas, screen: &[u8], x: i32, y: i32) -> bool
+pub fn check_point(canvas: Canvas, screen: &[u8], x: i32, y: i32) -> bool
     requires { ⌜ Screen (canvas .stride) (canvas .height) (now screen) ⌝ }
     ensures { λ r. ⌜ r ≡ isSet (canvas .stride) (canvas .height) (now (screen .entry)) x y ⌝ }
 {

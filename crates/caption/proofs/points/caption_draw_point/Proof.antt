@@ -21,7 +21,7 @@ same-length-2 : tie.Need-same-length-2
 same-length-2 c = search needs
 
 returns-2 : tie.Need-returns-2
-returns-2 c = stops-later _ _ refl (c .before .before .enter .ensures) (c .before .if1 .left) VALUE (fails [] (lt-leb _ _ (c .if2 .taken))) (λ z. omega arith)
+returns-2 c = stops-later _ _ refl (c .before .before .enter .ensures) (c .before .if1 .left) VALUE (fails [] (lt-leb (c .before .before .before .before .before .before .args .mode) 3 (omega (arith, c .if2 .taken)))) (λ z. omega arith)
 
 glass-of-requires : tie.Need-glass-of-requires
 glass-of-requires c κs = search needs
@@ -36,7 +36,7 @@ same-length-4 : tie.Need-same-length-4
 same-length-4 c = search needs
 
 returns-3 : tie.Need-returns-3
-returns-3 c = ends _ _ refl (c .before .before .before .before .before .before .before .before .before .before .enter .ensures) (c .before .before .before .before .before .before .before .before .before .if1 .left) (c .before .before .before .before .before .glass-of .ensures) (passes VALUE [] (le-leb _ _ (c .before .before .before .before .before .before .before .before .if2 .left)) none-left) (c .before .before .before .before .draw-point .ensures)
+returns-3 c = ends _ _ refl (c .before .before .before .before .before .before .before .before .before .before .enter .ensures) (c .before .before .before .before .before .before .before .before .before .if1 .left) (c .before .before .before .before .before .glass-of .ensures) (passes VALUE [] (le-leb (c .before .before .before .before .before .before .before .before .before .before .before .before .before .before .args .mode) 3 (omega (arith, c .before .before .before .before .before .before .before .before .if2 .left))) none-left) (c .before .before .before .before .draw-point .ensures)
 
 pub caption-draw-point-spec : {M : Type 1} → statement M
 caption-draw-point-spec =

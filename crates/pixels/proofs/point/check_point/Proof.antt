@@ -1,8 +1,8 @@
 use Rattle.pixels.proofs.Axis.{axis-given}
 use Rattle.laws.specs.Points.{check-on, check-below, check-beside}
 use borrow.Author.Needs.{needs}
-use Rattle.pixels.proofs.point.check_pixel.Statement.{statement}
-use Rattle.pixels.proofs.point.check_pixel.Tie as tie
+use Rattle.pixels.proofs.point.check_point.Statement.{statement}
+use Rattle.pixels.proofs.point.check_point.Tie as tie
 
 mul-width : tie.Need-mul-width
 mul-width c = search needs
@@ -34,7 +34,7 @@ returns-3 c =
     let a = c .before .before .before .before .before in
     check-beside _ _ _ (a .args .x) (a .args .y) (axis-given _ (a .args .x) (a .good .1 .1 .0) (c .before .before .axis .ensures)) (c .if1 .left)
 
-pub check-pixel-spec : {M : Type 1} → statement M
-check-pixel-spec =
+pub check-point-spec : {M : Type 1} → statement M
+check-point-spec =
     tie.close
     (tie.spec mul-width axis-requires axis-requires-2 pixel-requires returns returns-2 returns-3)

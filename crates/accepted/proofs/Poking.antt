@@ -1,0 +1,76 @@
+-- Pokes: ignored, on the screen, elsewhere.
+use mathlib.Core.Path.{_≡_, sym, ap, _∙_}
+use mathlib.Core.List.{List, []}
+use mathlib.Core.Bool.{Bool, true, false, _||_, _&&_}
+use Prim.Native.Nat.{ℕ, _+_, _-_, _*_, _/_, _%_, _<_, _≤_}
+use native.Mathlib.Nat.{mod-lt, div-lt-iff-lt-mul, mul-comm, mul-le-mul-left}
+use native.Mathlib.Omega.{arith}
+use borrow.Author.Tests.{leb-true, ltb-true}
+use lib.Dec.{leb, ltb}
+use lib.ListN.{set}
+use Rattle.model.specs.declared.Rect.{Rect}
+use Rattle.model.specs.declared.Head.{Head}
+use Rattle.model.specs.declared.Marks.{Marks}
+use Rattle.model.specs.declared.glass.Glass.{Glass}
+use Rattle.model.specs.Geometry.{screenBytes}
+use Rattle.model.specs.Glass.{geometry, Suits}
+use Rattle.model.specs.Record.{decode, encode}
+use Rattle.model.specs.Marks.{marked}
+use Rattle.model.specs.Open.{isKey}
+use Rattle.model.specs.Poke.{ignored, poked, byteRect, inScreen, pokeMark}
+use Rattle.model.specs.Calls.{writeByte, lent, answered, done}
+use Rattle.laws.specs.Tests.{and-true}
+use Rattle.laws.specs.Points.{both}
+use Rattle.laws.specs.Updates.{unmarked}
+use Rattle.accepted.specs.Given.{Given}
+
+pub is-ignored : (keys : List ℕ) (a : ℕ) {k : Bool} → k ≡ isKey keys a → (leb 57344 a || k) ≡ ignored keys a
+unfolding ignored
+is-ignored keys a e = ap (λ (b : Bool). leb 57344 a || b) e
+
+pub in-screen : (v : Glass) (g a : ℕ) → Suits v → (leb g a && ltb a (g + v .screen)) ≡ inScreen (geometry v) g a
+unfolding inScreen
+in-screen v g a z = ap (λ (n : ℕ). leb g a && ltb a (g + n)) (z .is-screen)
+
+pub from-base : (v : Glass) (g a : ℕ) {b : Bool} → b ≡ inScreen (geometry v) g a → b ≡ true → g ≤ a
+unfolding inScreen
+from-base v g a e f = leb-true g a (and-true (leb g a) (ltb a (g + screenBytes (geometry v))) (sym e ∙ f) .0)
+
+pub on-screen : (v : Glass) (g a : ℕ) {b : Bool} → Suits v → b ≡ inScreen (geometry v) g a → b ≡ true → (v .stride ≤ 32) × (a - g < v .stride * 256)
+unfolding inScreen
+on-screen v g a z e f =
+    let s = screenBytes (geometry v) in
+    let p = and-true (leb g a) (ltb a (g + s)) (sym e ∙ f) in
+    let l : a < g + s = ltb-true a (g + s) (p .1) in
+    let k : s ≤ v .stride * 256 = mul-le-mul-left (v .stride) (z .glass .high) in
+    (omega (arith, z .glass .cursor), omega arith)
+
+-- the column and the line of a screen byte
+pub byte-place : (st i : ℕ) → i < st * 256 → (i % st < st) × (i / st < 256)
+byte-place st i h =
+    let l : 0 < st = omega arith in
+    (mod-lt i l, div-lt-iff-lt-mul {k = st} l .1 (rw (mul-comm 256 st) h))
+
+module _ {v : Glass} {r : List ℕ} {h : Head} {m : List ℕ} (w : Given v r h m) (a b : ℕ) where
+  pub poke-ignored : {t : Bool} → t ≡ ignored (decode (geometry v) r .keys) a → t ≡ true
+      → answered 0 [] (lent r m []) ≡ done (geometry v) (writeByte a b) (lent r m [])
+  unfolding done poked pokeMark
+  poke-ignored e f = rw (sym e ∙ f) (λ i. answered 0 [] (lent (sym (unmarked (geometry v) r (w .known .passing)) i) m []))
+
+  module _ {t u : Bool} (e : t ≡ ignored (decode (geometry v) r .keys) a) (f : t ≡ false) (p : u ≡ inScreen (geometry v) (h .graphics) a) where
+    pub poke-elsewhere : u ≡ false → answered 0 [] (lent r (set m a b) []) ≡ done (geometry v) (writeByte a b) (lent r m [])
+    unfolding done poked pokeMark
+    poke-elsewhere l =
+        let g = geometry v in
+        let o = sym (ap (λ (x : Head). inScreen g (x .graphics) a) (w .head)) ∙ sym p ∙ l in
+        rw (sym e ∙ f, o) (λ i. answered 0 [] (lent (sym (unmarked g r (w .known .passing)) i) (set m a b) []))
+
+    pub poke-screen : {q : Rect} {k : Marks} {s : List ℕ} → u ≡ true → q ≡ byteRect (v .stride) (a - h .graphics) → k ≡ both q
+        → s ≡ encode (geometry v) (marked (geometry v) (k .dirty) (k .owed) (decode (geometry v) r))
+        → answered 0 [] (lent s (set m a b) []) ≡ done (geometry v) (writeByte a b) (lent r m [])
+    unfolding done poked pokeMark
+    poke-screen l c j n =
+        let g = geometry v in
+        let o = sym (ap (λ (x : Head). inScreen g (x .graphics) a) (w .head)) ∙ sym p ∙ l in
+        let k = j ∙ ap both (c ∙ ap (λ (x : Head). byteRect (v .stride) (a - x .graphics)) (w .head)) in
+        rw (sym e ∙ f, o) (λ i. answered 0 [] (lent ((n ∙ ap (λ (x : Marks). encode g (marked g (x .dirty) (x .owed) (decode g r))) k) i) (set m a b) []))

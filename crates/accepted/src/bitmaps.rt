@@ -1,0 +1,68 @@
+// Bitmaps: `paint_bitmap`.
+use model::Head;
+use model::PaintMode;
+use model::glass::Glass;
+use record::glass::canvas_of;
+use record::update;
+ghost use mathlib.Core.Bool.{true};
+ghost use mathlib.Core.Path.{_≡_};
+ghost use mathlib.Core.List.{[]};
+ghost use Rattle.model.specs.Glass.{geometry};
+ghost use Rattle.model.specs.Bitmaps.{paintMode, sourceFits};
+ghost use Rattle.model.specs.Calls.{paintBitmap, lent, answered, done};
+ghost use Rattle.accepted.specs.Given.{Given};
+pub use bitmap::source_fits;
+
+// The longest source, 255 lines of 32 bytes.
+const SOURCE_BYTES: usize = 8160;
+
+// The listed paint modes; what is not listed is refused before.
+fn paint_mode(mode: u8) -> PaintMode
+    ensures { λ r. ⌜ r ≡ paintMode mode ⌝ }
+{
+    match mode {
+        0 => PaintMode::Copy,
+        1 => PaintMode::Or,
+        2 => PaintMode::Not,
+        3 => PaintMode::And,
+        _ => PaintMode::Xor,
+    }
+}
+
+// The source may share bytes with the screen: it is kept as it is before the first pixel is painted.
+pub fn paint_bitmap(
+    rec: &mut [u8],
+    memory: &mut [u8],
+    glass: Glass,
+    h: Head,
+    address: u16,
+    x: i32,
+    y: i32,
+    width: u8,
+    height: u8,
+    mode: u8,
+)
+    requires { ⌜ Given glass (now rec) h (now memory) ⌝ }
+    requires { ⌜ sourceFits address width height ≡ true ⌝ }
+    ensures { λ _. ⌜ answered 0 [] (lent (now (rec .exit)) (now (memory .exit)) []) ≡ done (geometry glass) (paintBitmap address x y width height mode) (lent (now (rec .entry)) (now (memory .entry)) []) ⌝ }
+{
+    let start = address as usize;
+    let count = bitmap::source_bytes(width, height);
+    let end = start + count;
+    let mut source = [0u8; SOURCE_BYTES];
+    slices::put_bytes(&mut source, 0, &memory[start..end]);
+    let from = h.graphics as usize;
+    let to = from + glass.screen;
+    let d = paint_mode(mode);
+    let m = bitmap::paint_bitmap(
+        canvas_of(glass),
+        &mut memory[from..to],
+        &source[..count],
+        x,
+        y,
+        width,
+        height,
+        d,
+    );
+    update::mark_record(rec, glass, h, m);
+}

@@ -1,0 +1,53 @@
+// Ellipses, and circles, which are ellipses: `draw_ellipse`.
+use crate::points::draw_mode;
+use model::Head;
+use model::glass::Glass;
+use record::glass::canvas_of;
+use record::update;
+ghost use mathlib.Core.Bool.{true};
+ghost use mathlib.Core.Path.{_≡_};
+ghost use mathlib.Core.List.{[]};
+ghost use Rattle.model.specs.Glass.{geometry};
+ghost use Rattle.model.specs.Points.{drawMode};
+ghost use Rattle.model.specs.Ellipses.{radiiFit};
+ghost use Rattle.model.specs.Calls.{drawEllipse, filled, lent, answered, done};
+ghost use Rattle.accepted.specs.Given.{Given};
+
+// What RADIUS tests.
+pub fn radii_fit(rx: u8, ry: u8, fill: u8, mode: u8) -> bool
+    ensures { λ r. ⌜ r ≡ radiiFit rx ry (filled fill) (drawMode mode) ⌝ }
+{
+    draw::radii_fit(rx, ry, fill == 1, draw_mode(mode))
+}
+
+pub fn draw_ellipse(
+    rec: &mut [u8],
+    memory: &mut [u8],
+    glass: Glass,
+    h: Head,
+    x: u8,
+    y: u8,
+    rx: u8,
+    ry: u8,
+    fill: u8,
+    mode: u8,
+)
+    requires { ⌜ Given glass (now rec) h (now memory) ⌝ }
+    requires { ⌜ radiiFit rx ry (filled fill) (drawMode mode) ≡ true ⌝ }
+    ensures { λ _. ⌜ answered 0 [] (lent (now (rec .exit)) (now (memory .exit)) []) ≡ done (geometry glass) (drawEllipse x y rx ry fill mode) (lent (now (rec .entry)) (now (memory .entry)) []) ⌝ }
+{
+    let from = h.graphics as usize;
+    let to = from + glass.screen;
+    let d = draw_mode(mode);
+    let m = draw::draw_ellipse(
+        canvas_of(glass),
+        &mut memory[from..to],
+        x,
+        y,
+        rx,
+        ry,
+        fill == 1,
+        d,
+    );
+    update::mark_record(rec, glass, h, m);
+}

@@ -1,0 +1,63 @@
+// A byte of memory set from outside: `write_byte`.
+use marks::span::owed_as_is;
+use model::Head;
+use model::Rect;
+use model::glass::Glass;
+use record::keys;
+use record::update;
+ghost use mathlib.Core.Path.{_≡_};
+ghost use mathlib.Core.List.{[]};
+ghost use Prim.Native.Nat.{_*_, _<_, _≤_};
+ghost use Rattle.model.specs.Glass.{geometry, Suits};
+ghost use Rattle.model.specs.Record.{decode};
+ghost use Rattle.model.specs.Poke.{ignored, inScreen, byteRect};
+ghost use Rattle.model.specs.Calls.{writeByte, lent, answered, done};
+ghost use Rattle.laws.specs.Panels.{Known};
+ghost use Rattle.accepted.specs.Given.{Given};
+
+// Addresses from 0xe000 on and key addresses.
+fn is_ignored(rec: &[u8], glass: Glass, address: u16) -> bool
+    requires { ⌜ Known glass (now rec) ⌝ }
+    ensures { λ r. ⌜ r ≡ ignored (decode (geometry glass) (now (rec .entry)) .keys) address ⌝ }
+{
+    (address >= 57344) | keys::is_key(rec, glass, address as usize)
+}
+
+fn in_screen(glass: Glass, graphics: u16, address: u16) -> bool
+    requires { ⌜ Suits glass ⌝ }
+    ensures { λ r. ⌜ r ≡ inScreen (geometry glass) graphics address ⌝ }
+{
+    let end = (graphics as usize) + glass.screen;
+    (graphics <= address) & ((address as usize) < end)
+}
+
+// The eight pixels of a screen byte.
+fn byte_rect(stride: usize, i: usize) -> Rect
+    requires { ⌜ (stride ≤ 32) × (i < stride * 256) ⌝ }
+    ensures { λ r. ⌜ r ≡ byteRect stride i ⌝ }
+{
+    let left = (8 * (i % stride)) as u16;
+    let top = (i / stride) as u16;
+    Rect {
+        left: left,
+        top: top,
+        right: left + 8,
+        bottom: top + 1,
+    }
+}
+
+pub fn write_byte(rec: &mut [u8], memory: &mut [u8], glass: Glass, h: Head, address: u16, byte: u8)
+    requires { ⌜ Given glass (now rec) h (now memory) ⌝ }
+    ensures { λ _. ⌜ answered 0 [] (lent (now (rec .exit)) (now (memory .exit)) []) ≡ done (geometry glass) (writeByte address byte) (lent (now (rec .entry)) (now (memory .entry)) []) ⌝ }
+{
+    if is_ignored(rec, glass, address) {
+        return;
+    }
+    memory[address as usize] = byte;
+    let graphics = h.graphics;
+    if !in_screen(glass, graphics, address) {
+        return;
+    }
+    let q = byte_rect(glass.stride, (address - graphics) as usize);
+    update::mark_record(rec, glass, h, owed_as_is(q));
+}

@@ -1,0 +1,49 @@
+// `caption_paint_bitmap`.
+use accepted::bitmaps;
+use model::glass::MEMORY_BYTES;
+use model::refusal;
+use record::entry;
+use record::glass::glass_of;
+ghost use mathlib.Core.Path.{_≡_};
+ghost use mathlib.Core.List.{[]};
+ghost use Rattle.model.specs.Geometry.{base};
+ghost use Rattle.model.specs.Calls.{paintBitmap, lent, answered, outcome};
+
+#[no_mangle]
+pub extern "C" fn caption_paint_bitmap(
+    rec: &mut [u8],
+    memory: &mut [u8],
+    address: u16,
+    x: i32,
+    y: i32,
+    width: u8,
+    height: u8,
+    mode: u8,
+) -> u32
+    ensures { λ r. ⌜ answered r [] (lent (now (rec .exit)) (now (memory .exit)) []) ≡ outcome base (paintBitmap address x y width height mode) (lent (now (rec .entry)) (now (memory .entry)) []) ⌝ }
+{
+    let e = entry::enter(rec, memory.len() == MEMORY_BYTES);
+    let code = e.code;
+    if code != 0 {
+        return code;
+    }
+    if mode > 4 {
+        return refusal::VALUE;
+    }
+    if !bitmaps::source_fits(memory.len(), address, width, height) {
+        return refusal::SOURCE;
+    }
+    bitmaps::paint_bitmap(
+        rec,
+        memory,
+        glass_of(rec.len()),
+        e.head,
+        address,
+        x,
+        y,
+        width,
+        height,
+        mode,
+    );
+    0
+}
