@@ -1,1 +1,4 @@
 pub mod Drawing
+pub mod Clearing
+pub mod Blinking
+pub mod Printing
