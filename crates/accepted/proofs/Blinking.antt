@@ -1,6 +1,6 @@
 -- The cursor: the byte under it, the one that a blink inverts, and what a blink leaves.
 use mathlib.Core.Path.{_≡_, sym, ap, _∙_}
-use mathlib.Core.Bool.{true}
+use mathlib.Core.Bool.{Bool, true, false}
 use mathlib.Core.List.{List, []}
 use Prim.Native.Nat.{ℕ, _+_, _-_, _*_, _<_, _≤_}
 use native.Mathlib.Omega.{arith}
@@ -15,7 +15,7 @@ use Rattle.model.specs.declared.DrawMode.the-variants.{Xor}
 use Rattle.model.specs.declared.Head.{Head}
 use Rattle.model.specs.declared.Marks.{Marks}
 use Rattle.model.specs.declared.glass.Glass.{Glass}
-use Rattle.model.specs.Geometry.{columns, cells}
+use Rattle.model.specs.Geometry.{glyphHeight, columns, cells}
 use Rattle.model.specs.Glass.{geometry, canvas, Suits}
 use Rattle.model.specs.Memory.{window}
 use Rattle.model.specs.Record.{decode, encode, withHead}
@@ -32,24 +32,22 @@ use Rattle.accepted.proofs.Drawing.{drew-with}
 -- ---- where it stands
 
 module _ {v : Glass} {h : Head} (z : Suits v) (n : Numbers (geometry v) h) where
-  pub cell-in : h .row * v .columns + h .column < v .cells
-  cell-in = rw (z .is-cells, z .is-columns) (digits-lt {r = h .column} {c = columns (geometry v)} (n .row) (n .column))
+  cell-of : h .row * columns (geometry v) + h .column < cells (geometry v)
+  cell-of = digits-lt {r = h .column} {c = columns (geometry v)} (n .row) (n .column)
 
-  pub text-end : h .text + v .cells ≤ 65535
-  text-end = omega (arith, n .text, z .is-cells, z .glass .text)
+  pub cell-in : h .row * v .columns + h .column < v .cells
+  cell-in = rw (z .is-cells, z .is-columns) cell-of
 
   -- the cell's byte in memory
   pub byte-under : (m : List ℕ) → getD m (h .text + (h .row * v .columns + h .column)) 0 ≡ underCursor (geometry v) h m
   unfolding window
   byte-under m =
-      let g = geometry v in
-      let at = h .row * columns g + h .column in
-      let l : at < cells g = digits-lt {r = h .column} {c = columns g} (n .row) (n .column) in
+      let at = h .row * columns (geometry v) + h .column in
       ap (λ (k : ℕ). getD m (h .text + (h .row * k + h .column)) 0) (z .is-columns)
-      ∙ sym (getD-take (cells g) (drop (h .text) m) at 0 l ∙ getD-drop (h .text) m at 0)
+      ∙ sym (getD-take (cells (geometry v)) (drop (h .text) m) at 0 cell-of ∙ getD-drop (h .text) m at 0)
 
   -- its box has bytes as coordinates
-  pub box-bottom : 16 * h .row + 16 ≤ 256
+  pub box-bottom : glyphHeight * h .row + glyphHeight ≤ 256
   box-bottom = omega (arith, n .row, z .glass .filled, z .glass .high)
 
   pub box-right : 8 * h .column + 16 ≤ 256
@@ -57,11 +55,11 @@ module _ {v : Glass} {h : Head} (z : Suits v) (n : Numbers (geometry v) h) where
 
 -- its right end as the code has it
 pub is-cursor-box : (st y row column cursor : ℕ) (s : List ℕ) → 1 ≤ cursor
-    → drawnOn st y (box st y (8 * column) (16 * row) (8 * column + (8 * cursor - 1)) (16 * row + 15) true Xor) s ≡ drawnOn st y (cursorBox st y row column cursor) s
+    → drawnOn st y (box st y (8 * column) (glyphHeight * row) (8 * column + (8 * cursor - 1)) (glyphHeight * row + (glyphHeight - 1)) true Xor) s ≡ drawnOn st y (cursorBox st y row column cursor) s
 unfolding cursorBox
 is-cursor-box st y row column cursor s h =
     let e : 8 * column + (8 * cursor - 1) ≡ 8 * column + 8 * cursor - 1 = omega arith in
-    ap (λ (x : ℕ). drawnOn st y (box st y (8 * column) (16 * row) x (16 * row + 15) true Xor) s) e
+    ap (λ (x : ℕ). drawnOn st y (box st y (8 * column) (glyphHeight * row) x (glyphHeight * row + (glyphHeight - 1)) true Xor) s) e
 
 -- ---- which it is
 
@@ -101,13 +99,20 @@ blink-fits cursor b h e =
 -- ---- what is left
 
 module _ {v : Glass} {r : List ℕ} {h : Head} {m : List ℕ} (w : Given v r h m) where
+  -- a test of the head is one of the record's
+  told : (t : Head → Bool) {b : Bool} → t h ≡ b → t (decode (geometry v) r .head) ≡ b
+  told t e = ap t (sym (w .head)) ∙ e
+
   in-text : h .screen ≡ 0 → eqb (decode (geometry v) r .head .screen) 0 ≡ true
-  in-text z = ap (λ (x : Head). eqb (x .screen) 0) (sym (w .head)) ∙ eq-eqb (h .screen) 0 z
+  in-text z = told (λ x. eqb (x .screen) 0) (eq-eqb (h .screen) 0 z)
+
+  in-graph : (h .screen ≡ 0 → ⊥) → eqb (decode (geometry v) r .head .screen) 0 ≡ false
+  in-graph z = told (λ x. eqb (x .screen) 0) (ne-eqb (h .screen) 0 z)
 
   -- in Graph a blink does nothing
   pub blink-graph : (h .screen ≡ 0 → ⊥) → lent r m [] ≡ blinked (geometry v) (lent r m [])
   unfolding blinked
-  blink-graph z = rw (ap (λ (x : Head). eqb (x .screen) 0) (sym (w .head)) ∙ ne-eqb (h .screen) 0 z)
+  blink-graph z = rw (in-graph z)
 
   -- in Text it is a drawing, with another head
   pub blink-drew : (c : Marks) (s : List ℕ) {b k d : ℕ} {a : Canvas} {n : Head} {t : List ℕ} → h .screen ≡ 0 → b ≡ underCursor (geometry v) h m → k ≡ blinkOf (h .cursor) b → a ≡ canvas v
@@ -124,17 +129,20 @@ module _ {v : Glass} {r : List ℕ} {h : Head} {m : List ℕ} (w : Given v r h m
   -- none is shown
   pub clear-none : h .cursor ≡ 0 → lent r m [] ≡ cursorCleared (geometry v) (lent r m [])
   unfolding cursorCleared
-  clear-none z = rw (ap (λ (x : Head). eqb (x .cursor) 0) (sym (w .head)) ∙ eq-eqb (h .cursor) 0 z)
+  clear-none z = rw (told (λ x. eqb (x .cursor) 0) (eq-eqb (h .cursor) 0 z))
 
   module _ (z : h .cursor ≡ 0 → ⊥) where
+    is-shown : eqb (decode (geometry v) r .head .cursor) 0 ≡ false
+    is-shown = told (λ x. eqb (x .cursor) 0) (ne-eqb (h .cursor) 0 z)
+
     pub clear-blinks : h .screen ≡ 0 → blinked (geometry v) (lent r m []) ≡ cursorCleared (geometry v) (lent r m [])
     unfolding cursorCleared
-    clear-blinks q = rw (ap (λ (x : Head). eqb (x .cursor) 0) (sym (w .head)) ∙ ne-eqb (h .cursor) 0 z, in-text q)
+    clear-blinks q = rw (is-shown, in-text q)
 
     pub clear-graph : {n : Head} {t : List ℕ} → (h .screen ≡ 0 → ⊥) → n ≡ withCursor 0 h → t ≡ encode (geometry v) (withHead n (decode (geometry v) r))
         → lent t m [] ≡ cursorCleared (geometry v) (lent r m [])
     unfolding cursorCleared changed
     clear-graph q e f =
         let g = geometry v in
-        rw (ap (λ (x : Head). eqb (x .cursor) 0) (sym (w .head)) ∙ ne-eqb (h .cursor) 0 z, ap (λ (x : Head). eqb (x .screen) 0) (sym (w .head)) ∙ ne-eqb (h .screen) 0 q)
+        rw (is-shown, in-graph q)
         (λ i. lent ((f ∙ ap (λ (x : Head). encode g (withHead x (decode g r))) (e ∙ ap (withCursor 0) (w .head))) i) m [])

@@ -12,7 +12,7 @@ use Rattle.model.specs.declared.Canvas.{Canvas}
 use Rattle.model.specs.declared.Head.{Head}
 use Rattle.model.specs.declared.Marks.{Marks}
 use Rattle.model.specs.declared.glass.Glass.{Glass}
-use Rattle.model.specs.Geometry.{rows, columns, height, cells}
+use Rattle.model.specs.Geometry.{glyphHeight, rows, height, cells, rowBytes}
 use Rattle.model.specs.Glass.{geometry, canvas}
 use Rattle.model.specs.Rects.{none}
 use Rattle.model.specs.Memory.{window, withWindow}
@@ -46,7 +46,7 @@ textPart v h m = take (h .text + v .cells - h .text) (drop (h .text) m)
 abbrev flagsPart : Glass → List ℕ → List ℕ
 flagsPart v r = take (v .others - v .flags) (drop (v .flags) r)
 
-rows-of : (s r : ℕ) → s * (16 * r) ≡ r * (16 * s)
+rows-of : (s r : ℕ) → s * (glyphHeight * r) ≡ r * (glyphHeight * s)
 rows-of s r = omega arith
 
 module _ {v : Glass} {r : List ℕ} {h : Head} {m : List ℕ} (w : Given v r h m) where
@@ -55,19 +55,19 @@ module _ {v : Glass} {r : List ℕ} {h : Head} {m : List ℕ} (w : Given v r h m
   some-rows : 0 < v .rows
   some-rows = let z = w .known .suits in omega (arith, z .is-rows, z .glass .row)
 
-  screen-rows : length (screenPart v h m) ≡ v .rows * (16 * v .stride)
+  screen-rows : length (screenPart v h m) ≡ v .rows * rowBytes (geometry v)
   screen-rows =
       let z = w .known .suits in
       part-length (h .graphics) (v .screen) m (screen-room w) ∙ z .is-screen ∙ ap (λ (n : ℕ). v .stride * n) (sym (z .glass .filled)) ∙ rows-of (v .stride) (rows (geometry v))
-      ∙ ap (λ (n : ℕ). n * (16 * v .stride)) (sym (z .is-rows))
+      ∙ ap (λ (n : ℕ). n * rowBytes (geometry v)) (sym (z .is-rows))
 
-  pub rows-lent : (length (screenPart v h m) ≡ v .rows * (16 * v .stride)) × (0 < v .rows)
+  pub rows-lent : (length (screenPart v h m) ≡ v .rows * rowBytes (geometry v)) × (0 < v .rows)
   rows-lent = (screen-rows, some-rows)
 
   pub place-short : (p : Place) → (p .row < v .rows) × (p .column < v .columns) → (p .row < 256) × (p .column < 256)
   place-short p l = let z = w .known .suits in (omega (arith, l .0, z .is-rows, z .glass .filled, z .glass .high), omega (arith, l .1, z .is-columns, z .glass .cursor))
 
-  pub page-follows : (p : Place) {n : ℕ} {a : Head} {k : Canvas} {c : Marks} {s t : List ℕ} → n ≡ screenScrolls (h .screen) (p .scrolls) → s ≡ scrolledTimes n (16 * v .stride) (screenPart v h m)
+  pub page-follows : (p : Place) {n : ℕ} {a : Head} {k : Canvas} {c : Marks} {s t : List ℕ} → n ≡ screenScrolls (h .screen) (p .scrolls) → s ≡ scrolledTimes n (rowBytes (geometry v)) (screenPart v h m)
       → k ≡ canvas v → c .dirty ≡ none → c .owed ≡ scrollMark (k .stride) (k .height) n → a ≡ atPlace (p .row) (p .column) h
       → t ≡ encode (geometry v) (marked (geometry v) (c .dirty) (c .owed) (withHead a (decode (geometry v) r)))
       → PageStored (geometry v) r m h p t (putMid (h .graphics) (h .graphics + v .screen - h .graphics) m s)
@@ -76,14 +76,14 @@ module _ {v : Glass} {r : List ℕ} {h : Head} {m : List ℕ} (w : Given v r h m
       let g = geometry v in
       let z = w .known .suits in
       let at = h .graphics in
-      let row : 1 * (16 * v .stride) ≤ v .rows * (16 * v .stride) = mul-le-mul-right {m = 1} {n = v .rows} (16 * v .stride) some-rows in
+      let row : 1 * rowBytes (geometry v) ≤ v .rows * rowBytes (geometry v) = mul-le-mul-right {m = 1} {n = v .rows} (rowBytes g) some-rows in
       let size : length s ≡ at + v .screen - at =
-      ap length f ∙ length-times n (16 * v .stride) (screenPart v h m) (rw screen-rows (rw one-mul at row)) ∙ part-length at (v .screen) m (screen-room w) ∙ omega arith in
+      ap length f ∙ length-times n (rowBytes g) (screenPart v h m) (rw screen-rows (rw one-mul at row)) ∙ part-length at (v .screen) m (screen-room w) ∙ omega arith in
       let owed = o ∙ (λ i. scrollMark (k i .stride) (k i .height) (e i)) ∙ ap (λ (y : ℕ). scrollMark (v .stride) y (screenScrolls (h .screen) (p .scrolls))) (z .is-height) in
       record {
         rec = q ∙ (λ i. encode g (marked g (d i) (owed i) (withHead (a i) (decode g r))));
         memory = part-back at (at + v .screen) m s (omega arith) size
-            ∙ ap (λ (x : List ℕ). withWindow at x m) (f ∙ (λ i. scrolledTimes (e i) (16 * v .stride) ((part-window at (v .screen) m ∙ ap (λ (y : ℕ). window at y m) (z .is-screen)) i)));
+            ∙ ap (λ (x : List ℕ). withWindow at x m) (f ∙ (λ i. scrolledTimes (e i) (rowBytes g) ((part-window at (v .screen) m ∙ ap (λ (y : ℕ). window at y m) (z .is-screen)) i)));
       }
 
   -- ---- the page, lent in two parts

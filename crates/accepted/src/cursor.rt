@@ -11,7 +11,7 @@ ghost use mathlib.Core.Path.{_≡_};
 ghost use mathlib.Core.List.{[]};
 ghost use Prim.Native.Nat.{_+_, _*_, _≤_};
 ghost use lib.ListN.{length};
-ghost use Rattle.model.specs.Geometry.{memoryBytes};
+ghost use Rattle.model.specs.Geometry.{glyphHeight};
 ghost use Rattle.model.specs.Glass.{geometry, Suits};
 ghost use Rattle.model.specs.Pixels.{Screen};
 ghost use Rattle.model.specs.Marks.{drawn, drawnOn};
@@ -53,7 +53,7 @@ fn with_cursor(h: Head, cursor: u8) -> Head
 fn under_cursor(memory: &[u8], glass: Glass, h: Head) -> u8
     requires { ⌜ Suits glass ⌝ }
     requires { ⌜ Numbers (geometry glass) h ⌝ }
-    requires { ⌜ length (now memory) ≡ memoryBytes ⌝ }
+    requires { ⌜ h .text + glass .cells ≤ length (now memory) ⌝ }
     ensures { λ r. ⌜ r ≡ underCursor (geometry glass) h (now (memory .entry)) ⌝ }
 {
     let text = h.text as usize;
@@ -64,7 +64,7 @@ fn under_cursor(memory: &[u8], glass: Glass, h: Head) -> u8
 // A full cursor at the last column inverts that column alone and marks the next too: the box is clamped to the screen.
 fn invert_cursor(canvas: Canvas, screen: &mut [u8], row: u8, column: u8, cursor: u8) -> Marks
     requires { ⌜ Screen (canvas .stride) (canvas .height) (now screen) ⌝ }
-    requires { ⌜ (16 * row + 16 ≤ 256) × (8 * column + 16 ≤ 256) × (1 ≤ cursor) × (cursor ≤ 2) ⌝ }
+    requires { ⌜ (glyphHeight * row + glyphHeight ≤ 256) × (8 * column + 16 ≤ 256) × (1 ≤ cursor) × (cursor ≤ 2) ⌝ }
     ensures { λ r. ⌜ drawn r (now (screen .exit)) ≡ drawnOn (canvas .stride) (canvas .height) (cursorBox (canvas .stride) (canvas .height) row column cursor) (now (screen .entry)) ⌝ }
 {
     let left = 8 * column;

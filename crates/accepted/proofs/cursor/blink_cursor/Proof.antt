@@ -2,7 +2,7 @@ use mathlib.Core.Path.{ap}
 use mathlib.Core.List.{[]}
 use Rattle.model.specs.Calls.{answered, done}
 use Rattle.laws.specs.Updates.{head-numbers}
-use Rattle.accepted.proofs.Drawing.{screen-room, screen-part}
+use Rattle.accepted.proofs.Drawing.{screen-room, screen-part, text-room}
 use Rattle.accepted.proofs.Blinking.{blink-graph, blink-fits, box-bottom, box-right, blink-drew}
 use borrow.Author.Needs.{needs}
 use Rattle.accepted.proofs.cursor.blink_cursor.Statement.{statement}
@@ -13,7 +13,7 @@ unfolding done
 returns c = ap (answered 0 []) (blink-graph (c .before .before .before .pre) (c .if1 .taken))
 
 under-cursor-requires : tie.Need-under-cursor-requires
-under-cursor-requires c κs = let w = c .before .before .before .before .pre in (w .known .suits, (head-numbers _ _ _ (w .known) (w .head), w .memory))
+under-cursor-requires c κs = let w = c .before .before .before .before .pre in (w .known .suits, (head-numbers _ _ _ (w .known) (w .head), text-room w))
 
 cast-from : tie.Need-cast-from
 cast-from c = search needs
