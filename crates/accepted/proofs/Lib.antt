@@ -4,3 +4,6 @@ pub mod Opening
 pub mod Flushing
 pub mod Painting
 pub mod Poking
+pub mod Clearing
+pub mod Blinking
+pub mod Printing

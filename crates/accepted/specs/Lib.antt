@@ -2,3 +2,4 @@ pub mod Given
 pub mod Opened
 pub mod NoLine
 pub mod Texts
+pub mod Pages

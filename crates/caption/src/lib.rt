@@ -1,5 +1,7 @@
 // The exported calls: each tests all that it is given, and lends what it was lent on to what an accepted call does.
 pub mod bitmaps;
+pub mod clear;
+pub mod cursor;
 pub mod dirty;
 pub mod ellipses;
 pub mod lines;
@@ -7,4 +9,5 @@ pub mod open;
 pub mod place;
 pub mod points;
 pub mod poke;
+pub mod print;
 pub mod sends;

@@ -1,0 +1,47 @@
+use mathlib.Core.Path.{ap}
+use mathlib.Core.List.{[]}
+use Rattle.model.specs.Calls.{answered, done}
+use Rattle.laws.specs.Updates.{screen-small}
+use Rattle.accepted.proofs.Drawing.{screen-room, text-room}
+use Rattle.accepted.proofs.Clearing.{was-cleared}
+use borrow.Author.Needs.{needs}
+use Rattle.accepted.proofs.clear.set_screen_mode.Statement.{statement}
+use Rattle.accepted.proofs.clear.set_screen_mode.Tie as tie
+
+clear-windows-requires : tie.Need-clear-windows-requires
+clear-windows-requires c κs = let w = c .before .before .before .pre in (w .known .suits, (text-room w, screen-room w))
+
+canvas-of-requires : tie.Need-canvas-of-requires
+canvas-of-requires c κs = search needs
+
+whole-marks-requires : tie.Need-whole-marks-requires
+whole-marks-requires c κs = screen-small _ (c .before .before .before .before .before .before .before .pre .known .suits) (c .canvas-of .ensures)
+
+first-place-requires : tie.Need-first-place-requires
+first-place-requires c κs = search needs
+
+clear-record-requires : tie.Need-clear-record-requires
+clear-record-requires c κs = search needs
+
+same-length : tie.Need-same-length
+same-length c = search needs
+
+same-length-2 : tie.Need-same-length-2
+same-length-2 c = search needs
+
+returns : tie.Need-returns
+unfolding done
+returns c = let m = c .before .before .before .before .before .whole-marks .ensures in ap (answered 0 []) (was-cleared (c .before .before .before .before .before .before .before .before .before .before .before .before .before .pre) (c .before .before .before .before .before .before .before .before .before .before .before .before .before .args .mode) (c .before .before .before .before .before .before .before .before .before .clear-windows .ensures) (c .before .before .before .before .before .before .canvas-of .ensures) (m .0) (m .1) (c .before .before .before .first-place .ensures) (c .before .before .clear-record .ensures))
+
+pub set-screen-mode-spec : {M : Type 1} → statement M
+set-screen-mode-spec =
+    tie.close
+    (tie.spec
+    clear-windows-requires
+    canvas-of-requires
+    whole-marks-requires
+    first-place-requires
+    clear-record-requires
+    same-length
+    same-length-2
+    returns)

@@ -1,0 +1,51 @@
+use mathlib.Core.Path.{ap, _∙_}
+use mathlib.Core.List.{[]}
+use Rattle.model.specs.Calls.{answered, done}
+use Rattle.accepted.proofs.Blinking.{clear-none, clear-blinks, clear-graph}
+use borrow.Author.Needs.{needs}
+use Rattle.accepted.proofs.cursor.clear_cursor.Statement.{statement}
+use Rattle.accepted.proofs.cursor.clear_cursor.Tie as tie
+
+returns : tie.Need-returns
+unfolding done
+returns c = ap (answered 0 []) (clear-none (c .before .before .before .pre) (c .if1 .taken))
+
+blink-cursor-requires : tie.Need-blink-cursor-requires
+blink-cursor-requires c κs = search needs
+
+same-length : tie.Need-same-length
+same-length c = search needs
+
+same-length-2 : tie.Need-same-length-2
+same-length-2 c = search needs
+
+returns-2 : tie.Need-returns-2
+unfolding done
+returns-2 c = c .before .before .before .before .blink-cursor .ensures ∙ ap (answered 0 []) (clear-blinks (c .before .before .before .before .before .before .before .before .before .before .before .pre) (c .before .before .before .before .before .before .before .before .if1 .left) (c .before .before .before .before .before .before .before .if2 .taken))
+
+with-cursor-requires : tie.Need-with-cursor-requires
+with-cursor-requires c κs = search needs
+
+set-head-requires : tie.Need-set-head-requires
+set-head-requires c κs = search needs
+
+same-length-3 : tie.Need-same-length-3
+same-length-3 c = search needs
+
+returns-3 : tie.Need-returns-3
+unfolding done
+returns-3 c = ap (answered 0 []) (clear-graph (c .before .before .before .before .before .before .before .before .before .pre) (c .before .before .before .before .before .before .if1 .left) (c .before .before .before .before .before .if2 .left) (c .before .before .before .with-cursor .ensures) (c .before .before .set-head .ensures))
+
+pub clear-cursor-spec : {M : Type 1} → statement M
+clear-cursor-spec =
+    tie.close
+    (tie.spec
+    returns
+    blink-cursor-requires
+    same-length
+    same-length-2
+    returns-2
+    with-cursor-requires
+    set-head-requires
+    same-length-3
+    returns-3)

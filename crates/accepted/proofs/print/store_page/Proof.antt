@@ -1,0 +1,75 @@
+use Rattle.laws.specs.Updates.{screen-small}
+use Rattle.accepted.proofs.Drawing.{screen-room}
+use Rattle.accepted.proofs.Printing.{rows-lent, place-short, page-follows}
+use borrow.Author.Needs.{needs}
+use Rattle.accepted.proofs.print.store_page.Statement.{statement}
+use Rattle.accepted.proofs.print.store_page.Tie as tie
+
+screen-scrolls-requires : tie.Need-screen-scrolls-requires
+screen-scrolls-requires c κs = search needs
+
+cast-from : tie.Need-cast-from
+cast-from c = search needs
+
+add-to : tie.Need-add-to
+add-to c = search needs
+
+cast-row-bytes : tie.Need-cast-row-bytes
+cast-row-bytes c = search needs
+
+mul-row-bytes : tie.Need-mul-row-bytes
+mul-row-bytes c = search needs
+
+sub-scroll-screen : tie.Need-sub-scroll-screen
+sub-scroll-screen c = search needs
+
+part-scroll-screen-start : tie.Need-part-scroll-screen-start
+part-scroll-screen-start c = search needs
+
+part-scroll-screen-end : tie.Need-part-scroll-screen-end
+part-scroll-screen-end c = screen-room (c .before .before .before .before .before .before .pre .0)
+
+scroll-screen-requires : tie.Need-scroll-screen-requires
+scroll-screen-requires c κs = rows-lent (c .before .before .before .before .before .before .before .pre .0)
+
+canvas-of-requires : tie.Need-canvas-of-requires
+canvas-of-requires c κs = search needs
+
+scroll-marks-requires : tie.Need-scroll-marks-requires
+scroll-marks-requires c κs = screen-small _ (c .before .before .before .before .before .before .before .before .before .before .before .pre .0 .known .suits) (c .canvas-of .ensures)
+
+at-place-requires : tie.Need-at-place-requires
+at-place-requires c κs = place-short (c .before .before .before .before .before .before .before .before .before .before .before .before .before .pre .0) (c .before .before .before .before .before .before .before .before .before .before .before .before .before .args .p) (c .before .before .before .before .before .before .before .before .before .before .before .before .before .pre .1)
+
+mark-head-requires : tie.Need-mark-head-requires
+mark-head-requires c κs = c .before .before .before .before .before .before .before .before .before .before .before .before .before .before .pre .0 .known
+
+same-length : tie.Need-same-length
+same-length c = search needs
+
+same-length-2 : tie.Need-same-length-2
+same-length-2 c = search needs
+
+returns : tie.Need-returns
+returns c = let m = c .before .before .before .before .before .scroll-marks .ensures in page-follows (c .before .before .before .before .before .before .before .before .before .before .before .before .before .before .before .before .before .pre .0) (c .before .before .before .before .before .before .before .before .before .before .before .before .before .before .before .before .before .args .p) (c .before .before .before .before .before .before .before .before .before .before .before .before .before .before .screen-scrolls .ensures) (c .before .before .before .before .before .before .before .before .before .scroll-screen .ensures) (c .before .before .before .before .before .before .canvas-of .ensures) (m .0) (m .1) (c .before .before .before .at-place .ensures) (c .before .before .mark-head .ensures)
+
+pub store-page-spec : {M : Type 1} → statement M
+store-page-spec =
+    tie.close
+    (tie.spec
+    screen-scrolls-requires
+    cast-from
+    add-to
+    cast-row-bytes
+    mul-row-bytes
+    sub-scroll-screen
+    part-scroll-screen-start
+    part-scroll-screen-end
+    scroll-screen-requires
+    canvas-of-requires
+    scroll-marks-requires
+    at-place-requires
+    mark-head-requires
+    same-length
+    same-length-2
+    returns)
