@@ -1,10 +1,11 @@
 -- Drawings over the screen part of memory, lent and come back, for any glass.
 use mathlib.Core.Path.{_≡_, refl, sym, ap, _∙_}
 use mathlib.Core.List.{List, []}
-use mathlib.Core.Bool.{Bool}
+use mathlib.Core.Bool.{Bool, true, false}
 use Prim.Native.Nat.{ℕ, zero, suc, _+_, _-_, _*_, _≤_}
 use native.Mathlib.Omega.{arith}
 use borrow.Rule.Slice.PartMut.{putMid}
+use mir.Val.{boolByte}
 use lib.IntN.{ℤ}
 use lib.ListN.{length, take, drop, length-take, length-drop}
 use Rattle.model.specs.declared.Canvas.{Canvas}
@@ -19,7 +20,7 @@ use Rattle.model.specs.Memory.{window, withWindow, screenOf}
 use Rattle.model.specs.Record.{decode, encode, withHead}
 use Rattle.model.specs.Marks.{Drawing, Drawn, drawn, drawnOn, marked}
 use Rattle.model.specs.Points.{drawMode, isSet}
-use Rattle.model.specs.Calls.{lent, answered, drawingWith, drawing}
+use Rattle.model.specs.Calls.{lent, answered, flag, drawingWith, drawing}
 use Rattle.laws.specs.Pixels.{length-draw}
 use Rattle.laws.specs.Parts.{part-window, part-back}
 use Rattle.laws.specs.Updates.{head-numbers}
@@ -51,13 +52,19 @@ part-screen {v} a m z l e =
       sized = part-length a (v .screen) m l ∙ z .is-screen ∙ ap (λ (n : ℕ). v .stride * n) (sym (z .is-height));
     })
 
+-- a bool as a number
+byte-flag : (t : Bool) → boolByte t ≡ flag t
+unfolding boolByte
+byte-flag true = refl
+byte-flag false = refl
+
 -- what a check of the lent part tells
 pub checked : {v : Glass} (a : ℕ) (m : List ℕ) (x y : ℤ) {k : Canvas} {t : Bool} → Suits v → k ≡ canvas v
     → t ≡ isSet (k .stride) (k .height) (take (a + v .screen - a) (drop a m)) x y
-    → t ≡ isSet (v .stride) (height (geometry v)) (screenOf (geometry v) a m) x y
-checked {v} a m x y z q e =
-    e ∙ (λ i. isSet (q i .stride) (q i .height) (part-window a (v .screen) m i) x y)
-    ∙ (λ i. isSet (v .stride) (z .is-height i) (window a (z .is-screen i) m) x y)
+    → boolByte t ≡ flag (isSet (v .stride) (height (geometry v)) (screenOf (geometry v) a m) x y)
+checked {v} a m x y {t = t} z q e =
+    byte-flag t ∙ ap flag e ∙ (λ i. flag (isSet (q i .stride) (q i .height) (part-window a (v .screen) m i) x y))
+    ∙ (λ i. flag (isSet (v .stride) (z .is-height i) (window a (z .is-screen i) m) x y))
 
 module _ {v : Glass} {r : List ℕ} {h : Head} {m : List ℕ} (w : Given v r h m) where
   -- screen and text end within memory

@@ -46,9 +46,5 @@ pub fn check_point(memory: &[u8], glass: Glass, h: Head, x: i32, y: i32) -> u32
 {
     let from = h.graphics as usize;
     let to = from + glass.screen;
-    if draw::check_point(canvas_of(glass), &memory[from..to], x, y) {
-        1
-    } else {
-        0
-    }
+    draw::check_point(canvas_of(glass), &memory[from..to], x, y) as u32
 }

@@ -35,7 +35,18 @@ pub extern "C" fn caption_draw_ellipse(
     if !ellipses::radii_fit(rx, ry, fill, mode) {
         return refusal::RADIUS;
     }
-    ellipses::draw_ellipse(rec, memory, glass_of(rec.len()), e.head, x, y, rx, ry, fill, mode);
+    ellipses::draw_ellipse(
+        rec,
+        memory,
+        glass_of(rec.len()),
+        e.head,
+        x,
+        y,
+        rx,
+        ry,
+        fill,
+        mode,
+    );
     0
 }
 

@@ -29,7 +29,17 @@ pub extern "C" fn caption_draw_line(
     if mode > 3 {
         return refusal::VALUE;
     }
-    lines::draw_line(rec, memory, glass_of(rec.len()), e.head, x1, y1, x2, y2, mode);
+    lines::draw_line(
+        rec,
+        memory,
+        glass_of(rec.len()),
+        e.head,
+        x1,
+        y1,
+        x2,
+        y2,
+        mode,
+    );
     0
 }
 
@@ -54,6 +64,17 @@ pub extern "C" fn caption_draw_box(
     if !lines::fill_fits(fill, mode) {
         return refusal::VALUE;
     }
-    lines::draw_box(rec, memory, glass_of(rec.len()), e.head, x1, y1, x2, y2, fill, mode);
+    lines::draw_box(
+        rec,
+        memory,
+        glass_of(rec.len()),
+        e.head,
+        x1,
+        y1,
+        x2,
+        y2,
+        fill,
+        mode,
+    );
     0
 }

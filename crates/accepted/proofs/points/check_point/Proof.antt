@@ -1,7 +1,5 @@
-use mathlib.Core.Path.{sym, ap, _∙_}
 use mir.Syntax.{w32}
 use mir.Facts.{toZ-ofZ}
-use Rattle.model.specs.Calls.{flag}
 use Rattle.accepted.proofs.Drawing.{part-screen, checked}
 use borrow.Author.Needs.{needs}
 use Rattle.accepted.proofs.points.check_point.Statement.{statement}
@@ -26,17 +24,18 @@ part-check-point-end : tie.Need-part-check-point-end
 part-check-point-end c = search needs
 
 check-point-requires : tie.Need-check-point-requires
-check-point-requires c κs = part-screen (c .before .before .before .before .before .args .h .graphics) (c .before .before .before .before .before .args .memory .now) (c .before .before .before .before .before .pre .0) (c .before .before .before .before .before .pre .1) (c .before .canvas-of .ensures)
+check-point-requires c κs =
+    let a = c .before .before .before .before .before in
+    part-screen (a .args .h .graphics) (a .args .memory .now) (a .pre .0) (a .pre .1) (c .before .canvas-of .ensures)
+
+cast-result : tie.Need-cast-result
+cast-result c = search needs
 
 returns : tie.Need-returns
 returns c =
-    let a = c .before .before .before .before .before .before .before in
-    ap flag (sym (c .if1 .taken) ∙ checked (a .args .h .graphics) (a .args .memory .now) (a .args .x) (a .args .y) (a .pre .0) (c .before .before .before .canvas-of .ensures) (rw (toZ-ofZ {w = w32} {z = a .args .x} (a .fits .x), toZ-ofZ {w = w32} {z = a .args .y} (a .fits .y)) at (c .before .check-point .ensures)))
-
-returns-2 : tie.Need-returns-2
-returns-2 c =
-    let a = c .before .before .before .before .before .before .before in
-    ap flag (sym (c .if1 .left) ∙ checked (a .args .h .graphics) (a .args .memory .now) (a .args .x) (a .args .y) (a .pre .0) (c .before .before .before .canvas-of .ensures) (rw (toZ-ofZ {w = w32} {z = a .args .x} (a .fits .x), toZ-ofZ {w = w32} {z = a .args .y} (a .fits .y)) at (c .before .check-point .ensures)))
+    let a = c .before .before .before .before .before .before in
+    checked (a .args .h .graphics) (a .args .memory .now) (a .args .x) (a .args .y) (a .pre .0) (c .before .before .canvas-of .ensures)
+    (rw (toZ-ofZ {w = w32} {z = a .args .x} (a .fits .x), toZ-ofZ {w = w32} {z = a .args .y} (a .fits .y)) at (c .check-point .ensures))
 
 pub check-point-spec : {M : Type 1} → statement M
 check-point-spec =
@@ -49,5 +48,5 @@ check-point-spec =
     part-check-point-start
     part-check-point-end
     check-point-requires
-    returns
-    returns-2)
+    cast-result
+    returns)
