@@ -13,14 +13,14 @@ use Rattle.model.specs.declared.Canvas.{Canvas}
 use Rattle.model.specs.declared.Head.{Head}
 use Rattle.model.specs.declared.Marks.{Marks}
 use Rattle.model.specs.declared.glass.Glass.{Glass}
-use Rattle.model.specs.Geometry.{height, rows, columns, cells, screenBytes}
+use Rattle.model.specs.Geometry.{Geometry, height, rows, columns, cells, screenBytes}
 use Rattle.model.specs.Glass.{geometry, canvas}
 use Rattle.model.specs.Memory.{window, withWindow}
 use Rattle.model.specs.Flags.{flagBytes, flagsIn}
 use Rattle.model.specs.Record.{flags, decode, encode}
 use Rattle.model.specs.Marks.{whole, marked}
-use Rattle.model.specs.Glyphs.{Fonts, paint}
-use Rattle.model.specs.Flush.{textStores, clearedInText, flushed}
+use Rattle.model.specs.Glyphs.{Fonts, fontsFit, paint}
+use Rattle.model.specs.Flush.{textStores, flushStores, clearedInText, flushed}
 use Rattle.model.specs.Calls.{flush, lent, answered, done}
 use Rattle.laws.specs.Tests.{if-cases}
 use Rattle.laws.specs.Parts.{part-window, part-back}
@@ -31,9 +31,14 @@ use Rattle.laws.specs.Record.{length-part, has-flags}
 use Rattle.laws.specs.StateTest.{flags-part}
 use Rattle.flush.specs.Fits.{textFits}
 use Rattle.flush.specs.Rooms.{TextScreen}
+use Rattle.flush.proofs.Fitting.{text-fits}
 use Rattle.accepted.specs.Given.{Given}
 use Rattle.accepted.specs.Texts.{glyphsFit}
 use Rattle.accepted.proofs.Drawing.{part-length, screen-room, text-room}
+
+-- GLYPH as the definitions test it
+pub glyphs-tested : (g : Geometry) (r m : List ℕ) (f : Fonts) → fontsFit (flushStores g f (decode g r) m) ≡ glyphsFit g m (decode g r .head) f
+glyphs-tested g r m f = let h = decode g r .head in text-fits (columns g) (rows g) (window (h .text) (cells g) m) (decode g r .flags) (h .version) f
 
 -- bytes put at the start of others are the first of them
 pub first-kept : (n : ℕ) (x d : List ℕ) {c : List ℕ} → length x ≡ n → c ≡ withWindow 0 x d → take n c ≡ x

@@ -4,6 +4,7 @@ pub mod clear;
 pub mod cursor;
 pub mod dirty;
 pub mod ellipses;
+pub mod flushes;
 pub mod lines;
 pub mod open;
 pub mod place;
