@@ -2,8 +2,9 @@ use mathlib.Core.Path.{ap}
 use mathlib.Core.List.{[]}
 use Rattle.model.specs.Calls.{answered, done}
 use Rattle.laws.specs.Updates.{head-numbers}
+use Rattle.laws.specs.Cursors.{blink-fits, box-bottom, box-right}
 use Rattle.accepted.proofs.Drawing.{screen-room, screen-part, text-room}
-use Rattle.accepted.proofs.Blinking.{blink-graph, blink-fits, box-bottom, box-right, blink-drew}
+use Rattle.accepted.proofs.Blinking.{blink-graph, blink-drew}
 use borrow.Author.Needs.{needs}
 use Rattle.accepted.proofs.cursor.blink_cursor.Statement.{statement}
 use Rattle.accepted.proofs.cursor.blink_cursor.Tie as tie
@@ -37,7 +38,7 @@ part-invert-cursor-end : tie.Need-part-invert-cursor-end
 part-invert-cursor-end c = screen-room (c .before .before .before .before .before .before .before .before .before .pre)
 
 invert-cursor-requires : tie.Need-invert-cursor-requires
-invert-cursor-requires c κs = let w = c .before .before .before .before .before .before .before .before .before .before .pre in let z = w .known .suits in let n = head-numbers _ _ _ (w .known) (w .head) in let k = blink-fits _ _ (n .cursor) (c .before .before .blink-of .ensures) in (screen-part w (c .before .canvas-of .ensures), (box-bottom z n, box-right z n, k .0, k .1))
+invert-cursor-requires c κs = let w = c .before .before .before .before .before .before .before .before .before .before .pre in let z = w .known .suits .glass in let n = head-numbers _ _ _ (w .known) (w .head) in let k = blink-fits _ _ (n .cursor) (c .before .before .blink-of .ensures) in (screen-part w (c .before .canvas-of .ensures), (box-bottom n z, box-right n z, k .0, k .1))
 
 blink-next-requires : tie.Need-blink-next-requires
 blink-next-requires c κs = search needs
