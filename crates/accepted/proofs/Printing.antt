@@ -3,7 +3,6 @@ use mathlib.Core.Path.{_≡_, sym, ap, _∙_}
 use mathlib.Core.Bool.{not}
 use mathlib.Core.List.{List, []}
 use Prim.Native.Nat.{ℕ, _+_, _-_, _*_, _^_, _<_, _≤_}
-use native.Mathlib.Nat.{mul-le-mul-right, one-mul}
 use native.Mathlib.Omega.{arith}
 use borrow.Rule.Slice.PartMut.{putMid}
 use lib.Dec.{eqb}
@@ -12,7 +11,7 @@ use Rattle.model.specs.declared.Canvas.{Canvas}
 use Rattle.model.specs.declared.Head.{Head}
 use Rattle.model.specs.declared.Marks.{Marks}
 use Rattle.model.specs.declared.glass.Glass.{Glass}
-use Rattle.model.specs.Geometry.{glyphHeight, rows, height, cells, rowBytes}
+use Rattle.model.specs.Geometry.{rows, height, cells, rowBytes}
 use Rattle.model.specs.Glass.{geometry, canvas}
 use Rattle.model.specs.Rects.{none}
 use Rattle.model.specs.Memory.{window, withWindow}
@@ -25,11 +24,13 @@ use Rattle.model.specs.Calls.{print, newline, lent, answered, withPage, done}
 use Rattle.laws.specs.Memory.{length-withWindow}
 use Rattle.laws.specs.Parts.{part-window, part-back}
 use Rattle.laws.specs.Scrolls.{length-times}
-use Rattle.laws.specs.Flags.{flags-read, length-flagsIn}
+use Rattle.laws.specs.Flags.{flags-read}
 use Rattle.laws.specs.Record.{has-flags, length-part, part-passes}
 use Rattle.laws.specs.StateTest.{flags-room, flags-part}
-use Rattle.laws.specs.Updates.{head-numbers, flags-known, flags-state}
+use Rattle.laws.specs.Updates.{flags-known, flags-state}
 use Rattle.laws.specs.Pages.{Sheet, newline-sheet}
+use Rattle.laws.specs.Texts.{screen-rows, row-room, page-sheet}
+use Rattle.laws.specs.States.{well-formed}
 use Rattle.text.specs.declared.page.Place.{Place}
 use Rattle.text.specs.Written.{page, HasFlags, Ready, Written}
 use Rattle.accepted.specs.Given.{Given}
@@ -46,23 +47,14 @@ textPart v h m = take (h .text + v .cells - h .text) (drop (h .text) m)
 abbrev flagsPart : Glass → List ℕ → List ℕ
 flagsPart v r = take (v .others - v .flags) (drop (v .flags) r)
 
-rows-of : (s r : ℕ) → s * (glyphHeight * r) ≡ r * (glyphHeight * s)
-rows-of s r = omega arith
-
 module _ {v : Glass} {r : List ℕ} {h : Head} {m : List ℕ} (w : Given v r h m) where
   -- ---- the screen and the record
 
-  some-rows : 0 < v .rows
-  some-rows = let z = w .known .suits in omega (arith, z .is-rows, z .glass .row)
-
-  screen-rows : length (screenPart v h m) ≡ v .rows * rowBytes (geometry v)
-  screen-rows =
-      let z = w .known .suits in
-      part-length (h .graphics) (v .screen) m (screen-room w) ∙ z .is-screen ∙ ap (λ (n : ℕ). v .stride * n) (sym (z .glass .filled)) ∙ rows-of (v .stride) (rows (geometry v))
-      ∙ ap (λ (n : ℕ). n * rowBytes (geometry v)) (sym (z .is-rows))
-
   pub rows-lent : (length (screenPart v h m) ≡ v .rows * rowBytes (geometry v)) × (0 < v .rows)
-  rows-lent = (screen-rows, some-rows)
+  rows-lent =
+      let z = w .known .suits in
+      let n = part-length (h .graphics) (v .screen) m (screen-room w) ∙ z .is-screen ∙ screen-rows (geometry v) (z .glass) in
+      (n ∙ ap (λ (k : ℕ). k * rowBytes (geometry v)) (sym (z .is-rows)), omega (arith, z .is-rows, z .glass .row))
 
   pub place-short : (p : Place) → (p .row < v .rows) × (p .column < v .columns) → (p .row < 256) × (p .column < 256)
   place-short p l = let z = w .known .suits in (omega (arith, l .0, z .is-rows, z .glass .filled, z .glass .high), omega (arith, l .1, z .is-columns, z .glass .cursor))
@@ -76,9 +68,9 @@ module _ {v : Glass} {r : List ℕ} {h : Head} {m : List ℕ} (w : Given v r h m
       let g = geometry v in
       let z = w .known .suits in
       let at = h .graphics in
-      let row : 1 * rowBytes (geometry v) ≤ v .rows * rowBytes (geometry v) = mul-le-mul-right {m = 1} {n = v .rows} (rowBytes g) some-rows in
+      let long = part-length at (v .screen) m (screen-room w) in
       let size : length s ≡ at + v .screen - at =
-      ap length f ∙ length-times n (rowBytes g) (screenPart v h m) (rw screen-rows (rw one-mul at row)) ∙ part-length at (v .screen) m (screen-room w) ∙ omega arith in
+      ap length f ∙ length-times n (rowBytes g) (screenPart v h m) (rw (long ∙ z .is-screen) (row-room g (z .glass))) ∙ long ∙ omega arith in
       let owed = o ∙ (λ i. scrollMark (k i .stride) (k i .height) (e i)) ∙ ap (λ (y : ℕ). scrollMark (v .stride) y (screenScrolls (h .screen) (p .scrolls))) (z .is-height) in
       record {
         rec = q ∙ (λ i. encode g (marked g (d i) (owed i) (withHead (a i) (decode g r))));
@@ -110,29 +102,6 @@ module _ {v : Glass} {r : List ℕ} {h : Head} {m : List ℕ} (w : Given v r h m
       }
 
   module _ {o : Place} (e : o ≡ placeOf h) where
-    first-sheet : (n : ℕ) → n ≤ 1 → Sheet (v .rows) (v .columns) n (page (textPart v h m) (flagsPart v r) o)
-    first-sheet n c =
-        let z = w .known .suits in
-        let k = head-numbers v r h (w .known) (w .head) in
-        let row : o .row ≡ h .row = ap (λ (p : Place). p .row) e in
-        let column : o .column ≡ h .column = ap (λ (p : Place). p .column) e in
-        record {
-          wide = omega (arith, z .is-columns, z .glass .columns);
-          text = text-long ∙ all-cells;
-          flags = length-flagsIn (length (textPart v h m)) (flagsPart v r) (flags-lent .sized) ∙ text-long ∙ all-cells;
-          row = omega (arith, k .row, z .is-rows);
-          room = omega (arith, k .column, z .is-columns);
-        }
-
-    pub ready : (n : ℕ) → n ≤ 1 → Ready (v .rows) (v .columns) n (textPart v h m) (flagsPart v r) o
-    ready n c = record { sheet = first-sheet n c; flags = flags-lent }
-
-    pub no-scrolls : o .scrolls ≡ 0
-    no-scrolls = ap (λ (p : Place). p .scrolls) e
-
-    pub few-scrolls : o .scrolls + 1 < 2 ^ 64
-    few-scrolls = let z = no-scrolls in omega arith
-
     -- it is the page of the definition
     page-is : page (textPart v h m) (flagsPart v r) o ≡ pageOf (geometry v) (decode (geometry v) r) m
     unfolding pageOf decode
@@ -145,6 +114,23 @@ module _ {v : Glass} {r : List ℕ} {h : Head} {m : List ℕ} (w : Given v r h m
           column = (ap (λ (p : Place). p .column) e ∙ ap (λ (x : Head). x .column) (w .head)) i;
           scrolls = e i .scrolls;
         }
+
+    first-sheet : (n : ℕ) → n ≤ 1 → Sheet (v .rows) (v .columns) n (page (textPart v h m) (flagsPart v r) o)
+    first-sheet n c =
+        let g = geometry v in
+        let z = w .known .suits in
+        let room = text-room w in
+        let text : h .text ≡ decode g r .head .text = ap (λ (x : Head). x .text) (w .head) in
+        rw (page-is, z .is-rows, z .is-columns) (page-sheet g (z .glass) (decode g r) m (well-formed g r (w .known .passing)) (omega (arith, z .is-cells)) n c)
+
+    pub ready : (n : ℕ) → n ≤ 1 → Ready (v .rows) (v .columns) n (textPart v h m) (flagsPart v r) o
+    ready n c = record { sheet = first-sheet n c; flags = flags-lent }
+
+    pub no-scrolls : o .scrolls ≡ 0
+    no-scrolls = ap (λ (p : Place). p .scrolls) e
+
+    pub few-scrolls : o .scrolls + 1 < 2 ^ 64
+    few-scrolls = let z = no-scrolls in omega arith
 
     -- ---- written by f, which keeps it a page
 

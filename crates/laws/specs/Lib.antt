@@ -30,6 +30,8 @@ pub mod Opening
 pub mod Scrolls
 pub mod Pages
 pub mod Prints
+pub mod Texts
+pub mod Cursors
 pub mod Writes
 pub mod Points
 pub mod Solid

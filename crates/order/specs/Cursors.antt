@@ -3,35 +3,23 @@ use mathlib.Core.Path.{_≡_, refl}
 use mathlib.Core.Bool.{true, cond}
 use Prim.Native.Nat.{ℕ, _+_, _-_, _*_, _≤_, _<_}
 use native.Mathlib.Omega.{arith}
-use lib.Dec.{leb, eqb}
+use lib.Dec.{eqb}
 use borrow.Author.Tests.{le-leb}
 use Rattle.model.specs.declared.DrawMode.the-variants.{Xor}
 use Rattle.model.specs.Geometry.{Geometry, height}
 use Rattle.model.specs.Rects.{fits}
 use Rattle.model.specs.Text.{withCursor}
-use Rattle.model.specs.Cursor.{cursorFor, blinkOf, blinkNext, cursorBox, underCursor, blinkHead, blinkDrawing}
+use Rattle.model.specs.Cursor.{blinkOf, blinkNext, cursorBox, underCursor, blinkHead, blinkDrawing}
 use Rattle.model.specs.Calls.{Lent, blinked, cursorCleared}
 use Rattle.model.specs.Lists.{nothing, blinks}
-use Rattle.laws.specs.Tests.{if-cases, by-test}
+use Rattle.laws.specs.Tests.{by-test}
 use Rattle.laws.specs.Record.{head-tells}
+use Rattle.laws.specs.Cursors.{blink-fits, next-most}
 use Rattle.laws.specs.Boxes.{box-fits}
 use Rattle.order.specs.Formed.{cursor-fits}
 use Rattle.order.specs.Step.{Lendable, Step, old, known, same-step}
 use Rattle.order.specs.Draws.{drawing-with}
 use Rattle.order.specs.Heads.{changed-step}
-
--- half or full
-for-most : (b : ℕ) → cursorFor b ≤ 2
-unfolding cursorFor
-for-most b = if-cases (λ (n : ℕ). n ≤ 2) (leb 128 b) {x = 2} {y = 1} (λ e. omega arith) (λ e. omega arith)
-
-of-most : (c b : ℕ) → c ≤ 2 → blinkOf c b ≤ 2
-unfolding blinkOf
-of-most c b h = if-cases (λ (n : ℕ). n ≤ 2) (eqb c 0) (λ e. for-most b) (λ e. h)
-
-next-most : (c b : ℕ) → blinkNext c b ≤ 2
-unfolding blinkNext
-next-most c b = if-cases (λ (n : ℕ). n ≤ 2) (eqb c 0) {y = 0} (λ e. for-most b) (λ e. omega arith)
 
 module _ (g : Geometry) (k : ℕ) (there : k < g .panels) (l : Lent) (q : Lendable g l) where
   -- what it marks fits, also a full one at the last column
@@ -42,7 +30,7 @@ module _ (g : Geometry) (k : ℕ) (there : k < g .panels) (l : Lent) (q : Lendab
       let h = old g l .head in
       let t = head-tells g h (known g l q .head) in
       let c = blinkOf (h .cursor) (underCursor g h (l .memory)) in
-      let n : c ≤ 2 = of-most (h .cursor) (underCursor g h (l .memory)) (t .cursor) in
+      let n : c ≤ 2 = blink-fits (h .cursor) (underCursor g h (l .memory)) (t .cursor) refl .1 in
       box-fits (g .stride) (height g) (8 * h .column) (16 * h .row) (8 * h .column + 8 * c - 1) (16 * h .row + 15) true Xor
       (omega (arith, z .cursor, t .column)) (omega (arith, z .high, t .row)) (omega (arith, z .cursor, t .column)) (omega (arith, z .high, t .row))
 

@@ -3,8 +3,7 @@ use mathlib.Core.Path.{_≡_, refl, _∙_}
 use mathlib.Core.Logic.{_⊎_, inl, inr}
 use mathlib.Core.Bool.{Bool, true}
 use mathlib.Core.List.{List}
-use Prim.Native.Nat.{ℕ, _+_, _*_, _≤_, _<_}
-use native.Mathlib.Nat.{mul-le-mul-left}
+use Prim.Native.Nat.{ℕ, _+_, _≤_, _<_}
 use native.Mathlib.Omega.{arith}
 use lib.Dec.{leb, eqb}
 use lib.ListN.{length}
@@ -29,6 +28,7 @@ use Rattle.laws.specs.Updates.{flags-formed}
 use Rattle.laws.specs.Scrolls.{length-times}
 use Rattle.laws.specs.Marks.{AgreeOutside, whole-agrees}
 use Rattle.laws.specs.Pages.{Sheet}
+use Rattle.laws.specs.Texts.{row-room, page-sheet as sheet-of}
 use Rattle.order.specs.Formed.{bases-fit, row-fits, column-fits, screen-fits, head-formed}
 use Rattle.order.specs.Step.{Lendable, Step, old, screenIn, known, rewritten-step, screen-in, text-in}
 use Rattle.order.specs.Draws.{whole-fits}
@@ -93,28 +93,14 @@ module _ (g : Geometry) (l : Lent) (q : Lendable g l) where
   -- ---- pages
 
   pub page-sheet : Sheet (rows g) (columns g) 1 (pageOf g s (l .memory))
-  unfolding pageOf
-  page-sheet = record {
-    wide = q .passing .glass .columns;
-    text = length-window (s .head .text) (cells g) (l .memory) text-room;
-    flags = known g l q .flags;
-    row = head-tells g (s .head) fit .row;
-    room = omega (arith, head-tells g (s .head) fit .column);
-  }
-
-  -- a text row of the screen lies on it
-  row-room : rowBytes g ≤ screenBytes g
-  row-room =
-      let r : 16 ≤ height g = omega (arith, q .passing .glass .row) in
-      let e : g .stride * 16 ≤ g .stride * height g = mul-le-mul-left (g .stride) r in
-      omega arith
+  page-sheet = sheet-of g (q .passing .glass) s (l .memory) (known g l q) text-room 1 (omega arith)
 
   length-scrolls : (n : ℕ) (t : List ℕ) → length t ≡ cells g
       → length (scrolledTimes n (rowBytes g) (screenOf g (s .head .graphics) (withText (s .head .text) t (l .memory)))) ≡ screenBytes g
   length-scrolls n t e =
       let p = screenOf g (s .head .graphics) (withText (s .head .text) t (l .memory)) in
       let c : length p ≡ screenBytes g = length-window (s .head .graphics) (screenBytes g) (withText (s .head .text) t (l .memory)) (screen-room t e) in
-      length-times n (rowBytes g) p (rw c row-room) ∙ c
+      length-times n (rowBytes g) p (rw c (row-room g (q .passing .glass))) ∙ c
 
   -- a screen that scrolls is owed whole, another stays
   scroll-agrees : (n : ℕ) (t : List ℕ) → length t ≡ cells g

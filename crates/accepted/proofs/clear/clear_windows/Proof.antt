@@ -43,7 +43,11 @@ same-length : tie.Need-same-length
 same-length c = search needs
 
 returns : tie.Need-returns
-returns c = let k = c .before .before .before .before .before .before .before .before .before .before .before .before .before in windows-cleared _ (k .args .h) (k .args .memory .now) (k .pre .0) (k .pre .1 .0) (k .pre .1 .1) (c .before .before .before .before .before .before .before .before .clear .ensures) (c .before .before .clear2 .ensures)
+returns c =
+    let clear2 = c .before .before in
+    let clear = clear2 .before .before .before .before .before .before in
+    let k = clear .before .before .before .before .before in
+    windows-cleared _ (k .args .h) (k .args .memory .now) (k .pre .0) (k .pre .1 .0) (k .pre .1 .1) (clear .clear .ensures) (clear2 .clear2 .ensures)
 
 pub clear-windows-spec : {M : Type 1} → statement M
 clear-windows-spec =

@@ -18,7 +18,11 @@ same-length-2 c = search needs
 
 returns : tie.Need-returns
 unfolding done
-returns c = let k = c .before .before .before .before .before .before .before .before .before in let a = k .args in c .before .before .before .before .set-screen-mode .ensures ∙ ap (λ (x : Head). answered 0 [] (cleared (geometry (a .glass)) (x .screen) (lent (a .rec .now) (a .memory .now) []))) (k .pre .head)
+returns c =
+    let set-screen-mode = c .before .before .before .before in
+    let k = set-screen-mode .before .before .before .before .before in
+    let a = k .args in
+    set-screen-mode .set-screen-mode .ensures ∙ ap (λ (x : Head). answered 0 [] (cleared (geometry (a .glass)) (x .screen) (lent (a .rec .now) (a .memory .now) []))) (k .pre .head)
 
 pub cls-spec : {M : Type 1} → statement M
 cls-spec = tie.close (tie.spec set-screen-mode-requires same-length same-length-2 returns)

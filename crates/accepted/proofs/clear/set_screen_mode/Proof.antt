@@ -31,7 +31,15 @@ same-length-2 c = search needs
 
 returns : tie.Need-returns
 unfolding done
-returns c = let m = c .before .before .before .before .before .whole-marks .ensures in ap (answered 0 []) (was-cleared (c .before .before .before .before .before .before .before .before .before .before .before .before .before .pre) (c .before .before .before .before .before .before .before .before .before .before .before .before .before .args .mode) (c .before .before .before .before .before .before .before .before .before .clear-windows .ensures) (c .before .before .before .before .before .before .canvas-of .ensures) (m .0) (m .1) (c .before .before .before .first-place .ensures) (c .before .before .clear-record .ensures))
+returns c =
+    let clear-record = c .before .before in
+    let first-place = clear-record .before in
+    let whole-marks = first-place .before .before in
+    let canvas-of = whole-marks .before in
+    let clear-windows = canvas-of .before .before .before in
+    let start = clear-windows .before .before .before .before in
+    let m = whole-marks .whole-marks .ensures in
+    ap (answered 0 []) (was-cleared (start .pre) (start .args .mode) (clear-windows .clear-windows .ensures) (canvas-of .canvas-of .ensures) (m .0) (m .1) (first-place .first-place .ensures) (clear-record .clear-record .ensures))
 
 pub set-screen-mode-spec : {M : Type 1} → statement M
 set-screen-mode-spec =

@@ -2,8 +2,9 @@ use mathlib.Core.Path.{ap}
 use mathlib.Core.List.{[]}
 use Rattle.model.specs.Calls.{answered, done}
 use Rattle.laws.specs.Updates.{head-numbers}
+use Rattle.laws.specs.Cursors.{blink-fits, box-bottom, box-right}
 use Rattle.accepted.proofs.Drawing.{screen-room, screen-part, text-room}
-use Rattle.accepted.proofs.Blinking.{blink-graph, blink-fits, box-bottom, box-right, blink-drew}
+use Rattle.accepted.proofs.Blinking.{blink-graph, blink-drew}
 use borrow.Author.Needs.{needs}
 use Rattle.accepted.proofs.cursor.blink_cursor.Statement.{statement}
 use Rattle.accepted.proofs.cursor.blink_cursor.Tie as tie
@@ -37,7 +38,15 @@ part-invert-cursor-end : tie.Need-part-invert-cursor-end
 part-invert-cursor-end c = screen-room (c .before .before .before .before .before .before .before .before .before .pre)
 
 invert-cursor-requires : tie.Need-invert-cursor-requires
-invert-cursor-requires c κs = let w = c .before .before .before .before .before .before .before .before .before .before .pre in let z = w .known .suits in let n = head-numbers _ _ _ (w .known) (w .head) in let k = blink-fits _ _ (n .cursor) (c .before .before .blink-of .ensures) in (screen-part w (c .before .canvas-of .ensures), (box-bottom z n, box-right z n, k .0, k .1))
+invert-cursor-requires c κs =
+    let canvas-of = c .before in
+    let blink-of = canvas-of .before in
+    let start = blink-of .before .before .before .before .before .before .before .before in
+    let w = start .pre in
+    let z = w .known .suits .glass in
+    let n = head-numbers _ _ _ (w .known) (w .head) in
+    let k = blink-fits _ _ (n .cursor) (blink-of .blink-of .ensures) in
+    (screen-part w (canvas-of .canvas-of .ensures), (box-bottom n z, box-right n z, k .0, k .1))
 
 blink-next-requires : tie.Need-blink-next-requires
 blink-next-requires c κs = search needs
@@ -56,7 +65,17 @@ same-length-2 c = search needs
 
 returns-2 : tie.Need-returns-2
 unfolding done
-returns-2 c = ap (answered 0 []) (blink-drew (c .before .before .before .before .before .before .before .before .before .before .before .before .before .before .before .before .before .before .before .pre) _ _ (c .before .before .before .before .before .before .before .before .before .before .before .before .before .before .before .before .if1 .left) (c .before .before .before .before .before .before .before .before .before .before .before .before .before .before .under-cursor .ensures) (c .before .before .before .before .before .before .before .before .before .before .before .blink-of .ensures) (c .before .before .before .before .before .before .before .before .before .before .canvas-of .ensures) (c .before .before .before .before .before .before .before .before .invert-cursor .ensures) (c .before .before .before .before .blink-next .ensures) (c .before .before .before .with-cursor .ensures) (c .before .before .mark-head .ensures))
+returns-2 c =
+    let mark-head = c .before .before in
+    let with-cursor = mark-head .before in
+    let blink-next = with-cursor .before in
+    let invert-cursor = blink-next .before .before .before .before in
+    let canvas-of = invert-cursor .before .before in
+    let blink-of = canvas-of .before in
+    let under-cursor = blink-of .before .before .before in
+    let if1 = under-cursor .before .before in
+    let start = if1 .before .before .before in
+    ap (answered 0 []) (blink-drew (start .pre) _ _ (if1 .if1 .left) (under-cursor .under-cursor .ensures) (blink-of .blink-of .ensures) (canvas-of .canvas-of .ensures) (invert-cursor .invert-cursor .ensures) (blink-next .blink-next .ensures) (with-cursor .with-cursor .ensures) (mark-head .mark-head .ensures))
 
 pub blink-cursor-spec : {M : Type 1} → statement M
 blink-cursor-spec =

@@ -1,4 +1,4 @@
-use Rattle.accepted.proofs.Blinking.{next-new, next-none}
+use Rattle.laws.specs.Cursors.{next-new, next-none}
 use borrow.Author.Needs.{needs}
 use Rattle.accepted.proofs.cursor.blink_next.Statement.{statement}
 use Rattle.accepted.proofs.cursor.blink_next.Tie as tie

@@ -1,4 +1,4 @@
-use Rattle.accepted.proofs.Blinking.{blink-new, blink-old}
+use Rattle.laws.specs.Cursors.{blink-new, blink-old}
 use borrow.Author.Needs.{needs}
 use Rattle.accepted.proofs.cursor.blink_of.Statement.{statement}
 use Rattle.accepted.proofs.cursor.blink_of.Tie as tie

@@ -21,7 +21,12 @@ same-length-2 c = search needs
 
 returns-2 : tie.Need-returns-2
 unfolding done
-returns-2 c = c .before .before .before .before .blink-cursor .ensures ∙ ap (answered 0 []) (clear-blinks (c .before .before .before .before .before .before .before .before .before .before .before .pre) (c .before .before .before .before .before .before .before .before .if1 .left) (c .before .before .before .before .before .before .before .if2 .taken))
+returns-2 c =
+    let blink-cursor = c .before .before .before .before in
+    let if2 = blink-cursor .before .before .before in
+    let if1 = if2 .before in
+    let start = if1 .before .before .before in
+    blink-cursor .blink-cursor .ensures ∙ ap (answered 0 []) (clear-blinks (start .pre) (if1 .if1 .left) (if2 .if2 .taken))
 
 with-cursor-requires : tie.Need-with-cursor-requires
 with-cursor-requires c κs = search needs
@@ -34,7 +39,13 @@ same-length-3 c = search needs
 
 returns-3 : tie.Need-returns-3
 unfolding done
-returns-3 c = ap (answered 0 []) (clear-graph (c .before .before .before .before .before .before .before .before .before .pre) (c .before .before .before .before .before .before .if1 .left) (c .before .before .before .before .before .if2 .left) (c .before .before .before .with-cursor .ensures) (c .before .before .set-head .ensures))
+returns-3 c =
+    let set-head = c .before .before in
+    let with-cursor = set-head .before in
+    let if2 = with-cursor .before .before in
+    let if1 = if2 .before in
+    let start = if1 .before .before .before in
+    ap (answered 0 []) (clear-graph (start .pre) (if1 .if1 .left) (if2 .if2 .left) (with-cursor .with-cursor .ensures) (set-head .set-head .ensures))
 
 pub clear-cursor-spec : {M : Type 1} → statement M
 clear-cursor-spec =

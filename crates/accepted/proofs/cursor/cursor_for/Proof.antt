@@ -1,4 +1,4 @@
-use Rattle.accepted.proofs.Blinking.{is-full, is-half}
+use Rattle.laws.specs.Cursors.{is-full, is-half}
 use Rattle.accepted.proofs.cursor.cursor_for.Statement.{statement}
 use Rattle.accepted.proofs.cursor.cursor_for.Tie as tie
 

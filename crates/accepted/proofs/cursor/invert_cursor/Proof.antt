@@ -1,5 +1,5 @@
 use mathlib.Core.Path.{_∙_}
-use Rattle.accepted.proofs.Blinking.{is-cursor-box}
+use Rattle.laws.specs.Cursors.{is-cursor-box}
 use borrow.Author.Needs.{needs}
 use Rattle.accepted.proofs.cursor.invert_cursor.Statement.{statement}
 use Rattle.accepted.proofs.cursor.invert_cursor.Tie as tie

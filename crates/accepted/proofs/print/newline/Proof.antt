@@ -37,7 +37,16 @@ newline-requires : tie.Need-newline-requires
 newline-requires c κs = let w = c .before .before .before .before .before .before .before .pre in let e = c .before .before .place-of .ensures in (ready w e 0 (omega arith), few-scrolls w e)
 
 store-page-requires : tie.Need-store-page-requires
-store-page-requires c κs = let k = c .before .before .before .before .before .before .before .before .before .before .before .before .before .before in let v = k .args .glass in let f = newlineOn (v .rows) (v .columns) in let w = k .pre in let e = c .before .before .before .before .before .before .before .before .before .place-of .ensures in let u = c .before .before .before .before .before .before .newline .ensures in (given-after w e f (newline-keeps w) u, place-in w e f (newline-keeps w) u)
+store-page-requires c κs =
+    let newline = c .before .before .before .before .before .before in
+    let place-of = newline .before .before .before in
+    let k = place-of .before .before .before .before .before in
+    let v = k .args .glass in
+    let f = newlineOn (v .rows) (v .columns) in
+    let w = k .pre in
+    let e = place-of .place-of .ensures in
+    let u = newline .newline .ensures in
+    (given-after w e f (newline-keeps w) u, place-in w e f (newline-keeps w) u)
 
 same-length : tie.Need-same-length
 same-length c = search needs
@@ -46,7 +55,15 @@ same-length-2 : tie.Need-same-length-2
 same-length-2 c = search needs
 
 returns : tie.Need-returns
-returns c = let k = c .before .before .before .before .before .before .before .before .before .before .before .before .before .before .before .before .before .before .before in let v = k .args .glass in let f = newlineOn (v .rows) (v .columns) in let w = k .pre in newline-left w (page-stored w (c .before .before .before .before .before .before .before .before .before .before .before .before .before .before .place-of .ensures) f (newline-keeps w) (c .before .before .before .before .before .before .before .before .before .before .before .newline .ensures) (c .before .before .before .before .store-page .ensures))
+returns c =
+    let store-page = c .before .before .before .before in
+    let newline = store-page .before .before .before .before .before .before .before in
+    let place-of = newline .before .before .before in
+    let k = place-of .before .before .before .before .before in
+    let v = k .args .glass in
+    let f = newlineOn (v .rows) (v .columns) in
+    let w = k .pre in
+    newline-left w (page-stored w (place-of .place-of .ensures) f (newline-keeps w) (newline .newline .ensures) (store-page .store-page .ensures))
 
 pub newline-spec : {M : Type 1} → statement M
 newline-spec =

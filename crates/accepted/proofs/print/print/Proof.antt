@@ -37,10 +37,27 @@ part-print-end-2 : tie.Need-part-print-end-2
 part-print-end-2 c = flags-end (c .before .before .before .before .before .before .before .before .pre)
 
 print-requires : tie.Need-print-requires
-print-requires c κs = let w = c .before .before .before .before .before .before .before .before .before .pre in let e = c .before .before .before .place-of .ensures in (ready w e 1 (omega arith), no-scrolls w e)
+print-requires c κs =
+    let place-of = c .before .before .before in
+    let start = place-of .before .before .before .before .before .before in
+    let w = start .pre in
+    let e = place-of .place-of .ensures in
+    (ready w e 1 (omega arith), no-scrolls w e)
 
 store-page-requires : tie.Need-store-page-requires
-store-page-requires c κs = let k = c .before .before .before .before .before .before .before .before .before .before .before .before .before .before .before .before in let a = k .args in let v = a .glass in let i = not (eqb (a .h .print) 0) in let f = printOn (v .rows) (v .columns) i (a .bytes .now) in let keeps = print-sheet (v .rows) (v .columns) i (a .bytes .now) in let w = k .pre in let e = c .before .before .before .before .before .before .before .before .before .before .place-of .ensures in let u = c .before .before .before .before .before .before .print .ensures in (given-after w e f keeps u, place-in w e f keeps u)
+store-page-requires c κs =
+    let print = c .before .before .before .before .before .before in
+    let place-of = print .before .before .before .before in
+    let k = place-of .before .before .before .before .before .before in
+    let a = k .args in
+    let v = a .glass in
+    let i = not (eqb (a .h .print) 0) in
+    let f = printOn (v .rows) (v .columns) i (a .bytes .now) in
+    let keeps = print-sheet (v .rows) (v .columns) i (a .bytes .now) in
+    let w = k .pre in
+    let e = place-of .place-of .ensures in
+    let u = print .print .ensures in
+    (given-after w e f keeps u, place-in w e f keeps u)
 
 same-length : tie.Need-same-length
 same-length c = search needs
@@ -49,7 +66,18 @@ same-length-2 : tie.Need-same-length-2
 same-length-2 c = search needs
 
 returns : tie.Need-returns
-returns c = let k = c .before .before .before .before .before .before .before .before .before .before .before .before .before .before .before .before .before .before .before .before .before in let a = k .args in let v = a .glass in let i = not (eqb (a .h .print) 0) in let f = printOn (v .rows) (v .columns) i (a .bytes .now) in let keeps = print-sheet (v .rows) (v .columns) i (a .bytes .now) in let w = k .pre in print-left w (a .bytes .now) (page-stored w (c .before .before .before .before .before .before .before .before .before .before .before .before .before .before .before .place-of .ensures) f keeps (c .before .before .before .before .before .before .before .before .before .before .before .print .ensures) (c .before .before .before .before .store-page .ensures))
+returns c =
+    let store-page = c .before .before .before .before in
+    let print = store-page .before .before .before .before .before .before .before in
+    let place-of = print .before .before .before .before in
+    let k = place-of .before .before .before .before .before .before in
+    let a = k .args in
+    let v = a .glass in
+    let i = not (eqb (a .h .print) 0) in
+    let f = printOn (v .rows) (v .columns) i (a .bytes .now) in
+    let keeps = print-sheet (v .rows) (v .columns) i (a .bytes .now) in
+    let w = k .pre in
+    print-left w (a .bytes .now) (page-stored w (place-of .place-of .ensures) f keeps (print .print .ensures) (store-page .store-page .ensures))
 
 pub print-spec : {M : Type 1} → statement M
 print-spec =

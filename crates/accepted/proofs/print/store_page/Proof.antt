@@ -39,7 +39,9 @@ scroll-marks-requires : tie.Need-scroll-marks-requires
 scroll-marks-requires c κs = screen-small _ (c .before .before .before .before .before .before .before .before .before .before .before .pre .0 .known .suits) (c .canvas-of .ensures)
 
 at-place-requires : tie.Need-at-place-requires
-at-place-requires c κs = place-short (c .before .before .before .before .before .before .before .before .before .before .before .before .before .pre .0) (c .before .before .before .before .before .before .before .before .before .before .before .before .before .args .p) (c .before .before .before .before .before .before .before .before .before .before .before .before .before .pre .1)
+at-place-requires c κs =
+    let start = c .before .before .before .before .before .before .before .before .before .before .before .before .before in
+    place-short (start .pre .0) (start .args .p) (start .pre .1)
 
 mark-head-requires : tie.Need-mark-head-requires
 mark-head-requires c κs = c .before .before .before .before .before .before .before .before .before .before .before .before .before .before .pre .0 .known
@@ -51,7 +53,16 @@ same-length-2 : tie.Need-same-length-2
 same-length-2 c = search needs
 
 returns : tie.Need-returns
-returns c = let m = c .before .before .before .before .before .scroll-marks .ensures in page-follows (c .before .before .before .before .before .before .before .before .before .before .before .before .before .before .before .before .before .pre .0) (c .before .before .before .before .before .before .before .before .before .before .before .before .before .before .before .before .before .args .p) (c .before .before .before .before .before .before .before .before .before .before .before .before .before .before .screen-scrolls .ensures) (c .before .before .before .before .before .before .before .before .before .scroll-screen .ensures) (c .before .before .before .before .before .before .canvas-of .ensures) (m .0) (m .1) (c .before .before .before .at-place .ensures) (c .before .before .mark-head .ensures)
+returns c =
+    let mark-head = c .before .before in
+    let at-place = mark-head .before in
+    let scroll-marks = at-place .before .before in
+    let canvas-of = scroll-marks .before in
+    let scroll-screen = canvas-of .before .before .before in
+    let screen-scrolls = scroll-screen .before .before .before .before .before in
+    let start = screen-scrolls .before .before .before in
+    let m = scroll-marks .scroll-marks .ensures in
+    page-follows (start .pre .0) (start .args .p) (screen-scrolls .screen-scrolls .ensures) (scroll-screen .scroll-screen .ensures) (canvas-of .canvas-of .ensures) (m .0) (m .1) (at-place .at-place .ensures) (mark-head .mark-head .ensures)
 
 pub store-page-spec : {M : Type 1} → statement M
 store-page-spec =
