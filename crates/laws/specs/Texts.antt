@@ -10,7 +10,7 @@ use Rattle.model.specs.Glass.{IsGlass}
 use Rattle.model.specs.Record.{State, WellFormed}
 use Rattle.model.specs.Print.{pageOf}
 use Rattle.laws.specs.Memory.{length-window}
-use Rattle.laws.specs.Record.{numbers}
+use Rattle.laws.specs.Record.{head-tells}
 use Rattle.laws.specs.Pages.{Sheet}
 
 turned : (s r : ℕ) → s * (glyphHeight * r) ≡ r * (glyphHeight * s)
@@ -30,7 +30,7 @@ module _ (g : Geometry) (z : IsGlass g) where
   pub page-sheet : (s : State) (m : List ℕ) → WellFormed g s → s .head .text + cells g ≤ length m → (n : ℕ) → n ≤ 1 → Sheet (rows g) (columns g) n (pageOf g s m)
   unfolding pageOf
   page-sheet s m w h n k =
-      let t = numbers g (s .head) (w .head) in
+      let t = head-tells g (s .head) (w .head) in
       record {
         wide = z .columns;
         text = length-window (s .head .text) (cells g) m h;
