@@ -1,10 +1,7 @@
 // From 0 on: times 31 plus the next byte, modulo 2^32, over what the reference has too.
+use record::glass::glass_of;
+use record::panels::panel_at;
 ghost use Prim.Native.Nat.{_<_};
-
-// Where the record holds owed, in hand and lines sent, which the reference has not.
-const ADDED: usize = 18;
-
-const ADDED_END: usize = 38;
 
 fn add_byte(sum: u64, byte: u8) -> u64
     requires { ⌜ sum < 4294967296 ⌝ }
@@ -13,13 +10,17 @@ fn add_byte(sum: u64, byte: u8) -> u64
     (31 * sum + (byte as u64)) % 4294967296
 }
 
+// All but owed, in hand and lines sent of the panel, which the reference has not.
 fn add_record(rec: &[u8]) -> u64
     ensures { λ r. ⌜ r < 4294967296 ⌝ }
 {
+    let glass = glass_of(rec.len());
+    let start = panel_at(glass, 0);
+    let end = start + glass.pending;
     let mut sum: u64 = 0;
     let mut i = 0;
     while i < rec.len() {
-        if (i < ADDED) | (i >= ADDED_END) {
+        if (i < start) | (i >= end) {
             sum = add_byte(sum, rec[i]);
         }
         i += 1;

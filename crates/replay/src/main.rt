@@ -28,7 +28,7 @@ fn replay_all(rec: &mut [u8], memory: &mut [u8]) {
 }
 
 fn main() {
-    let mut rec = [0u8; record::layout::RECORD_BYTES];
+    let mut rec = [0u8; model::glass::RECORD_BYTES];
     let mut memory = [0u8; model::glass::MEMORY_BYTES];
     replay_all(&mut rec, &mut memory);
 }

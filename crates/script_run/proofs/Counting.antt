@@ -15,7 +15,7 @@ use Rattle.model.specs.Geometry.{base, screenBytes}
 use Rattle.model.specs.Bits.{bitAt}
 use Rattle.model.specs.declared.Rect.{Rect}
 use Rattle.model.specs.Rects.{linesOf}
-use Rattle.model.specs.Record.{rectAt, rectsAt}
+use Rattle.model.specs.Bytes.{rectAt, rectsAt}
 use Rattle.model.specs.Lists.{differs, sum, differing, owedLines}
 use Rattle.laws.specs.Counts.{byteDiffers, bytesDiffer, differing-bytes}
 

@@ -7,7 +7,7 @@ use native.Mathlib.Omega.{arith}
 use lib.Dec.{ltb, eqb}
 use borrow.Author.Tests.{lt-ltb, le-ltb}
 use lib.ListN.{length, replicate, length-append, length-replicate}
-use Rattle.model.specs.declared.Pending.{Pending}
+use Rattle.model.specs.Record.{Pending}
 use Rattle.model.specs.Geometry.{base}
 use Rattle.model.specs.Memory.{zeros}
 use Rattle.model.specs.Rects.{isEmpty}
@@ -52,15 +52,15 @@ ruled-le zero f d h e = e
 ruled-le (suc n) f d h e = h (suc n)
 
 point-le : (x y m : ℕ) (l : Lent) → length (outcome base (drawPoint x y m) l .numbers) ≤ 4
-unfolding outcome refused done answered numbers zeros
+unfolding outcome refused done answered
 point-le x y m l = ruled-le _ _ _ (λ k. omega arith) (omega arith)
 
 line-le : (x y z w m : ℕ) (l : Lent) → length (outcome base (drawLine x y z w m) l .numbers) ≤ 4
-unfolding outcome refused done answered numbers zeros
+unfolding outcome refused done answered
 line-le x y z w m l = ruled-le _ _ _ (λ k. omega arith) (omega arith)
 
 poke-le : (a v : ℕ) (l : Lent) → length (outcome base (writeByte a v) l .numbers) ≤ 4
-unfolding outcome refused done answered numbers zeros
+unfolding outcome refused done answered
 poke-le a v l = ruled-le _ _ _ (λ k. omega arith) (omega arith)
 
 sent-le : (p : Pending) → length (sendNumbers p) ≤ 4
@@ -68,7 +68,7 @@ unfolding sendNumbers lineNumbers
 sent-le p = by-test {P = length (sendNumbers p) ≤ 4} (isEmpty (takeOwed p .hand)) (λ e. rw e (omega arith)) (λ e. rw e (omega arith))
 
 send-le : (l : Lent) → length (outcome base send l .numbers) ≤ 4
-unfolding outcome refused done answered numbers zeros
+unfolding outcome refused done answered
 send-le l = ruled-le _ _ _ (λ k. omega arith) (sent-le _)
 
 -- ---- lines

@@ -7,10 +7,13 @@ use native.Mathlib.Omega.{arith}
 use borrow.Author.Tests.{lt-ltb, le-ltb, eq-eqb}
 use lib.ListN.{length, take, drop, length-append, length-drop, take-append-drop}
 use lib.Seq.{take-add, drop-drop, take-append-seam, drop-append-seam, length-take-le}
-use Rattle.model.specs.Geometry.{base, memoryBytes, screenBytes}
+use Rattle.model.specs.Geometry.{Geometry, base, memoryBytes, screenBytes}
 use Rattle.model.specs.Rects.{linesOf}
 use Rattle.model.specs.Memory.{window, withWindow, zeros}
-use Rattle.model.specs.Record.{decode, rectAt, rectsAt, pendingAt, recordBytes, windows}
+use Rattle.model.specs.Bytes.{rectAt, rectsAt}
+use Rattle.model.specs.declared.glass.Glass.{Glass}
+use Rattle.model.specs.Glass.{geometry}
+use Rattle.model.specs.Record.{panel, at, Pending, pendingOf, panelOf, decode, recordBytes, windows}
 use Rattle.model.specs.Refusals.{refusal, ruled}
 use Rattle.model.specs.Calls.{opening, Lent, lent, Outcome, answered, refusals, done, outcome}
 use Rattle.model.specs.Lists.{owedLines, linesLeft, differing}
@@ -18,6 +21,10 @@ use Rattle.model.specs.Characters.{bytesOf}
 use Rattle.model.specs.Script.Read.{ScriptLine, readScript}
 use Rattle.model.specs.Script.Output.{printed, spaced, linePrints, lineLeaves, graphicsBase, textBase, noKeys, opened, ending, runLinesFrom, runLines, longest, scriptText}
 use Rattle.laws.specs.Memory.{window-extend}
+use Rattle.laws.specs.Record.{panel-decoded}
+use Rattle.laws.specs.Windows.{pending-part}
+use Rattle.laws.specs.Panels.{hand-room}
+use Rattle.record.specs.Entry.{Chosen}
 use Rattle.script.specs.declared.Form.{Form}
 use Rattle.script.specs.declared.LineOrEnd.{LineOrEnd}
 use Rattle.script.specs.declared.LineOrEnd.the-variants.{Line as LineAt, End}
@@ -28,9 +35,21 @@ use Rattle.script_run.proofs.Writing.{wrote-as, wrote-length}
 
 -- ---- the last line
 
-module _ (at : ℕ) (r m p : List ℕ) (d k : ℕ) (o : List ℕ) (e : d ≡ differing base (take (graphicsBase + screenBytes base - graphicsBase) (drop graphicsBase m)) p) (f : k ≡ linesOf (rectAt r (pendingAt + 8 * base .bands)) + owedLines (rectsAt (base .bands) r pendingAt)) where
+-- panel 0's part where the code reads it
+module _ (r : List ℕ) {v : Glass} (k : Chosen (length r) v) {a : ℕ} (e : a ≡ at (geometry v) (panel 0)) where
+  pub part-room : length r ≡ recordBytes base → (a + 8 * v .bands + 12 ≤ length r) × (v .bands ≤ 256)
+  part-room n = (hand-room r (k .suits) (n ∙ ap recordBytes (sym (k .glass))) (k .suits .glass .one) e, omega (arith, ap (λ (g : Geometry). g .bands) (k .glass)))
+
+  pub lines-read : {l : ℕ} → l ≡ linesOf (rectAt r (a + 8 * v .bands)) + owedLines (rectsAt (v .bands) r a) → l ≡ linesLeft (panelOf base (decode base r) 0)
+  unfolding linesLeft
+  lines-read f =
+      f ∙ ap (λ (i : ℕ). linesOf (rectAt r (i + 8 * v .bands)) + owedLines (rectsAt (v .bands) r i)) e
+      ∙ ap (λ (g : Geometry). linesOf (pendingOf g r (at g (panel 0)) .hand) + owedLines (pendingOf g r (at g (panel 0)) .owed)) (k .glass)
+      ∙ sym (ap (λ (p : Pending). linesOf (p .hand) + owedLines (p .owed)) (panel-decoded base r 0 (omega arith) ∙ pending-part base r 0))
+
+module _ (at : ℕ) (r m p : List ℕ) (d k : ℕ) (o : List ℕ) (e : d ≡ differing base (take (graphicsBase + screenBytes base - graphicsBase) (drop graphicsBase m)) p) (f : k ≡ linesLeft (panelOf base (decode base r) 0)) where
   ending-is : ending (lent r m p) ≡ printed (bytesOf "end") (d ∷ k ∷ [])
-  unfolding ending decode window linesLeft
+  unfolding ending window
   ending-is = rw (e, f)
 
   pub ending-room : at + length (ending (lent r m p)) ≤ length o → at + length (printed (bytesOf "end") (d ∷ k ∷ [])) ≤ length o

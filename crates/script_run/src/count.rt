@@ -6,7 +6,7 @@ ghost use Prim.Native.Nat.{_+_, _*_, _≤_, _<_};
 ghost use lib.ListN.{length};
 ghost use Rattle.model.specs.Geometry.{base, screenBytes};
 ghost use Rattle.model.specs.Rects.{linesOf};
-ghost use Rattle.model.specs.Record.{rectAt, rectsAt};
+ghost use Rattle.model.specs.Bytes.{rectAt, rectsAt};
 ghost use Rattle.model.specs.Lists.{owedLines, differing};
 ghost use Rattle.laws.specs.Counts.{byteDiffers, bytesDiffer};
 

@@ -3,7 +3,8 @@ use crate::count;
 use crate::output;
 use model::Sent;
 use model::glass::SCREEN_BYTES;
-use record::layout;
+use record::glass::glass_of;
+use record::panels::panel_at;
 use script::Form;
 use script::LineOrEnd;
 use script::reader;
@@ -91,7 +92,8 @@ fn put_ending(out: &mut [u8], at: usize, rec: &[u8], memory: &[u8], panel: &[u8]
     let from = GRAPHICS_BASE as usize;
     let to = from + SCREEN_BYTES;
     let differing = count::count_differing(&memory[from..to], panel);
-    let left = count::lines_left(rec, layout::PENDING, 1);
+    let glass = glass_of(rec.len());
+    let left = count::lines_left(rec, panel_at(glass, 0), glass.bands);
     output::put_printed(out, at, b"end", &[differing, left])
 }
 
@@ -137,7 +139,7 @@ pub fn run_script(
     if script.len() > LONGEST {
         return output::put_text(out, 0, b"(long)\n");
     }
-    layout::clear(panel);
+    slices::clear(panel);
     caption::open::caption_open(
         rec,
         memory,

@@ -1,7 +1,7 @@
 // Runs one script after another and writes what each prints: each form, each kind of unreadable line, and scripts of the greatest length and longer.
 fn show(script: &[u8]) {
     let mut out = [0u8; 163900];
-    let mut rec = [0u8; record::layout::RECORD_BYTES];
+    let mut rec = [0u8; model::glass::RECORD_BYTES];
     let mut memory = [0u8; model::glass::MEMORY_BYTES];
     let mut panel = [0u8; model::glass::SCREEN_BYTES];
     let end = script_run::runner::run_script(script, &mut out, &mut rec, &mut memory, &mut panel);

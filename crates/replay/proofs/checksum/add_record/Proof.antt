@@ -4,14 +4,24 @@ use mathlib.Core.Logic.{⊎-elim}
 use borrow.Author.Needs.{needs}
 use Prim.Native.Nat.{_<_, _-_}
 use lib.ListN.{length}
+use Rattle.laws.specs.Panels.{panel-room}
 use Rattle.replay.proofs.checksum.add_record.Statement.{statement}
 use Rattle.replay.proofs.checksum.add_record.Tie as tie
 
 abbrev Inv-loop : tie.InvT-loop
-Inv-loop rec sum₀ i₀ sum i = sum < 4294967296
+Inv-loop rec start end sum₀ i₀ sum i = sum < 4294967296
 
 abbrev μ-loop : tie.MeasureT-loop
-μ-loop rec sum₀ i₀ sum i = length rec - i
+μ-loop rec start end sum₀ i₀ sum i = length rec - i
+
+glass-of-requires : tie.Need-glass-of-requires Inv-loop μ-loop
+glass-of-requires c κs = search needs
+
+panel-at-requires : tie.Need-panel-at-requires Inv-loop μ-loop
+panel-at-requires c κs = let k = c .glass-of .ensures in (k .suits, k .suits .glass .one)
+
+add-end : tie.Need-add-end Inv-loop μ-loop
+add-end c = let k = c .before .before .glass-of .ensures in omega (arith, c .before .panel-at .ensures, panel-room _ 0 (k .suits) (k .suits .glass .one), k .suits .is-pending, k .suits .glass .long)
 
 loop-holds : tie.Need-loop-holds Inv-loop μ-loop
 loop-holds c = search needs
@@ -40,6 +50,9 @@ add-record-spec =
     (tie.spec
     Inv-loop
     μ-loop
+    glass-of-requires
+    panel-at-requires
+    add-end
     loop-holds
     shared-slice-read-add-byte
     add-byte-requires

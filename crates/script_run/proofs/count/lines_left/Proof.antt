@@ -2,7 +2,7 @@ use native.Mathlib.Omega.{arith}
 use borrow.Author.Needs.{needs}
 use mathlib.Core.Path.{_≡_}
 use Prim.Native.Nat.{_+_, _*_, _≤_}
-use Rattle.model.specs.Record.{rectsAt}
+use Rattle.model.specs.Bytes.{rectsAt}
 use Rattle.model.specs.Lists.{owedLines}
 use Rattle.script_run.proofs.Counting.{left-turn, left-end}
 use Rattle.script_run.proofs.count.lines_left.Statement.{statement}
