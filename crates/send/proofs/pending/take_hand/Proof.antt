@@ -1,4 +1,5 @@
 use native.Mathlib.Omega.{arith}
+use Rattle.model.specs.Glass.{geometry}
 use Rattle.laws.specs.Sending.{hand-taken, hand-full}
 use borrow.Author.Needs.{needs}
 use Rattle.send.proofs.pending.take_hand.Statement.{statement}
@@ -23,7 +24,9 @@ same-length : tie.Need-same-length
 same-length c = search needs
 
 returns : tie.Need-returns
-returns c = let l = c .before .before .before .before .before .before in hand-taken _ _ _ (l .load-rect .ensures) (c .before .before .before .before .before .is-empty .ensures) (c .before .before .before .before .if1 .taken) (c .before .before .take-owed .ensures)
+returns c =
+    let l = c .before .before .before .before .before .before in
+    hand-taken (geometry (l .before .before .before .args .glass)) _ _ (l .load-rect .ensures) (c .before .before .before .before .before .is-empty .ensures) (c .before .before .before .before .if1 .taken) (c .before .before .take-owed .ensures)
 
 same-length-2 : tie.Need-same-length-2
 same-length-2 c = search needs
