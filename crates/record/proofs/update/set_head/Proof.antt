@@ -1,10 +1,10 @@
-use Rattle.laws.specs.Updates.{head-room, sets-head}
+use Rattle.record.proofs.Updating.{head-there, sets-head}
 use borrow.Author.Needs.{needs}
 use Rattle.record.proofs.update.set_head.Statement.{statement}
 use Rattle.record.proofs.update.set_head.Tie as tie
 
 store-head-requires : tie.Need-store-head-requires
-store-head-requires c κs = head-room _ _ (c .before .before .pre)
+store-head-requires c κs = head-there (c .before .before .pre)
 
 same-length : tie.Need-same-length
 same-length c = search needs
