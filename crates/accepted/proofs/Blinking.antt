@@ -20,6 +20,8 @@ use Rattle.model.specs.Cursor.{blinkOf, blinkNext, cursorBox, underCursor, blin
 use Rattle.model.specs.Calls.{lent, changed, drawingWith, blinked, cursorCleared}
 use Rattle.laws.specs.Record.{Numbers}
 use Rattle.laws.specs.Cursors.{cell-of, byte-of}
+use Rattle.record.specs.Update.{updated}
+use Rattle.record.proofs.Updating.{updated-for}
 use Rattle.accepted.specs.Given.{Given}
 use Rattle.accepted.proofs.Drawing.{drew-with}
 
@@ -53,7 +55,7 @@ module _ {v : Glass} {r : List ℕ} {h : Head} {m : List ℕ} (w : Given v r h m
   -- in Text it is a drawing, with another head
   pub blink-drew : (c : Marks) (s : List ℕ) {b k d : ℕ} {a : Canvas} {n : Head} {t : List ℕ} → h .screen ≡ 0 → b ≡ underCursor (geometry v) h m → k ≡ blinkOf (h .cursor) b → a ≡ canvas v
       → drawn c s ≡ drawnOn (a .stride) (a .height) (cursorBox (a .stride) (a .height) (h .row) (h .column) k) (take (h .graphics + v .screen - h .graphics) (drop (h .graphics) m))
-      → d ≡ blinkNext (h .cursor) b → n ≡ withCursor d h → t ≡ encode (geometry v) (marked (geometry v) (c .dirty) (c .owed) (withHead n (decode (geometry v) r)))
+      → d ≡ blinkNext (h .cursor) b → n ≡ withCursor d h → t ≡ updated (λ g x. marked g (c .dirty) (c .owed) (withHead n x)) r
       → lent t (putMid (h .graphics) (h .graphics + v .screen - h .graphics) m s) [] ≡ blinked (geometry v) (lent r m [])
   unfolding blinked blinkHead blinkDrawing
   blink-drew c s z u k q e d n t =
@@ -75,10 +77,10 @@ module _ {v : Glass} {r : List ℕ} {h : Head} {m : List ℕ} (w : Given v r h m
     unfolding cursorCleared
     clear-blinks q = rw (is-shown, in-text q)
 
-    pub clear-graph : {n : Head} {t : List ℕ} → (h .screen ≡ 0 → ⊥) → n ≡ withCursor 0 h → t ≡ encode (geometry v) (withHead n (decode (geometry v) r))
+    pub clear-graph : {n : Head} {t : List ℕ} → (h .screen ≡ 0 → ⊥) → n ≡ withCursor 0 h → t ≡ updated (λ g x. withHead n x) r
         → lent t m [] ≡ cursorCleared (geometry v) (lent r m [])
     unfolding cursorCleared changed
-    clear-graph q e f =
+    clear-graph {n} q e f =
         let g = geometry v in
         rw (is-shown, in-graph q)
-        (λ i. lent ((f ∙ ap (λ (x : Head). encode g (withHead x (decode g r))) (e ∙ ap (withCursor 0) (w .head))) i) m [])
+        (λ i. lent ((updated-for r (λ y x. withHead n x) (w .chosen) f ∙ ap (λ (x : Head). encode g (withHead x (decode g r))) (e ∙ ap (withCursor 0) (w .head))) i) m [])

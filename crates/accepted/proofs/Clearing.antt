@@ -20,6 +20,8 @@ use Rattle.laws.specs.Parts.{part-back}
 use Rattle.laws.specs.Loops.{length-zeros}
 use Rattle.laws.specs.Memory.{length-withWindow}
 use Rattle.laws.specs.Updates.{whole-of}
+use Rattle.record.specs.Update.{updated}
+use Rattle.record.proofs.Updating.{updated-for}
 use Rattle.accepted.specs.Given.{Given}
 use Rattle.accepted.proofs.Drawing.{part-length}
 
@@ -44,11 +46,12 @@ windows-cleared v h m {s} z p q e f =
 
 pub was-cleared : {v : Glass} {r : List ℕ} {h : Head} {m : List ℕ} (w : Given v r h m) (mode : ℕ) {n : Head} {k : Canvas} {c : Marks} {s t : List ℕ}
     → t ≡ clearedMemory (geometry v) h m → k ≡ canvas v → c .dirty ≡ whole (k .stride) (k .height) → c .owed ≡ whole (k .stride) (k .height) → n ≡ atPlace 0 0 (withScreenMode mode h)
-    → s ≡ encode (geometry v) (marked (geometry v) (c .dirty) (c .owed) (withHead n (withFlags (clearFlags (geometry v)) (decode (geometry v) r))))
+    → s ≡ updated (λ g x. marked g (c .dirty) (c .owed) (withHead n (withFlags (clearFlags g) x))) r
     → lent s t [] ≡ cleared (geometry v) mode (lent r m [])
 unfolding cleared clearedState
-was-cleared {v} {r} {h} {m} w mode f k d o e q =
+was-cleared {v} {r} {h} {m} w mode {n} {c = c} f k d o e q =
     let g = geometry v in
     let all = whole-of v k ∙ ap (whole (v .stride)) (w .known .suits .is-height) in
     let a = e ∙ ap (λ (x : Head). atPlace 0 0 (withScreenMode mode x)) (w .head) in
-    λ i. lent ((q ∙ (λ j. encode g (marked g ((d ∙ all) j) ((o ∙ all) j) (withHead (a j) (withFlags (clearFlags g) (decode g r)))))) i) ((f ∙ ap (λ (x : Head). clearedMemory g x m) (w .head)) i) []
+    let rec = updated-for r (λ j x. marked j (c .dirty) (c .owed) (withHead n (withFlags (clearFlags j) x))) (w .chosen) q in
+    λ i. lent ((rec ∙ (λ j. encode g (marked g ((d ∙ all) j) ((o ∙ all) j) (withHead (a j) (withFlags (clearFlags g) (decode g r)))))) i) ((f ∙ ap (λ (x : Head). clearedMemory g x m) (w .head)) i) []

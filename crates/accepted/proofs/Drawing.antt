@@ -13,8 +13,8 @@ use Rattle.model.specs.declared.DrawMode.the-variants.{Unknown}
 use Rattle.model.specs.declared.Head.{Head}
 use Rattle.model.specs.declared.Marks.{Marks}
 use Rattle.model.specs.declared.glass.Glass.{Glass}
-use Rattle.model.specs.Geometry.{height, screenBytes, cells}
-use Rattle.model.specs.Glass.{geometry, canvas, Suits}
+use Rattle.model.specs.Geometry.{Geometry, height, screenBytes, cells}
+use Rattle.model.specs.Glass.{geometry, canvas, glassOf, Suits}
 use Rattle.model.specs.Pixels.{Screen, seen}
 use Rattle.model.specs.Memory.{window, withWindow, screenOf}
 use Rattle.model.specs.Record.{decode, encode, withHead}
@@ -23,7 +23,10 @@ use Rattle.model.specs.Points.{drawMode, isSet}
 use Rattle.model.specs.Calls.{lent, answered, flag, drawingWith, drawing}
 use Rattle.laws.specs.Pixels.{length-draw}
 use Rattle.laws.specs.Parts.{part-window, part-back}
+use Rattle.laws.specs.Record.{Passing}
 use Rattle.laws.specs.Updates.{head-numbers}
+use Rattle.record.specs.Update.{updated}
+use Rattle.record.proofs.Updating.{passes-for, updated-for}
 use Rattle.accepted.specs.Given.{Given}
 
 pub unknown-mode : (n : ℕ) → 3 ≤ n → Unknown ≡ drawMode n
@@ -67,6 +70,13 @@ checked {v} a m x y {t = t} z q e =
     ∙ (λ i. flag (isSet (v .stride) (z .is-height i) (window a (z .is-screen i) m) x y))
 
 module _ {v : Glass} {r : List ℕ} {h : Head} {m : List ℕ} (w : Given v r h m) where
+  -- the record passes for the glass that its length tells
+  pub stands : Passing (glassOf (length r)) r
+  stands = passes-for (w .chosen) (w .known)
+
+  pub head-stands : h ≡ decode (glassOf (length r)) r .head
+  head-stands = w .head ∙ ap (λ (g : Geometry). decode g r .head) (w .chosen .glass)
+
   -- screen and text end within memory
   pub screen-in : h .graphics + v .screen ≤ 65535
   screen-in = let z = w .known .suits in omega (arith, head-numbers v r h (w .known) (w .head), z .is-screen, z .glass .screen)
@@ -86,10 +96,10 @@ module _ {v : Glass} {r : List ℕ} {h : Head} {m : List ℕ} (w : Given v r h m
   -- what a drawing on the lent part leaves of record and memory, with the head that f makes; a and b are the mode as the code and as the definition has it
   pub drew-with : {A : Type 0} (f : Head → Head) (shape : ℕ → ℕ → A → Drawing) (c : Marks) (s : List ℕ) {a b : A} {k : Canvas} {t : List ℕ} {n : Head} → a ≡ b → k ≡ canvas v
       → drawn c s ≡ drawnOn (k .stride) (k .height) (shape (k .stride) (k .height) a) (take (h .graphics + v .screen - h .graphics) (drop (h .graphics) m))
-      → n ≡ f h → t ≡ encode (geometry v) (marked (geometry v) (c .dirty) (c .owed) (withHead n (decode (geometry v) r)))
+      → n ≡ f h → t ≡ updated (λ g x. marked g (c .dirty) (c .owed) (withHead n x)) r
       → lent t (putMid (h .graphics) (h .graphics + v .screen - h .graphics) m s) [] ≡ drawingWith (geometry v) f (shape (v .stride) (height (geometry v)) b) (lent r m [])
   unfolding drawingWith drawn
-  drew-with f shape c s {a} {b} {k} p q e j t =
+  drew-with f shape c s {a} {b} {k} {n = n} p q e j t =
       let g = geometry v in
       let z = w .known .suits in
       let at = h .graphics in
@@ -101,7 +111,7 @@ module _ {v : Glass} {r : List ℕ} {h : Head} {m : List ℕ} (w : Given v r h m
       let long : length s ≡ at + v .screen - at =
       ap (λ (x : Drawn). length (x .screen)) e ∙ drawn-length (k .stride) (k .height) (shape (k .stride) (k .height) a) part ∙ part-length at (v .screen) m screen-room ∙ omega arith in
       let back = part-back at (at + v .screen) m s (omega arith) long ∙ ap (λ (x : Drawn). withWindow at (x .screen) m) o in
-      let rec = t ∙ (λ i. encode g (marked g (o i .dirty) (o i .owed) (withHead (j i) (decode g r)))) in
+      let rec = updated-for r (λ y x. marked y (c .dirty) (c .owed) (withHead n x)) (w .chosen) t ∙ (λ i. encode g (marked g (o i .dirty) (o i .owed) (withHead (j i) (decode g r)))) in
       (λ i. lent (rec i) (back i) [])
       ∙ ap (λ (x : Head). lent (encode g (marked g (drawnOn (v .stride) (height g) d (window (x .graphics) (screenBytes g) m) .dirty) (drawnOn (v .stride) (height g) d (window (x .graphics) (screenBytes g) m) .owed) (withHead (f x) (decode g r))))
       (withWindow (x .graphics) (drawnOn (v .stride) (height g) d (window (x .graphics) (screenBytes g) m) .screen) m) []) (w .head)
@@ -109,8 +119,6 @@ module _ {v : Glass} {r : List ℕ} {h : Head} {m : List ℕ} (w : Given v r h m
   -- with the head that stands there
   pub drew : {A : Type 0} (shape : ℕ → ℕ → A → Drawing) (c : Marks) (s : List ℕ) {a b : A} {k : Canvas} {t : List ℕ} → a ≡ b → k ≡ canvas v
       → drawn c s ≡ drawnOn (k .stride) (k .height) (shape (k .stride) (k .height) a) (take (h .graphics + v .screen - h .graphics) (drop (h .graphics) m))
-      → t ≡ encode (geometry v) (marked (geometry v) (c .dirty) (c .owed) (decode (geometry v) r))
+      → t ≡ updated (λ g x. marked g (c .dirty) (c .owed) (withHead h x)) r
       → answered 0 [] (lent t (putMid (h .graphics) (h .graphics + v .screen - h .graphics) m s) []) ≡ answered 0 [] (drawing (geometry v) (shape (v .stride) (height (geometry v)) b) (lent r m []))
-  drew shape c s p q e t =
-      let g = geometry v in
-      ap (answered 0 []) (drew-with (λ x. x) shape c s p q e refl (t ∙ ap (λ (x : Head). encode g (marked g (c .dirty) (c .owed) (withHead x (decode g r)))) (sym (w .head))))
+  drew shape c s p q e t = ap (answered 0 []) (drew-with (λ x. x) shape c s p q e refl t)

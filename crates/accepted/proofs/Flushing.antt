@@ -17,7 +17,7 @@ use Rattle.model.specs.Geometry.{Geometry, height, rows, columns, cells, screen
 use Rattle.model.specs.Glass.{geometry, canvas}
 use Rattle.model.specs.Memory.{window, withWindow}
 use Rattle.model.specs.Flags.{flagBytes, flagsIn}
-use Rattle.model.specs.Record.{flags, decode, encode}
+use Rattle.model.specs.Record.{flags, decode, encode, withHead}
 use Rattle.model.specs.Marks.{whole, marked}
 use Rattle.model.specs.Glyphs.{Fonts, fontsFit, paint}
 use Rattle.model.specs.Flush.{textStores, flushStores, clearedInText, flushed}
@@ -29,6 +29,8 @@ use Rattle.laws.specs.Loops.{length-zeros}
 use Rattle.laws.specs.Glyphs.{length-paint}
 use Rattle.laws.specs.Record.{length-part, has-flags}
 use Rattle.laws.specs.StateTest.{flags-part}
+use Rattle.record.specs.Update.{updated}
+use Rattle.record.proofs.Updating.{updated-for}
 use Rattle.flush.specs.Fits.{textFits}
 use Rattle.flush.specs.Rooms.{TextScreen}
 use Rattle.flush.proofs.Fitting.{text-fits}
@@ -99,7 +101,7 @@ module _ {v : Glass} {r : List ℕ} {h : Head} {m : List ℕ} (w : Given v r h m
   pub flush-drew : (f : Fonts) (c : Marks) (s : List ℕ) {k : Canvas} {x t : List ℕ} → k ≡ canvas v → (c .dirty ≡ whole (k .stride) (k .height)) × (c .owed ≡ whole (k .stride) (k .height))
       → x ≡ textPart
       → s ≡ paint (textStores (v .columns) (v .rows) x (flagsIn (v .rows * v .columns) flagsPart) (h .version) f) (clearedInText (h .screen) screenPart (length screenPart))
-      → t ≡ encode (geometry v) (marked (geometry v) (c .dirty) (c .owed) (decode (geometry v) r))
+      → t ≡ updated (λ g y. marked g (c .dirty) (c .owed) (withHead h y)) r
       → answered 0 [] (lent t (putMid (h .graphics) (h .graphics + v .screen - h .graphics) m s) []) ≡ done (geometry v) (flush f) (lent r m [])
   unfolding done decode flushed
   flush-drew f c s {k} {x} q n e p d =
@@ -112,7 +114,7 @@ module _ {v : Glass} {r : List ℕ} {h : Head} {m : List ℕ} (w : Given v r h m
       let painted = p ∙ (λ i. paint (textStores (z .is-columns i) (z .is-rows i) ((e ∙ text-is) i) (flagsIn (z .is-rows i * z .is-columns i) (flags-part v r z i)) (h .version) f)
       (clearedInText (h .screen) ((part-window (h .graphics) (v .screen) m ∙ ap (λ (y : ℕ). window (h .graphics) y m) (z .is-screen)) i) ((screen-length ∙ z .is-screen) i))) in
       let back = part-back (h .graphics) (h .graphics + v .screen) m s (omega arith) long ∙ ap (λ (y : List ℕ). withWindow (h .graphics) y m) painted in
-      let marks = d ∙ (λ i. encode g (marked g ((n .0 ∙ as-whole) i) ((n .1 ∙ as-whole) i) (decode g r))) in
+      let marks = updated-for r (λ j y. marked j (c .dirty) (c .owed) (withHead h y)) (w .chosen) d ∙ (λ i. encode g (marked g ((n .0 ∙ as-whole) i) ((n .1 ∙ as-whole) i) (withHead (w .head i) (decode g r)))) in
       (λ i. answered 0 [] (lent (marks i) (back i) []))
       ∙ ap (λ (y : Head). answered 0 [] (lent (encode g (marked g all all (decode g r)))
       (withWindow (y .graphics) (paint (textStores (columns g) (rows g) (window (y .text) (cells g) m) (decode g r .flags) (y .version) f) (clearedInText (y .screen) (window (y .graphics) (screenBytes g) m) (screenBytes g))) m) [])) (w .head)

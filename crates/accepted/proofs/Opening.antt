@@ -10,6 +10,8 @@ use Rattle.model.specs.Record.{recordBytes, decode, encode}
 use Rattle.model.specs.Open.{clearMemory, openState, resetState}
 use Rattle.model.specs.Calls.{opening, reset, lent, answered, done}
 use Rattle.laws.specs.Opening.{open-keys, open-length}
+use Rattle.record.specs.Update.{updated}
+use Rattle.record.proofs.Updating.{updated-for}
 use Rattle.accepted.specs.Given.{Given}
 use Rattle.accepted.specs.Opened.{Opened}
 
@@ -25,6 +27,6 @@ module _ {v : Glass} {r m keys : List ℕ} (o : Opened v r m keys) (graphics tex
       λ i. answered 0 [] (lent (e i) ((f ∙ ap clearMemory (ap (λ (x : List ℕ). decode g x .keys) e ∙ open-keys g graphics text version keys (o .count) (o .words))) i) [])
 
 pub was-reset : {v : Glass} {r m : List ℕ} {h : Head} {s n : List ℕ} → Given v r h m → n ≡ clearMemory (decode (geometry v) r .keys)
-    → s ≡ encode (geometry v) (resetState (geometry v) (decode (geometry v) r)) → answered 0 [] (lent s n []) ≡ done (geometry v) reset (lent r m [])
+    → s ≡ updated resetState r → answered 0 [] (lent s n []) ≡ done (geometry v) reset (lent r m [])
 unfolding done
-was-reset w e f = λ i. answered 0 [] (lent (f i) (e i) [])
+was-reset {r = r} w e f = λ i. answered 0 [] (lent (updated-for r resetState (w .chosen) f i) (e i) [])

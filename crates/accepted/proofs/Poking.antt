@@ -14,7 +14,7 @@ use Rattle.model.specs.declared.Marks.{Marks}
 use Rattle.model.specs.declared.glass.Glass.{Glass}
 use Rattle.model.specs.Geometry.{screenBytes}
 use Rattle.model.specs.Glass.{geometry, Suits}
-use Rattle.model.specs.Record.{decode, encode}
+use Rattle.model.specs.Record.{decode, encode, withHead}
 use Rattle.model.specs.Marks.{marked}
 use Rattle.model.specs.Open.{isKey}
 use Rattle.model.specs.Poke.{ignored, poked, byteRect, inScreen, pokeMark}
@@ -22,6 +22,8 @@ use Rattle.model.specs.Calls.{writeByte, lent, answered, done}
 use Rattle.laws.specs.Tests.{and-true}
 use Rattle.laws.specs.Points.{both}
 use Rattle.laws.specs.Updates.{unmarked}
+use Rattle.record.specs.Update.{updated}
+use Rattle.record.proofs.Updating.{updated-for}
 use Rattle.accepted.specs.Given.{Given}
 
 pub is-ignored : (keys : List ℕ) (a : ℕ) {k : Bool} → k ≡ isKey keys a → (leb 57344 a || k) ≡ ignored keys a
@@ -66,11 +68,11 @@ module _ {v : Glass} {r : List ℕ} {h : Head} {m : List ℕ} (w : Given v r h m
         rw (sym e ∙ f, o) (λ i. answered 0 [] (lent (sym (unmarked g r (w .known .passing)) i) (set m a b) []))
 
     pub poke-screen : {q : Rect} {k : Marks} {s : List ℕ} → u ≡ true → q ≡ byteRect (v .stride) (a - h .graphics) → k ≡ both q
-        → s ≡ encode (geometry v) (marked (geometry v) (k .dirty) (k .owed) (decode (geometry v) r))
+        → s ≡ updated (λ g x. marked g (k .dirty) (k .owed) (withHead h x)) r
         → answered 0 [] (lent s (set m a b) []) ≡ done (geometry v) (writeByte a b) (lent r m [])
     unfolding done poked pokeMark
-    poke-screen l c j n =
+    poke-screen {k = y} l c j n =
         let g = geometry v in
         let o = sym (ap (λ (x : Head). inScreen g (x .graphics) a) (w .head)) ∙ sym p ∙ l in
         let k = j ∙ ap both (c ∙ ap (λ (x : Head). byteRect (v .stride) (a - x .graphics)) (w .head)) in
-        rw (sym e ∙ f, o) (λ i. answered 0 [] (lent ((n ∙ ap (λ (x : Marks). encode g (marked g (x .dirty) (x .owed) (decode g r))) k) i) (set m a b) []))
+        rw (sym e ∙ f, o) (λ i. answered 0 [] (lent ((updated-for r (λ d x. marked d (y .dirty) (y .owed) (withHead h x)) (w .chosen) n ∙ (λ d. encode g (marked g (k d .dirty) (k d .owed) (withHead (w .head d) (decode g r))))) i) (set m a b) []))

@@ -31,6 +31,8 @@ use Rattle.laws.specs.Updates.{flags-known, flags-state}
 use Rattle.laws.specs.Pages.{Sheet, newline-sheet}
 use Rattle.laws.specs.Texts.{screen-rows, row-room, page-sheet}
 use Rattle.laws.specs.States.{well-formed}
+use Rattle.record.specs.Update.{updated}
+use Rattle.record.proofs.Updating.{still-chosen, updated-for}
 use Rattle.text.specs.declared.page.Place.{Place}
 use Rattle.text.specs.Written.{page, HasFlags, Ready, Written}
 use Rattle.accepted.specs.Given.{Given}
@@ -61,10 +63,10 @@ module _ {v : Glass} {r : List ℕ} {h : Head} {m : List ℕ} (w : Given v r h m
 
   pub page-follows : (p : Place) {n : ℕ} {a : Head} {k : Canvas} {c : Marks} {s t : List ℕ} → n ≡ screenScrolls (h .screen) (p .scrolls) → s ≡ scrolledTimes n (rowBytes (geometry v)) (screenPart v h m)
       → k ≡ canvas v → c .dirty ≡ none → c .owed ≡ scrollMark (k .stride) (k .height) n → a ≡ atPlace (p .row) (p .column) h
-      → t ≡ encode (geometry v) (marked (geometry v) (c .dirty) (c .owed) (withHead a (decode (geometry v) r)))
+      → t ≡ updated (λ g x. marked g (c .dirty) (c .owed) (withHead a x)) r
       → PageStored (geometry v) r m h p t (putMid (h .graphics) (h .graphics + v .screen - h .graphics) m s)
   unfolding scrolledMemory
-  page-follows p {n} {s = s} e f k d o a q =
+  page-follows p {n} {a = b} {c = c} {s} e f k d o a q =
       let g = geometry v in
       let z = w .known .suits in
       let at = h .graphics in
@@ -73,7 +75,7 @@ module _ {v : Glass} {r : List ℕ} {h : Head} {m : List ℕ} (w : Given v r h m
       ap length f ∙ length-times n (rowBytes g) (screenPart v h m) (rw (long ∙ z .is-screen) (row-room g (z .glass))) ∙ long ∙ omega arith in
       let owed = o ∙ (λ i. scrollMark (k i .stride) (k i .height) (e i)) ∙ ap (λ (y : ℕ). scrollMark (v .stride) y (screenScrolls (h .screen) (p .scrolls))) (z .is-height) in
       record {
-        rec = q ∙ (λ i. encode g (marked g (d i) (owed i) (withHead (a i) (decode g r))));
+        rec = updated-for r (λ y x. marked y (c .dirty) (c .owed) (withHead b x)) (w .chosen) q ∙ (λ i. encode g (marked g (d i) (owed i) (withHead (a i) (decode g r))));
         memory = part-back at (at + v .screen) m s (omega arith) size
             ∙ ap (λ (x : List ℕ). withWindow at x m) (f ∙ (λ i. scrolledTimes (e i) (rowBytes g) ((part-window at (v .screen) m ∙ ap (λ (y : ℕ). window at y m) (z .is-screen)) i)));
       }
@@ -157,8 +159,10 @@ module _ {v : Glass} {r : List ℕ} {h : Head} {m : List ℕ} (w : Given v r h m
       given-after =
           let n : length t ≡ v .cells = last-sheet .text ∙ sym all-cells in
           let room = text-room w in
+          let known = flags-known (w .known) (flagsIn (length t) c) flags-long as-bytes in
           record {
-            known = flags-known (w .known) (flagsIn (length t) c) flags-long as-bytes;
+            chosen = still-chosen (w .known) known (w .chosen);
+            known = known;
             head = w .head ∙ ap (λ (s : State). s .head) (sym (flags-state (w .known) (flagsIn (length t) c) flags-long as-bytes));
             memory = ap length text-back ∙ length-withWindow (h .text) t m (omega arith) ∙ w .memory;
           }

@@ -64,5 +64,5 @@ pub fn paint_bitmap(
         height,
         d,
     );
-    update::mark_record(rec, glass, h, m);
+    update::mark_head(rec, h, m);
 }

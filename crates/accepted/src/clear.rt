@@ -44,7 +44,7 @@ pub fn set_screen_mode(rec: &mut [u8], memory: &mut [u8], glass: Glass, h: Head,
 {
     clear_windows(memory, glass, h);
     let m = mark::whole_marks(canvas_of(glass));
-    update::clear_record(rec, glass, first_place(h, mode), m);
+    update::clear_record(rec, first_place(h, mode), m);
 }
 
 // The screen mode stays.

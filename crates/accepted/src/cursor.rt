@@ -95,7 +95,7 @@ pub fn blink_cursor(rec: &mut [u8], memory: &mut [u8], glass: Glass, h: Head)
         h.column,
         cursor,
     );
-    update::mark_head(rec, glass, with_cursor(h, blink_next(h.cursor, b)), m);
+    update::mark_head(rec, with_cursor(h, blink_next(h.cursor, b)), m);
 }
 
 pub fn clear_cursor(rec: &mut [u8], memory: &mut [u8], glass: Glass, h: Head)
@@ -111,5 +111,5 @@ pub fn clear_cursor(rec: &mut [u8], memory: &mut [u8], glass: Glass, h: Head)
         blink_cursor(rec, memory, glass, h);
         return;
     }
-    update::set_head(rec, glass, with_cursor(h, 0));
+    update::set_head(rec, with_cursor(h, 0));
 }

@@ -49,5 +49,5 @@ pub fn draw_ellipse(
         fill == 1,
         d,
     );
-    update::mark_record(rec, glass, h, m);
+    update::mark_head(rec, h, m);
 }

@@ -95,5 +95,5 @@ pub fn flush<'a>(
         list,
         extra,
     );
-    update::mark_record(rec, glass, h, mark::whole_marks(canvas_of(glass)));
+    update::mark_head(rec, h, mark::whole_marks(canvas_of(glass)));
 }

@@ -28,7 +28,7 @@ pub fn draw_line(
     let to = from + glass.screen;
     let d = draw_mode(mode);
     let m = draw::draw_line(canvas_of(glass), &mut memory[from..to], x1, y1, x2, y2, d);
-    update::mark_record(rec, glass, h, m);
+    update::mark_head(rec, h, m);
 }
 
 // Whether fill flag and mode are listed.
@@ -66,5 +66,5 @@ pub fn draw_box(
         fill == 1,
         d,
     );
-    update::mark_record(rec, glass, h, m);
+    update::mark_head(rec, h, m);
 }

@@ -32,5 +32,5 @@ pub fn reset(rec: &mut [u8], memory: &mut [u8], glass: Glass, h: Head)
     ensures { λ _. ⌜ answered 0 [] (lent (now (rec .exit)) (now (memory .exit)) []) ≡ done (geometry glass) reset (lent (now (rec .entry)) (now (memory .entry)) []) ⌝ }
 {
     keys::clear_memory(rec, glass, memory);
-    update::reset_record(rec, glass, h);
+    update::reset_record(rec, h);
 }

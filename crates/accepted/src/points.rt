@@ -35,7 +35,7 @@ pub fn draw_point(rec: &mut [u8], memory: &mut [u8], glass: Glass, h: Head, x: u
     let to = from + glass.screen;
     let d = draw_mode(mode);
     let m = draw::draw_point(canvas_of(glass), &mut memory[from..to], x, y, d);
-    update::mark_record(rec, glass, h, m);
+    update::mark_head(rec, h, m);
 }
 
 // Whether pixel (x, y) is set, 1 or 0.

@@ -59,5 +59,5 @@ pub fn write_byte(rec: &mut [u8], memory: &mut [u8], glass: Glass, h: Head, addr
         return;
     }
     let q = byte_rect(glass.stride, (address - graphics) as usize);
-    update::mark_record(rec, glass, h, owed_as_is(q));
+    update::mark_head(rec, h, owed_as_is(q));
 }

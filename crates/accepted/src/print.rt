@@ -49,7 +49,7 @@ fn store_page(rec: &mut [u8], memory: &mut [u8], glass: Glass, h: Head, p: Place
     let row_bytes = (GLYPH_HEIGHT as usize) * glass.stride;
     scroll::scroll_screen(glass.rows, row_bytes, &mut memory[from..to], n);
     let m = mark::scroll_marks(canvas_of(glass), n);
-    update::mark_head(rec, glass, at_place(h, p), m);
+    update::mark_head(rec, at_place(h, p), m);
 }
 
 pub fn newline(rec: &mut [u8], memory: &mut [u8], glass: Glass, h: Head)

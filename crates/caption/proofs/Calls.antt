@@ -19,6 +19,8 @@ use Rattle.laws.specs.Record.{Passing}
 use Rattle.laws.specs.Panels.{Known}
 use Rattle.record.specs.declared.entry.Entry.{Entry}
 use Rattle.record.specs.Entry.{Chosen, Entered}
+use Rattle.record.specs.Update.{updated}
+use Rattle.record.proofs.Updating.{known-glass, head-for}
 use Rattle.accepted.specs.Given.{Given}
 
 -- ---- tests
@@ -112,21 +114,21 @@ module _ (c : Call) (l : Lent) (s : Reads c l) {e : Entry} (n : Entered (lengths
 -- ---- what an entry tells where the call goes on
 
 pub knows : {others : Bool} {r : List ℕ} {e : Entry} {v : Glass} → Chosen (length r) v → Entered others r e → e .code ≡ 0 → Known v r
-knows {r = r} k n z = record { suits = k .suits; passing = rw (k .glass) (n .passing z) }
+knows k n z = known-glass k (n .passing z)
 
 pub loads : {others : Bool} {r : List ℕ} {e : Entry} {v : Glass} → Chosen (length r) v → Entered others r e → e .code ≡ 0 → e .head ≡ decode (geometry v) r .head
-loads {r = r} k n z = n .head z ∙ ap (λ (g : Geometry). decode g r .head) (sym (k .glass))
+loads {r = r} k n z = head-for r k (n .head z)
 
 pub given : {r m : List ℕ} {e : Entry} {v : Glass} → Chosen (length r) v → Entered (eqb (length m) 65536) r e → e .code ≡ 0 → Given v r (e .head) m
-given {m = m} k n z = record { known = knows k n z; head = loads k n z; memory = eqb-true (length m) 65536 (n .lent z) }
+given {m = m} k n z = record { chosen = k; known = knows k n z; head = loads k n z; memory = eqb-true (length m) 65536 (n .lent z) }
 
 -- the head that the entry has loaded, changed by f, is stored
-pub stores-head : {v : Glass} (f : Head → Head) {others : Bool} {r m p s : List ℕ} {n : Head} {e : Entry} → Chosen (length r) v → Entered others r e → e .code ≡ 0 → n ≡ f (e .head)
-    → s ≡ encode (geometry v) (withHead n (decode (geometry v) r)) → lent s m p ≡ changed (geometry v) f (lent r m p)
-unfolding changed
-stores-head {v} f {r = r} {m} {p} k i z q t =
-    let g = geometry v in
-    λ j. lent ((t ∙ ap (λ (x : Head). encode g (withHead x (decode g r))) (q ∙ ap f (loads k i z))) j) m p
+pub stores-head : (f : Head → Head) {others : Bool} {r m p s : List ℕ} {n : Head} {e : Entry} → Entered others r e → e .code ≡ 0 → n ≡ f (e .head) → s ≡ updated (λ g x. withHead n x) r
+    → lent s m p ≡ changed (glassOf (length r)) f (lent r m p)
+unfolding changed updated
+stores-head f {r = r} {m} {p} i z q t =
+    let g = glassOf (length r) in
+    λ j. lent ((t ∙ ap (λ (x : Head). encode g (withHead x (decode g r))) (q ∙ ap f (i .head z))) j) m p
 
 -- ---- a place beyond the rows or columns of the glass, or on it
 
@@ -158,4 +160,4 @@ module _ {r : List ℕ} (m p : List ℕ) {e : Entry} {v : Glass} (k : Chosen (le
   pub given-panel : e .code ≡ 0 → Given v r (e .head) m × (length p ≡ screenBytes (geometry v))
   given-panel z =
       let l = and-true (eqb (length m) 65536) (eqb (length p) (v .screen)) (n .lent z) in
-      (record { known = knows k n z; head = loads k n z; memory = eqb-true (length m) 65536 (l .0) }, eqb-true (length p) (v .screen) (l .1) ∙ k .suits .is-screen)
+      (record { chosen = k; known = knows k n z; head = loads k n z; memory = eqb-true (length m) 65536 (l .0) }, eqb-true (length p) (v .screen) (l .1) ∙ k .suits .is-screen)

@@ -24,7 +24,7 @@ use Rattle.caption.proofs.Calls.{knows, loads}
 
 module _ {r : List ℕ} (m list : List ℕ) {e : Entry} {v : Glass} (k : Chosen (length r) v) (n : Entered (eqb (length m) 65536 && eqb (length list % 6) 0) r e) (z : e .code ≡ 0) where
   pub given-list : Given v r (e .head) m
-  given-list = record { known = knows k n z; head = loads k n z; memory = eqb-true (length m) 65536 (and-true (eqb (length m) 65536) (eqb (length list % 6) 0) (n .lent z) .0) }
+  given-list = record { chosen = k; known = knows k n z; head = loads k n z; memory = eqb-true (length m) 65536 (and-true (eqb (length m) 65536) (eqb (length list % 6) 0) (n .lent z) .0) }
 
   pub glyph-test : (f : Fonts) {t u : Bool} → t ≡ glyphsFit (geometry v) m (e .head) f → t ≡ u → fontsFit (flushStores (glassOf (length r)) f (decode (glassOf (length r)) r) m) ≡ u
   glyph-test f p q =

@@ -4,7 +4,6 @@ use model::Area;
 use model::Head;
 use model::Rect;
 use record::entry;
-use record::glass::glass_of;
 use record::update;
 ghost use mathlib.Core.Path.{_≡_};
 ghost use mathlib.Core.List.{[]};
@@ -44,6 +43,6 @@ pub extern "C" fn caption_take_dirty_area(rec: &mut [u8]) -> Area
     }
     let h = e.head;
     let dirty = h.dirty;
-    update::set_head(rec, glass_of(rec.len()), with_no_dirty(h));
+    update::set_head(rec, with_no_dirty(h));
     area(0, dirty)
 }

@@ -65,7 +65,7 @@ pub extern "C" fn caption_set_row(rec: &mut [u8], row: u8) -> u32
     if (row as usize) >= glass.rows {
         return refusal::VALUE;
     }
-    update::set_head(rec, glass, with_row(e.head, row));
+    update::set_head(rec, with_row(e.head, row));
     0
 }
 
@@ -90,7 +90,7 @@ pub extern "C" fn caption_set_column(rec: &mut [u8], column: u8) -> u32
     if (column as usize) >= glass.columns {
         return refusal::VALUE;
     }
-    update::set_head(rec, glass, with_column(e.head, column));
+    update::set_head(rec, with_column(e.head, column));
     0
 }
 
@@ -122,6 +122,6 @@ pub extern "C" fn caption_set_print_mode(rec: &mut [u8], mode: u8) -> u32
     if mode > 2 {
         return refusal::VALUE;
     }
-    update::set_head(rec, glass_of(rec.len()), with_print_mode(e.head, mode));
+    update::set_head(rec, with_print_mode(e.head, mode));
     0
 }

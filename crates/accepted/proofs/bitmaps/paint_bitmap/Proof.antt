@@ -7,7 +7,7 @@ use mir.Facts.{toZ-ofZ}
 use Rattle.model.specs.Memory.{window}
 use Rattle.model.specs.Bitmaps.{sourceBytes, bitmap}
 use Rattle.model.specs.Calls.{done}
-use Rattle.accepted.proofs.Drawing.{part-length, screen-room, screen-part, drew}
+use Rattle.accepted.proofs.Drawing.{part-length, screen-room, screen-part, drew, stands}
 use Rattle.accepted.proofs.Painting.{is-source, source-kept, source-length, source-room}
 use borrow.Author.Needs.{needs}
 use Rattle.accepted.proofs.bitmaps.paint_bitmap.Statement.{statement}
@@ -82,10 +82,8 @@ paint-bitmap-requires c κs =
     let o = is-source (a .args .memory .now) (a .args .address) (a .args .width) (a .args .height) (omega arith) (omega arith) (omega arith) (a .pre .0 .memory) (a .pre .1) (c .before .before .before .before .before .before .before .before .before .before .before .source-bytes .ensures) in
     (screen-part (a .pre .0) (c .before .before .canvas-of .ensures), source-length o _ _ (c .before .before .before .before .before .before .before .put-bytes .ensures) ∙ c .before .before .before .before .before .before .before .before .before .before .before .source-bytes .ensures)
 
-mark-record-requires : tie.Need-mark-record-requires
-mark-record-requires c κs =
-    let a = c .before .before .before .before .before .before .before .before .before .before .before .before .before .before .before .before .before .before in
-    (a .pre .0 .known, a .pre .0 .head)
+mark-head-requires : tie.Need-mark-head-requires
+mark-head-requires c κs = stands (c .before .before .before .before .before .before .before .before .before .before .before .before .before .before .before .before .before .before .pre .0)
 
 same-length : tie.Need-same-length
 same-length c = search needs
@@ -100,7 +98,7 @@ returns c =
     let o = is-source (a .args .memory .now) (a .args .address) (a .args .width) (a .args .height) (omega arith) (omega arith) (omega arith) (a .pre .0 .memory) (a .pre .1) (c .before .before .before .before .before .before .before .before .before .before .before .before .before .before .before .before .before .before .source-bytes .ensures) in
     let kept = source-kept o _ _ (c .before .before .before .before .before .before .before .before .before .before .before .before .before .before .put-bytes .ensures) ∙ ap (λ (k : ℕ). window (a .args .address) k (a .args .memory .now)) (c .before .before .before .before .before .before .before .before .before .before .before .before .before .before .before .before .before .before .source-bytes .ensures) in
     let painted = rw (toZ-ofZ {w = w32} {z = a .args .x} (a .fits .x), toZ-ofZ {w = w32} {z = a .args .y} (a .fits .y), kept) at (c .before .before .before .before .before .before .paint-bitmap .ensures) in
-    drew (a .pre .0) (λ st h d. bitmap st h (window (a .args .address) (sourceBytes (a .args .width) (a .args .height)) (a .args .memory .now)) (a .args .x) (a .args .y) (a .args .width) (a .args .height) d) _ _ (c .before .before .before .before .before .before .before .before .before .before .paint-mode .ensures) (c .before .before .before .before .before .before .before .before .before .canvas-of .ensures) painted (c .before .before .mark-record .ensures)
+    drew (a .pre .0) (λ st h d. bitmap st h (window (a .args .address) (sourceBytes (a .args .width) (a .args .height)) (a .args .memory .now)) (a .args .x) (a .args .y) (a .args .width) (a .args .height) d) _ _ (c .before .before .before .before .before .before .before .before .before .before .paint-mode .ensures) (c .before .before .before .before .before .before .before .before .before .canvas-of .ensures) painted (c .before .before .mark-head .ensures)
 
 pub paint-bitmap-spec : {M : Type 1} → statement M
 paint-bitmap-spec =
@@ -123,7 +121,7 @@ paint-bitmap-spec =
     array-share-prefix-source
     slice-aggregate-paint-bitmap
     paint-bitmap-requires
-    mark-record-requires
+    mark-head-requires
     same-length
     same-length-2
     returns)

@@ -2,7 +2,7 @@ use mathlib.Core.Path.{ap}
 use mathlib.Core.List.{[]}
 use Rattle.model.specs.Calls.{answered, done}
 use Rattle.laws.specs.Updates.{screen-small}
-use Rattle.accepted.proofs.Drawing.{screen-room, text-room}
+use Rattle.accepted.proofs.Drawing.{screen-room, text-room, stands}
 use Rattle.accepted.proofs.Clearing.{was-cleared}
 use borrow.Author.Needs.{needs}
 use Rattle.accepted.proofs.clear.set_screen_mode.Statement.{statement}
@@ -21,7 +21,7 @@ first-place-requires : tie.Need-first-place-requires
 first-place-requires c κs = search needs
 
 clear-record-requires : tie.Need-clear-record-requires
-clear-record-requires c κs = search needs
+clear-record-requires c κs = stands (c .before .before .before .before .before .before .before .before .before .before .pre)
 
 same-length : tie.Need-same-length
 same-length c = search needs

@@ -3,7 +3,7 @@ use mathlib.Core.List.{[]}
 use Rattle.model.specs.Calls.{answered, done}
 use Rattle.laws.specs.Updates.{head-numbers}
 use Rattle.laws.specs.Cursors.{blink-fits, box-bottom, box-right}
-use Rattle.accepted.proofs.Drawing.{screen-room, screen-part, text-room}
+use Rattle.accepted.proofs.Drawing.{screen-room, screen-part, text-room, stands}
 use Rattle.accepted.proofs.Blinking.{blink-graph, blink-drew}
 use borrow.Author.Needs.{needs}
 use Rattle.accepted.proofs.cursor.blink_cursor.Statement.{statement}
@@ -55,7 +55,7 @@ with-cursor-requires : tie.Need-with-cursor-requires
 with-cursor-requires c κs = search needs
 
 mark-head-requires : tie.Need-mark-head-requires
-mark-head-requires c κs = c .before .before .before .before .before .before .before .before .before .before .before .before .before .before .before .before .pre .known
+mark-head-requires c κs = stands (c .before .before .before .before .before .before .before .before .before .before .before .before .before .before .before .before .pre)
 
 same-length : tie.Need-same-length
 same-length c = search needs

@@ -1,3 +1,4 @@
+use Rattle.accepted.proofs.Drawing.{stands}
 use mathlib.Core.Path.{ap, _∙_}
 use mathlib.Core.List.{[]}
 use Rattle.model.specs.Calls.{answered, done}
@@ -32,7 +33,7 @@ with-cursor-requires : tie.Need-with-cursor-requires
 with-cursor-requires c κs = search needs
 
 set-head-requires : tie.Need-set-head-requires
-set-head-requires c κs = search needs
+set-head-requires c κs = stands (c .before .before .before .before .before .before .pre)
 
 same-length-3 : tie.Need-same-length-3
 same-length-3 c = search needs

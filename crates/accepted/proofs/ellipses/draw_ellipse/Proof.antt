@@ -1,7 +1,7 @@
 use mathlib.Core.Path.{ap, _∙_}
 use Rattle.model.specs.Ellipses.{radiiFit, ellipse}
 use Rattle.model.specs.Calls.{filled, done}
-use Rattle.accepted.proofs.Drawing.{screen-room, screen-part, drew}
+use Rattle.accepted.proofs.Drawing.{screen-room, screen-part, drew, stands}
 use borrow.Author.Needs.{needs}
 use Rattle.accepted.proofs.ellipses.draw_ellipse.Statement.{statement}
 use Rattle.accepted.proofs.ellipses.draw_ellipse.Tie as tie
@@ -30,8 +30,8 @@ part-draw-ellipse-end c = screen-room (c .before .before .before .before .before
 draw-ellipse-requires : tie.Need-draw-ellipse-requires
 draw-ellipse-requires c κs = (screen-part (c .before .before .before .before .before .before .before .pre .0) (c .before .canvas-of .ensures), let a = c .before .before .before .before .before .before .before in ap (radiiFit (a .args .rx) (a .args .ry) (filled (a .args .fill))) (c .before .before .draw-mode .ensures) ∙ a .pre .1)
 
-mark-record-requires : tie.Need-mark-record-requires
-mark-record-requires c κs = search needs
+mark-head-requires : tie.Need-mark-head-requires
+mark-head-requires c κs = stands (c .before .before .before .before .before .before .before .before .before .before .before .pre .0)
 
 same-length : tie.Need-same-length
 same-length c = search needs
@@ -43,7 +43,7 @@ returns : tie.Need-returns
 unfolding done
 returns c =
     let a = c .before .before .before .before .before .before .before .before .before .before .before .before .before .before in
-    drew (a .pre .0) (λ st h d. ellipse st h (a .args .x) (a .args .y) (a .args .rx) (a .args .ry) (filled (a .args .fill)) d) _ _ (c .before .before .before .before .before .before .before .before .before .draw-mode .ensures) (c .before .before .before .before .before .before .before .before .canvas-of .ensures) (c .before .before .before .before .before .before .draw-ellipse .ensures) (c .before .before .mark-record .ensures)
+    drew (a .pre .0) (λ st h d. ellipse st h (a .args .x) (a .args .y) (a .args .rx) (a .args .ry) (filled (a .args .fill)) d) _ _ (c .before .before .before .before .before .before .before .before .before .draw-mode .ensures) (c .before .before .before .before .before .before .before .before .canvas-of .ensures) (c .before .before .before .before .before .before .draw-ellipse .ensures) (c .before .before .mark-head .ensures)
 
 pub draw-ellipse-spec : {M : Type 1} → statement M
 draw-ellipse-spec =
@@ -57,7 +57,7 @@ draw-ellipse-spec =
     part-draw-ellipse-start
     part-draw-ellipse-end
     draw-ellipse-requires
-    mark-record-requires
+    mark-head-requires
     same-length
     same-length-2
     returns)

@@ -3,7 +3,7 @@ use mathlib.Core.Path.{sym, ap, _∙_}
 use lib.ListN.{length}
 use Rattle.laws.specs.StateTest.{flags-room}
 use Rattle.laws.specs.Updates.{screen-small}
-use Rattle.accepted.proofs.Drawing.{screen-in, screen-room, text-room}
+use Rattle.accepted.proofs.Drawing.{screen-in, screen-room, text-room, stands}
 use Rattle.accepted.proofs.Flushing.{first-kept, first-room, text-length, glyphs-are, flags-counted, text-screen, flush-drew}
 use borrow.Author.Needs.{needs}
 use Rattle.accepted.proofs.flushes.flush.Statement.{statement}
@@ -69,8 +69,8 @@ canvas-of-requires c κs = search needs
 whole-marks-requires : tie.Need-whole-marks-requires
 whole-marks-requires c κs = screen-small _ (c .before .before .before .before .before .before .before .before .before .before .before .before .before .before .before .before .before .before .before .before .before .before .before .before .before .before .pre .0 .known .suits) (c .canvas-of .ensures)
 
-mark-record-requires : tie.Need-mark-record-requires
-mark-record-requires c κs = let w = c .before .before .before .before .before .before .before .before .before .before .before .before .before .before .before .before .before .before .before .before .before .before .before .before .before .before .before .pre .0 in (w .known, w .head)
+mark-head-requires : tie.Need-mark-head-requires
+mark-head-requires c κs = stands (c .before .before .before .before .before .before .before .before .before .before .before .before .before .before .before .before .before .before .before .before .before .before .before .before .before .before .before .pre .0)
 
 same-length : tie.Need-same-length
 same-length c = search needs
@@ -79,7 +79,7 @@ same-length-2 : tie.Need-same-length-2
 same-length-2 c = search needs
 
 returns : tie.Need-returns
-returns c = let s = c .before .before .before .before .before .before .before .before .before .before .before .before .before .before .before .before .before .before .before .before .before .before .before .before .before .before .before .before .before .before in let w = s .pre .0 in flush-drew w _ _ _ (c .before .before .before .before .canvas-of .ensures) (c .before .before .before .whole-marks .ensures) (first-kept _ _ _ (text-length w) (c .before .before .before .before .before .before .before .before .before .before .before .before .before .before .before .before .put-bytes .ensures)) (c .before .before .before .before .before .before .before .before .flush-screen .ensures) (c .before .before .mark-record .ensures)
+returns c = let s = c .before .before .before .before .before .before .before .before .before .before .before .before .before .before .before .before .before .before .before .before .before .before .before .before .before .before .before .before .before .before in let w = s .pre .0 in flush-drew w _ _ _ (c .before .before .before .before .canvas-of .ensures) (c .before .before .before .whole-marks .ensures) (first-kept _ _ _ (text-length w) (c .before .before .before .before .before .before .before .before .before .before .before .before .before .before .before .before .put-bytes .ensures)) (c .before .before .before .before .before .before .before .before .flush-screen .ensures) (c .before .before .mark-head .ensures)
 
 pub flush-spec : {M : Type 1} → statement M
 flush-spec =
@@ -105,7 +105,7 @@ flush-spec =
     flush-screen-requires
     canvas-of-requires
     whole-marks-requires
-    mark-record-requires
+    mark-head-requires
     same-length
     same-length-2
     returns)

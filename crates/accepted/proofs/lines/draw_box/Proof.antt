@@ -1,6 +1,6 @@
 use Rattle.model.specs.Boxes.{box}
 use Rattle.model.specs.Calls.{filled, done}
-use Rattle.accepted.proofs.Drawing.{screen-room, screen-part, drew}
+use Rattle.accepted.proofs.Drawing.{screen-room, screen-part, drew, stands}
 use borrow.Author.Needs.{needs}
 use Rattle.accepted.proofs.lines.draw_box.Statement.{statement}
 use Rattle.accepted.proofs.lines.draw_box.Tie as tie
@@ -29,8 +29,8 @@ part-draw-box-end c = screen-room (c .before .before .before .before .before .be
 draw-box-requires : tie.Need-draw-box-requires
 draw-box-requires c κs = screen-part (c .before .before .before .before .before .before .before .pre) (c .before .canvas-of .ensures)
 
-mark-record-requires : tie.Need-mark-record-requires
-mark-record-requires c κs = search needs
+mark-head-requires : tie.Need-mark-head-requires
+mark-head-requires c κs = stands (c .before .before .before .before .before .before .before .before .before .before .before .pre)
 
 same-length : tie.Need-same-length
 same-length c = search needs
@@ -42,7 +42,7 @@ returns : tie.Need-returns
 unfolding done
 returns c =
     let a = c .before .before .before .before .before .before .before .before .before .before .before .before .before .before in
-    drew (a .pre) (λ st h d. box st h (a .args .x1) (a .args .y1) (a .args .x2) (a .args .y2) (filled (a .args .fill)) d) _ _ (c .before .before .before .before .before .before .before .before .before .draw-mode .ensures) (c .before .before .before .before .before .before .before .before .canvas-of .ensures) (c .before .before .before .before .before .before .draw-box .ensures) (c .before .before .mark-record .ensures)
+    drew (a .pre) (λ st h d. box st h (a .args .x1) (a .args .y1) (a .args .x2) (a .args .y2) (filled (a .args .fill)) d) _ _ (c .before .before .before .before .before .before .before .before .before .draw-mode .ensures) (c .before .before .before .before .before .before .before .before .canvas-of .ensures) (c .before .before .before .before .before .before .draw-box .ensures) (c .before .before .mark-head .ensures)
 
 pub draw-box-spec : {M : Type 1} → statement M
 draw-box-spec =
@@ -56,7 +56,7 @@ draw-box-spec =
     part-draw-box-start
     part-draw-box-end
     draw-box-requires
-    mark-record-requires
+    mark-head-requires
     same-length
     same-length-2
     returns)

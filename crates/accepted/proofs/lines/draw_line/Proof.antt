@@ -1,6 +1,6 @@
 use Rattle.model.specs.Lines.{line}
 use Rattle.model.specs.Calls.{done}
-use Rattle.accepted.proofs.Drawing.{screen-room, screen-part, drew}
+use Rattle.accepted.proofs.Drawing.{screen-room, screen-part, drew, stands}
 use borrow.Author.Needs.{needs}
 use Rattle.accepted.proofs.lines.draw_line.Statement.{statement}
 use Rattle.accepted.proofs.lines.draw_line.Tie as tie
@@ -29,8 +29,8 @@ part-draw-line-end c = screen-room (c .before .before .before .before .before .b
 draw-line-requires : tie.Need-draw-line-requires
 draw-line-requires c κs = screen-part (c .before .before .before .before .before .before .before .pre) (c .before .canvas-of .ensures)
 
-mark-record-requires : tie.Need-mark-record-requires
-mark-record-requires c κs = search needs
+mark-head-requires : tie.Need-mark-head-requires
+mark-head-requires c κs = stands (c .before .before .before .before .before .before .before .before .before .before .before .pre)
 
 same-length : tie.Need-same-length
 same-length c = search needs
@@ -42,7 +42,7 @@ returns : tie.Need-returns
 unfolding done
 returns c =
     let a = c .before .before .before .before .before .before .before .before .before .before .before .before .before .before in
-    drew (a .pre) (λ st h d. line st h (a .args .x1) (a .args .y1) (a .args .x2) (a .args .y2) d) _ _ (c .before .before .before .before .before .before .before .before .before .draw-mode .ensures) (c .before .before .before .before .before .before .before .before .canvas-of .ensures) (c .before .before .before .before .before .before .draw-line .ensures) (c .before .before .mark-record .ensures)
+    drew (a .pre) (λ st h d. line st h (a .args .x1) (a .args .y1) (a .args .x2) (a .args .y2) d) _ _ (c .before .before .before .before .before .before .before .before .before .draw-mode .ensures) (c .before .before .before .before .before .before .before .before .canvas-of .ensures) (c .before .before .before .before .before .before .draw-line .ensures) (c .before .before .mark-head .ensures)
 
 pub draw-line-spec : {M : Type 1} → statement M
 draw-line-spec =
@@ -56,7 +56,7 @@ draw-line-spec =
     part-draw-line-start
     part-draw-line-end
     draw-line-requires
-    mark-record-requires
+    mark-head-requires
     same-length
     same-length-2
     returns)

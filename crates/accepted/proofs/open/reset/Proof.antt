@@ -1,3 +1,4 @@
+use Rattle.accepted.proofs.Drawing.{stands, head-stands}
 use Rattle.accepted.proofs.Opening.{was-reset}
 use borrow.Author.Needs.{needs}
 use Rattle.accepted.proofs.open.reset.Statement.{statement}
@@ -7,7 +8,7 @@ clear-memory-requires : tie.Need-clear-memory-requires
 clear-memory-requires c κs = search needs
 
 reset-record-requires : tie.Need-reset-record-requires
-reset-record-requires c κs = search needs
+reset-record-requires c κs = let w = c .before .before .before .before .before .before .before .before .pre in (stands w, head-stands w)
 
 same-length : tie.Need-same-length
 same-length c = search needs

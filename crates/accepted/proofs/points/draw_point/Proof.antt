@@ -1,6 +1,6 @@
 use Rattle.model.specs.Points.{point}
 use Rattle.model.specs.Calls.{done}
-use Rattle.accepted.proofs.Drawing.{screen-room, screen-part, drew}
+use Rattle.accepted.proofs.Drawing.{screen-room, screen-part, drew, stands}
 use borrow.Author.Needs.{needs}
 use Rattle.accepted.proofs.points.draw_point.Statement.{statement}
 use Rattle.accepted.proofs.points.draw_point.Tie as tie
@@ -29,8 +29,8 @@ part-draw-point-end c = screen-room (c .before .before .before .before .before .
 draw-point-requires : tie.Need-draw-point-requires
 draw-point-requires c κs = screen-part (c .before .before .before .before .before .before .before .pre) (c .before .canvas-of .ensures)
 
-mark-record-requires : tie.Need-mark-record-requires
-mark-record-requires c κs = search needs
+mark-head-requires : tie.Need-mark-head-requires
+mark-head-requires c κs = stands (c .before .before .before .before .before .before .before .before .before .before .before .pre)
 
 same-length : tie.Need-same-length
 same-length c = search needs
@@ -40,7 +40,7 @@ same-length-2 c = search needs
 
 returns : tie.Need-returns
 unfolding done
-returns c = let a = c .before .before .before .before .before .before .before .before .before .before .before .before .before .before .args in drew (c .before .before .before .before .before .before .before .before .before .before .before .before .before .before .pre) (λ st h d. point st h (a .x) (a .y) d) _ _ (c .before .before .before .before .before .before .before .before .before .draw-mode .ensures) (c .before .before .before .before .before .before .before .before .canvas-of .ensures) (c .before .before .before .before .before .before .draw-point .ensures) (c .before .before .mark-record .ensures)
+returns c = let a = c .before .before .before .before .before .before .before .before .before .before .before .before .before .before .args in drew (c .before .before .before .before .before .before .before .before .before .before .before .before .before .before .pre) (λ st h d. point st h (a .x) (a .y) d) _ _ (c .before .before .before .before .before .before .before .before .before .draw-mode .ensures) (c .before .before .before .before .before .before .before .before .canvas-of .ensures) (c .before .before .before .before .before .before .draw-point .ensures) (c .before .before .mark-head .ensures)
 
 pub draw-point-spec : {M : Type 1} → statement M
 draw-point-spec =
@@ -54,7 +54,7 @@ draw-point-spec =
     part-draw-point-start
     part-draw-point-end
     draw-point-requires
-    mark-record-requires
+    mark-head-requires
     same-length
     same-length-2
     returns)

@@ -1,3 +1,4 @@
+use Rattle.accepted.proofs.Drawing.{stands}
 use borrow.Author.Tests.{not-true, not-false}
 use Rattle.accepted.proofs.Poking.{from-base, on-screen, poke-ignored, poke-elsewhere, poke-screen}
 use borrow.Author.Needs.{needs}
@@ -48,8 +49,8 @@ byte-rect-requires c κs =
 owed-as-is-requires : tie.Need-owed-as-is-requires
 owed-as-is-requires c κs = search needs
 
-mark-record-requires : tie.Need-mark-record-requires
-mark-record-requires c κs = search needs
+mark-head-requires : tie.Need-mark-head-requires
+mark-head-requires c κs = stands (c .before .before .before .before .before .before .before .before .before .before .pre)
 
 same-length-4 : tie.Need-same-length-4
 same-length-4 c = search needs
@@ -60,7 +61,7 @@ same-length-5 c = search needs
 returns-3 : tie.Need-returns-3
 returns-3 c =
     let a = c .before .before .before .before .before .before .before .before .before .before .before .before .before in
-    poke-screen (a .pre) (a .args .address) (a .args .byte) (c .before .before .before .before .before .before .before .before .before .is-ignored .ensures) (c .before .before .before .before .before .before .before .before .if1 .left) (c .before .before .before .before .before .before .before .in-screen .ensures) (not-false _ (c .before .before .before .before .before .before .if2 .left)) (c .before .before .before .before .before .byte-rect .ensures) (c .before .before .before .owed-as-is .ensures) (c .before .before .mark-record .ensures)
+    poke-screen (a .pre) (a .args .address) (a .args .byte) (c .before .before .before .before .before .before .before .before .before .is-ignored .ensures) (c .before .before .before .before .before .before .before .before .if1 .left) (c .before .before .before .before .before .before .before .in-screen .ensures) (not-false _ (c .before .before .before .before .before .before .if2 .left)) (c .before .before .before .before .before .byte-rect .ensures) (c .before .before .before .owed-as-is .ensures) (c .before .before .mark-head .ensures)
 
 pub write-byte-spec : {M : Type 1} → statement M
 write-byte-spec =
@@ -78,7 +79,7 @@ write-byte-spec =
     cast-byte-rect
     byte-rect-requires
     owed-as-is-requires
-    mark-record-requires
+    mark-head-requires
     same-length-4
     same-length-5
     returns-3)

@@ -1,5 +1,5 @@
 use Rattle.laws.specs.Updates.{screen-small}
-use Rattle.accepted.proofs.Drawing.{screen-room}
+use Rattle.accepted.proofs.Drawing.{screen-room, stands}
 use Rattle.accepted.proofs.Printing.{rows-lent, place-short, page-follows}
 use borrow.Author.Needs.{needs}
 use Rattle.accepted.proofs.print.store_page.Statement.{statement}
@@ -44,7 +44,7 @@ at-place-requires c κs =
     place-short (start .pre .0) (start .args .p) (start .pre .1)
 
 mark-head-requires : tie.Need-mark-head-requires
-mark-head-requires c κs = c .before .before .before .before .before .before .before .before .before .before .before .before .before .before .pre .0 .known
+mark-head-requires c κs = stands (c .before .before .before .before .before .before .before .before .before .before .before .before .before .before .pre .0)
 
 same-length : tie.Need-same-length
 same-length c = search needs

@@ -4,7 +4,7 @@ use mathlib.Core.List.{[]}
 use Rattle.model.specs.Refusals.{VALUE}
 use Rattle.model.specs.Text.{withColumn}
 use Rattle.model.specs.Calls.{answered, done}
-use Rattle.caption.proofs.Calls.{fails, passes, none-left, stops, stops-later, ends, knows, stores-head, no-column, a-column}
+use Rattle.caption.proofs.Calls.{fails, passes, none-left, stops, stops-later, finishes, stores-head, no-column, a-column}
 use borrow.Author.Needs.{needs}
 use Rattle.caption.proofs.place.caption_set_column.Statement.{statement}
 use Rattle.caption.proofs.place.caption_set_column.Tie as tie
@@ -31,14 +31,14 @@ with-column-requires : tie.Need-with-column-requires
 with-column-requires c κs = search needs
 
 set-head-requires : tie.Need-set-head-requires
-set-head-requires c κs = knows (c .before .before .before .before .glass-of .ensures) (c .before .before .before .before .before .before .enter .ensures) (c .before .before .before .before .before .if1 .left)
+set-head-requires c κs = c .before .before .before .before .before .before .enter .ensures .passing (c .before .before .before .before .before .if1 .left)
 
 same-length-3 : tie.Need-same-length-3
 same-length-3 c = search needs
 
 returns-3 : tie.Need-returns-3
 unfolding done
-returns-3 c = ends _ _ refl (c .before .before .before .before .before .before .before .before .before .enter .ensures) (c .before .before .before .before .before .before .before .before .if1 .left) (c .before .before .before .before .before .before .before .glass-of .ensures) (passes VALUE [] (a-column (c .before .before .before .before .before .before .before .glass-of .ensures) _ (c .before .before .before .before .before .if2 .left)) none-left) (ap (answered 0 []) (stores-head (withColumn (c .before .before .before .before .before .before .before .before .before .before .before .before .args .column)) (c .before .before .before .before .before .before .before .glass-of .ensures) (c .before .before .before .before .before .before .before .before .before .enter .ensures) (c .before .before .before .before .before .before .before .before .if1 .left) (c .before .before .before .with-column .ensures) (c .before .before .set-head .ensures)))
+returns-3 c = finishes _ _ refl (c .before .before .before .before .before .before .before .before .before .enter .ensures) (c .before .before .before .before .before .before .before .before .if1 .left) (passes VALUE [] (a-column (c .before .before .before .before .before .before .before .glass-of .ensures) _ (c .before .before .before .before .before .if2 .left)) none-left) (ap (answered 0 []) (stores-head (withColumn (c .before .before .before .before .before .before .before .before .before .before .before .before .args .column)) (c .before .before .before .before .before .before .before .before .before .enter .ensures) (c .before .before .before .before .before .before .before .before .if1 .left) (c .before .before .before .with-column .ensures) (c .before .before .set-head .ensures)))
 
 pub caption-set-column-spec : {M : Type 1} → statement M
 caption-set-column-spec =

@@ -4,7 +4,7 @@ use mathlib.Core.List.{[]}
 use Rattle.model.specs.Refusals.{VALUE}
 use Rattle.model.specs.Text.{withRow}
 use Rattle.model.specs.Calls.{answered, done}
-use Rattle.caption.proofs.Calls.{fails, passes, none-left, stops, stops-later, ends, knows, stores-head, no-row, a-row}
+use Rattle.caption.proofs.Calls.{fails, passes, none-left, stops, stops-later, finishes, stores-head, no-row, a-row}
 use borrow.Author.Needs.{needs}
 use Rattle.caption.proofs.place.caption_set_row.Statement.{statement}
 use Rattle.caption.proofs.place.caption_set_row.Tie as tie
@@ -31,14 +31,14 @@ with-row-requires : tie.Need-with-row-requires
 with-row-requires c κs = search needs
 
 set-head-requires : tie.Need-set-head-requires
-set-head-requires c κs = knows (c .before .before .before .before .glass-of .ensures) (c .before .before .before .before .before .before .enter .ensures) (c .before .before .before .before .before .if1 .left)
+set-head-requires c κs = c .before .before .before .before .before .before .enter .ensures .passing (c .before .before .before .before .before .if1 .left)
 
 same-length-3 : tie.Need-same-length-3
 same-length-3 c = search needs
 
 returns-3 : tie.Need-returns-3
 unfolding done
-returns-3 c = ends _ _ refl (c .before .before .before .before .before .before .before .before .before .enter .ensures) (c .before .before .before .before .before .before .before .before .if1 .left) (c .before .before .before .before .before .before .before .glass-of .ensures) (passes VALUE [] (a-row (c .before .before .before .before .before .before .before .glass-of .ensures) _ (c .before .before .before .before .before .if2 .left)) none-left) (ap (answered 0 []) (stores-head (withRow (c .before .before .before .before .before .before .before .before .before .before .before .before .args .row)) (c .before .before .before .before .before .before .before .glass-of .ensures) (c .before .before .before .before .before .before .before .before .before .enter .ensures) (c .before .before .before .before .before .before .before .before .if1 .left) (c .before .before .before .with-row .ensures) (c .before .before .set-head .ensures)))
+returns-3 c = finishes _ _ refl (c .before .before .before .before .before .before .before .before .before .enter .ensures) (c .before .before .before .before .before .before .before .before .if1 .left) (passes VALUE [] (a-row (c .before .before .before .before .before .before .before .glass-of .ensures) _ (c .before .before .before .before .before .if2 .left)) none-left) (ap (answered 0 []) (stores-head (withRow (c .before .before .before .before .before .before .before .before .before .before .before .before .args .row)) (c .before .before .before .before .before .before .before .before .before .enter .ensures) (c .before .before .before .before .before .before .before .before .if1 .left) (c .before .before .before .with-row .ensures) (c .before .before .set-head .ensures)))
 
 pub caption-set-row-spec : {M : Type 1} → statement M
 caption-set-row-spec =
