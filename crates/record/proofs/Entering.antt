@@ -30,7 +30,7 @@ lent-sized {v} others r k e = eqb-true (length r) (v .bytes) (and-true (eqb (len
 
 module _ {v : Glass} (others : Bool) (r : List ℕ) (k : Chosen (length r) v) where
   -- LENT as the definitions test it
-  lent-as : {t : Bool} → (eqb (length r) (v .bytes) && others) ≡ t → (eqb (length r) (recordBytes (glassOf (length r))) && others) ≡ t
+  pub lent-as : {t : Bool} → (eqb (length r) (v .bytes) && others) ≡ t → (eqb (length r) (recordBytes (glassOf (length r))) && others) ≡ t
   lent-as e = ap (λ (x : ℕ). eqb (length r) x && others) (sym (k .suits .is-bytes ∙ ap recordBytes (k .glass))) ∙ e
 
   valid-as : {t u : Bool} → t ≡ valid (geometry v) r → t ≡ u → valid (glassOf (length r)) r ≡ u
