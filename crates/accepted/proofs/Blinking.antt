@@ -6,7 +6,7 @@ use Prim.Native.Nat.{ℕ, _+_, _-_, _*_, _<_}
 use borrow.Author.Tests.{eq-eqb, ne-eqb}
 use borrow.Rule.Slice.PartMut.{putMid}
 use lib.Dec.{eqb}
-use lib.ListN.{getD, take, drop}
+use lib.ListN.{getD}
 use Rattle.model.specs.declared.Canvas.{Canvas}
 use Rattle.model.specs.declared.Head.{Head}
 use Rattle.model.specs.declared.Marks.{Marks}
@@ -23,7 +23,7 @@ use Rattle.laws.specs.Cursors.{cell-of, byte-of}
 use Rattle.record.specs.Update.{updated}
 use Rattle.record.proofs.Updating.{updated-for}
 use Rattle.accepted.specs.Given.{Given}
-use Rattle.accepted.proofs.Drawing.{drew-with}
+use Rattle.accepted.proofs.Drawing.{screenPart, drew-with}
 
 -- ---- the cell under it
 
@@ -54,7 +54,7 @@ module _ {v : Glass} {r : List ℕ} {h : Head} {m : List ℕ} (w : Given v r h m
 
   -- in Text it is a drawing, with another head
   pub blink-drew : (c : Marks) (s : List ℕ) {b k d : ℕ} {a : Canvas} {n : Head} {t : List ℕ} → h .screen ≡ 0 → b ≡ underCursor (geometry v) h m → k ≡ blinkOf (h .cursor) b → a ≡ canvas v
-      → drawn c s ≡ drawnOn (a .stride) (a .height) (cursorBox (a .stride) (a .height) (h .row) (h .column) k) (take (h .graphics + v .screen - h .graphics) (drop (h .graphics) m))
+      → drawn c s ≡ drawnOn (a .stride) (a .height) (cursorBox (a .stride) (a .height) (h .row) (h .column) k) (screenPart v h m)
       → d ≡ blinkNext (h .cursor) b → n ≡ withCursor d h → t ≡ updated (λ g x. marked g (c .dirty) (c .owed) (withHead n x)) r
       → lent t (putMid (h .graphics) (h .graphics + v .screen - h .graphics) m s) [] ≡ blinked (geometry v) (lent r m [])
   unfolding blinked blinkHead blinkDrawing

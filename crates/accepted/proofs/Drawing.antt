@@ -17,13 +17,15 @@ use Rattle.model.specs.Geometry.{Geometry, height, screenBytes, cells}
 use Rattle.model.specs.Glass.{geometry, canvas, glassOf, Suits}
 use Rattle.model.specs.Pixels.{Screen, seen}
 use Rattle.model.specs.Memory.{window, withWindow, screenOf}
-use Rattle.model.specs.Record.{decode, encode, withHead}
+use Rattle.model.specs.Flags.{flagBytes}
+use Rattle.model.specs.Record.{flags, decode, encode, withHead}
 use Rattle.model.specs.Marks.{Drawing, Drawn, drawn, drawnOn, marked}
 use Rattle.model.specs.Points.{drawMode, isSet}
 use Rattle.model.specs.Calls.{lent, answered, flag, drawingWith, drawing}
 use Rattle.laws.specs.Pixels.{length-draw}
 use Rattle.laws.specs.Parts.{part-window, part-back}
-use Rattle.laws.specs.Record.{Passing}
+use Rattle.laws.specs.Record.{Passing, length-part, has-flags}
+use Rattle.laws.specs.StateTest.{flags-part}
 use Rattle.laws.specs.Updates.{head-numbers}
 use Rattle.record.specs.Update.{updated}
 use Rattle.record.proofs.Updating.{passes-for, updated-for}
@@ -35,7 +37,16 @@ unknown-mode (suc zero) h = absurd (omega arith)
 unknown-mode (suc (suc zero)) h = absurd (omega arith)
 unknown-mode (suc (suc (suc n))) h = refl
 
--- ---- the lent parts
+-- ---- the lent parts of memory and record
+
+abbrev pub screenPart : Glass → Head → List ℕ → List ℕ
+screenPart v h m = take (h .graphics + v .screen - h .graphics) (drop (h .graphics) m)
+
+abbrev pub textPart : Glass → Head → List ℕ → List ℕ
+textPart v h m = take (h .text + v .cells - h .text) (drop (h .text) m)
+
+abbrev pub flagsPart : Glass → List ℕ → List ℕ
+flagsPart v r = take (v .others - v .flags) (drop (v .flags) r)
 
 pub part-length : (a n : ℕ) (m : List ℕ) → a + n ≤ length m → length (take (a + n - a) (drop a m)) ≡ n
 part-length a n m h = simp (length-take, length-drop) (omega arith)
@@ -90,12 +101,28 @@ module _ {v : Glass} {r : List ℕ} {h : Head} {m : List ℕ} (w : Given v r h m
   pub text-room : h .text + v .cells ≤ length m
   text-room = omega (arith, text-in, w .memory)
 
-  pub screen-part : {k : Canvas} → k ≡ canvas v → Screen (k .stride) (k .height) (take (h .graphics + v .screen - h .graphics) (drop (h .graphics) m))
+  pub screen-length : length (screenPart v h m) ≡ v .screen
+  screen-length = part-length (h .graphics) (v .screen) m screen-room
+
+  pub text-length : length (textPart v h m) ≡ v .cells
+  text-length = part-length (h .text) (v .cells) m text-room
+
+  pub flags-length : length (flagsPart v r) ≡ flagBytes (cells (geometry v))
+  flags-length = ap length (flags-part v r (w .known .suits)) ∙ length-part (geometry v) flags r (has-flags (geometry v)) (w .known .passing .sized)
+
+  -- they are the definition's windows
+  pub screen-is : screenPart v h m ≡ window (h .graphics) (screenBytes (geometry v)) m
+  screen-is = part-window (h .graphics) (v .screen) m ∙ ap (λ (n : ℕ). window (h .graphics) n m) (w .known .suits .is-screen)
+
+  pub text-is : textPart v h m ≡ window (h .text) (cells (geometry v)) m
+  text-is = part-window (h .text) (v .cells) m ∙ ap (λ (n : ℕ). window (h .text) n m) (w .known .suits .is-cells)
+
+  pub screen-part : {k : Canvas} → k ≡ canvas v → Screen (k .stride) (k .height) (screenPart v h m)
   screen-part e = part-screen (h .graphics) m (w .known .suits) screen-room e
 
   -- what a drawing on the lent part leaves of record and memory, with the head that f makes; a and b are the mode as the code and as the definition has it
   pub drew-with : {A : Type 0} (f : Head → Head) (shape : ℕ → ℕ → A → Drawing) (c : Marks) (s : List ℕ) {a b : A} {k : Canvas} {t : List ℕ} {n : Head} → a ≡ b → k ≡ canvas v
-      → drawn c s ≡ drawnOn (k .stride) (k .height) (shape (k .stride) (k .height) a) (take (h .graphics + v .screen - h .graphics) (drop (h .graphics) m))
+      → drawn c s ≡ drawnOn (k .stride) (k .height) (shape (k .stride) (k .height) a) (screenPart v h m)
       → n ≡ f h → t ≡ updated (λ g x. marked g (c .dirty) (c .owed) (withHead n x)) r
       → lent t (putMid (h .graphics) (h .graphics + v .screen - h .graphics) m s) [] ≡ drawingWith (geometry v) f (shape (v .stride) (height (geometry v)) b) (lent r m [])
   unfolding drawingWith drawn
@@ -104,12 +131,11 @@ module _ {v : Glass} {r : List ℕ} {h : Head} {m : List ℕ} (w : Given v r h m
       let z = w .known .suits in
       let at = h .graphics in
       let d = shape (v .stride) (height g) b in
-      let part = take (at + v .screen - at) (drop at m) in
       let o : drawn c s ≡ drawnOn (v .stride) (height g) d (window at (screenBytes g) m) =
-      e ∙ (λ i. drawnOn (q i .stride) (q i .height) (shape (q i .stride) (q i .height) (p i)) (part-window at (v .screen) m i))
-      ∙ (λ i. drawnOn (v .stride) (z .is-height i) (shape (v .stride) (z .is-height i) b) (window at (z .is-screen i) m)) in
+      e ∙ (λ i. drawnOn (q i .stride) (q i .height) (shape (q i .stride) (q i .height) (p i)) (screen-is i))
+      ∙ (λ i. drawnOn (v .stride) (z .is-height i) (shape (v .stride) (z .is-height i) b) (window at (screenBytes g) m)) in
       let long : length s ≡ at + v .screen - at =
-      ap (λ (x : Drawn). length (x .screen)) e ∙ drawn-length (k .stride) (k .height) (shape (k .stride) (k .height) a) part ∙ part-length at (v .screen) m screen-room ∙ omega arith in
+      ap (λ (x : Drawn). length (x .screen)) e ∙ drawn-length (k .stride) (k .height) (shape (k .stride) (k .height) a) (screenPart v h m) ∙ screen-length ∙ omega arith in
       let back = part-back at (at + v .screen) m s (omega arith) long ∙ ap (λ (x : Drawn). withWindow at (x .screen) m) o in
       let rec = updated-for r (λ y x. marked y (c .dirty) (c .owed) (withHead n x)) (w .chosen) t ∙ (λ i. encode g (marked g (o i .dirty) (o i .owed) (withHead (j i) (decode g r)))) in
       (λ i. lent (rec i) (back i) [])
@@ -118,7 +144,7 @@ module _ {v : Glass} {r : List ℕ} {h : Head} {m : List ℕ} (w : Given v r h m
 
   -- with the head that stands there
   pub drew : {A : Type 0} (shape : ℕ → ℕ → A → Drawing) (c : Marks) (s : List ℕ) {a b : A} {k : Canvas} {t : List ℕ} → a ≡ b → k ≡ canvas v
-      → drawn c s ≡ drawnOn (k .stride) (k .height) (shape (k .stride) (k .height) a) (take (h .graphics + v .screen - h .graphics) (drop (h .graphics) m))
+      → drawn c s ≡ drawnOn (k .stride) (k .height) (shape (k .stride) (k .height) a) (screenPart v h m)
       → t ≡ updated (λ g x. marked g (c .dirty) (c .owed) (withHead h x)) r
       → answered 0 [] (lent t (putMid (h .graphics) (h .graphics + v .screen - h .graphics) m s) []) ≡ answered 0 [] (drawing (geometry v) (shape (v .stride) (height (geometry v)) b) (lent r m []))
   drew shape c s p q e t = ap (answered 0 []) (drew-with (λ x. x) shape c s p q e refl t)

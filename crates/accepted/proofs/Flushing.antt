@@ -1,14 +1,12 @@
 -- Flush: the text kept, the screen part painted, and the record marked.
 use mathlib.Core.Path.{_≡_, refl, sym, ap, _∙_}
-use mathlib.Core.List.{List, [], _++_}
-use mathlib.Core.Bool.{Bool, true}
-use Prim.Native.Nat.{ℕ, _+_, _-_, _*_, _≤_}
+use mathlib.Core.List.{List, []}
+use Prim.Native.Nat.{ℕ, _+_, _-_, _*_}
 use native.Mathlib.Nat.{mul-assoc, mul-comm}
 use native.Mathlib.Omega.{arith}
 use borrow.Rule.Slice.PartMut.{putMid}
 use lib.Dec.{eqb}
-use lib.ListN.{length, take, drop, length-append}
-use lib.Seq.{take-at}
+use lib.ListN.{length}
 use Rattle.model.specs.declared.Canvas.{Canvas}
 use Rattle.model.specs.declared.Head.{Head}
 use Rattle.model.specs.declared.Marks.{Marks}
@@ -23,11 +21,9 @@ use Rattle.model.specs.Glyphs.{Fonts, fontsFit, paint}
 use Rattle.model.specs.Flush.{textStores, flushStores, clearedInText, flushed}
 use Rattle.model.specs.Calls.{flush, lent, answered, done}
 use Rattle.laws.specs.Tests.{if-cases}
-use Rattle.laws.specs.Parts.{part-window, part-back}
-use Rattle.laws.specs.Memory.{length-withWindow}
+use Rattle.laws.specs.Parts.{part-back}
 use Rattle.laws.specs.Loops.{length-zeros}
 use Rattle.laws.specs.Glyphs.{length-paint}
-use Rattle.laws.specs.Record.{length-part, has-flags}
 use Rattle.laws.specs.StateTest.{flags-part}
 use Rattle.record.specs.Update.{updated}
 use Rattle.record.proofs.Updating.{updated-for}
@@ -36,62 +32,32 @@ use Rattle.flush.specs.Rooms.{TextScreen}
 use Rattle.flush.proofs.Fitting.{text-fits}
 use Rattle.accepted.specs.Given.{Given}
 use Rattle.accepted.specs.Texts.{glyphsFit}
-use Rattle.accepted.proofs.Drawing.{part-length, screen-room, text-room}
+use Rattle.accepted.proofs.Drawing.{screenPart, textPart, flagsPart, screen-length, flags-length, screen-is, text-is}
 
 -- GLYPH as the definitions test it
 pub glyphs-tested : (g : Geometry) (r m : List ℕ) (f : Fonts) → fontsFit (flushStores g f (decode g r) m) ≡ glyphsFit g m (decode g r .head) f
 glyphs-tested g r m f = let h = decode g r .head in text-fits (columns g) (rows g) (window (h .text) (cells g) m) (decode g r .flags) (h .version) f
 
--- bytes put at the start of others are the first of them
-pub first-kept : (n : ℕ) (x d : List ℕ) {c : List ℕ} → length x ≡ n → c ≡ withWindow 0 x d → take n c ≡ x
-unfolding withWindow
-first-kept n x d e f = ap (take n) f ∙ take-at x (drop (0 + length x) d) n e
-
-pub first-room : {n : ℕ} (x d : List ℕ) {c : List ℕ} → c ≡ withWindow 0 x d → length x ≡ n → n ≤ length d → n ≤ length c
-first-room x d e f h = omega (arith, ap length e, length-withWindow 0 x d (omega arith))
-
 module _ {v : Glass} {r : List ℕ} {h : Head} {m : List ℕ} (w : Given v r h m) where
-  abbrev screenPart : List ℕ
-  screenPart = take (h .graphics + v .screen - h .graphics) (drop (h .graphics) m)
-
-  abbrev textPart : List ℕ
-  textPart = take (h .text + v .cells - h .text) (drop (h .text) m)
-
-  abbrev flagsPart : List ℕ
-  flagsPart = take (v .others - v .flags) (drop (v .flags) r)
-
-  pub text-length : length textPart ≡ v .cells
-  text-length = part-length (h .text) (v .cells) m (text-room w)
-
-  -- the text's window
-  text-is : textPart ≡ window (h .text) (cells (geometry v)) m
-  text-is = part-window (h .text) (v .cells) m ∙ ap (λ (n : ℕ). window (h .text) n m) (w .known .suits .is-cells)
-
-  pub glyphs-are : (f : Fonts) {x : List ℕ} → x ≡ textPart → textFits (v .columns) (v .rows) x (h .version) f ≡ glyphsFit (geometry v) m h f
+  pub glyphs-are : (f : Fonts) {x : List ℕ} → x ≡ textPart v h m → textFits (v .columns) (v .rows) x (h .version) f ≡ glyphsFit (geometry v) m h f
   glyphs-are f e =
       let z = w .known .suits in
-      λ i. textFits (z .is-columns i) (z .is-rows i) ((e ∙ text-is) i) (h .version) f
+      λ i. textFits (z .is-columns i) (z .is-rows i) ((e ∙ text-is w) i) (h .version) f
 
   -- as many flags as cells
-  pub flags-counted : length flagsPart ≡ flagBytes (v .rows * v .columns)
-  flags-counted =
-      let z = w .known .suits in
-      let g = geometry v in
-      ap length (flags-part v r z) ∙ length-part g flags r (has-flags g) (w .known .passing .sized) ∙ (λ i. sym (z .is-rows) i * sym (z .is-columns) i)
+  pub flags-counted : length (flagsPart v r) ≡ flagBytes (v .rows * v .columns)
+  flags-counted = let z = w .known .suits in flags-length w ∙ (λ i. flagBytes (sym (z .is-rows) i * sym (z .is-columns) i))
 
-  screen-length : length screenPart ≡ v .screen
-  screen-length = part-length (h .graphics) (v .screen) m (screen-room w)
-
-  pub text-screen : TextScreen (v .columns) (v .rows) screenPart
+  pub text-screen : TextScreen (v .columns) (v .rows) (screenPart v h m)
   text-screen =
       let z = w .known .suits in
       let g = z .glass in
       let lines : 16 * (v .stride * rows (geometry v)) ≡ v .stride * height (geometry v) =
       sym (mul-assoc 16 (v .stride) (rows (geometry v))) ∙ ap (λ (n : ℕ). n * rows (geometry v)) (mul-comm 16 (v .stride)) ∙ mul-assoc (v .stride) 16 (rows (geometry v)) ∙ ap (λ (n : ℕ). v .stride * n) (g .filled) in
-      let long : 16 * (v .columns * v .rows) ≡ length screenPart = (λ i. 16 * (z .is-columns i * z .is-rows i)) ∙ lines ∙ sym (z .is-screen) ∙ sym screen-length in
+      let long : 16 * (v .columns * v .rows) ≡ length (screenPart v h m) = (λ i. 16 * (z .is-columns i * z .is-rows i)) ∙ lines ∙ sym (z .is-screen) ∙ sym (screen-length w) in
       record {
         text = record { wide = omega (arith, z .is-columns, g .columns); narrow = omega (arith, z .is-columns, g .cursor); low = omega (arith, z .is-rows, g .high, g .filled) };
-        small = omega (arith, screen-length, z .is-screen, g .screen);
+        small = omega (arith, screen-length w, z .is-screen, g .screen);
         sized = omega (arith, long);
       }
 
@@ -99,9 +65,9 @@ module _ {v : Glass} {r : List ℕ} {h : Head} {m : List ℕ} (w : Given v r h m
   length-cleared mode s = if-cases (λ (l : List ℕ). length l ≡ length s) (eqb mode 0) (λ e. length-zeros (length s)) (λ e. refl)
 
   pub flush-drew : (f : Fonts) (c : Marks) (s : List ℕ) {k : Canvas} {x t : List ℕ} → k ≡ canvas v → (c .dirty ≡ whole (k .stride) (k .height)) × (c .owed ≡ whole (k .stride) (k .height))
-      → x ≡ textPart
-      → s ≡ paint (textStores (v .columns) (v .rows) x (flagsIn (v .rows * v .columns) flagsPart) (h .version) f) (clearedInText (h .screen) screenPart (length screenPart))
-      → t ≡ updated (λ g y. marked g (c .dirty) (c .owed) (withHead h y)) r
+      → x ≡ textPart v h m
+      → s ≡ paint (textStores (v .columns) (v .rows) x (flagsIn (v .rows * v .columns) (flagsPart v r)) (h .version) f) (clearedInText (h .screen) (screenPart v h m) (length (screenPart v h m)))
+      → t ≡ updated (λ g x. marked g (c .dirty) (c .owed) (withHead h x)) r
       → answered 0 [] (lent t (putMid (h .graphics) (h .graphics + v .screen - h .graphics) m s) []) ≡ done (geometry v) (flush f) (lent r m [])
   unfolding done decode flushed
   flush-drew f c s {k} {x} q n e p d =
@@ -110,9 +76,9 @@ module _ {v : Glass} {r : List ℕ} {h : Head} {m : List ℕ} (w : Given v r h m
       let all = whole (v .stride) (height g) in
       let as-whole : whole (k .stride) (k .height) ≡ all = (λ i. whole (q i .stride) (q i .height)) ∙ ap (whole (v .stride)) (z .is-height) in
       let long : length s ≡ h .graphics + v .screen - h .graphics =
-      ap length p ∙ length-paint (textStores (v .columns) (v .rows) x (flagsIn (v .rows * v .columns) flagsPart) (h .version) f) (clearedInText (h .screen) screenPart (length screenPart)) ∙ length-cleared (h .screen) screenPart ∙ screen-length ∙ omega arith in
-      let painted = p ∙ (λ i. paint (textStores (z .is-columns i) (z .is-rows i) ((e ∙ text-is) i) (flagsIn (z .is-rows i * z .is-columns i) (flags-part v r z i)) (h .version) f)
-      (clearedInText (h .screen) ((part-window (h .graphics) (v .screen) m ∙ ap (λ (y : ℕ). window (h .graphics) y m) (z .is-screen)) i) ((screen-length ∙ z .is-screen) i))) in
+      ap length p ∙ length-paint (textStores (v .columns) (v .rows) x (flagsIn (v .rows * v .columns) (flagsPart v r)) (h .version) f) (clearedInText (h .screen) (screenPart v h m) (length (screenPart v h m))) ∙ length-cleared (h .screen) (screenPart v h m) ∙ screen-length w ∙ omega arith in
+      let painted = p ∙ (λ i. paint (textStores (z .is-columns i) (z .is-rows i) ((e ∙ text-is w) i) (flagsIn (z .is-rows i * z .is-columns i) (flags-part v r z i)) (h .version) f)
+      (clearedInText (h .screen) (screen-is w i) ((screen-length w ∙ z .is-screen) i))) in
       let back = part-back (h .graphics) (h .graphics + v .screen) m s (omega arith) long ∙ ap (λ (y : List ℕ). withWindow (h .graphics) y m) painted in
       let marks = updated-for r (λ j y. marked j (c .dirty) (c .owed) (withHead h y)) (w .chosen) d ∙ (λ i. encode g (marked g ((n .0 ∙ as-whole) i) ((n .1 ∙ as-whole) i) (withHead (w .head i) (decode g r)))) in
       (λ i. answered 0 [] (lent (marks i) (back i) []))

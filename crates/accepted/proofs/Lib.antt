@@ -2,6 +2,7 @@ pub mod Drawing
 pub mod Sending
 pub mod Opening
 pub mod Flushing
+pub mod Kept
 pub mod Painting
 pub mod Poking
 pub mod Clearing

@@ -1,15 +1,14 @@
 -- Open and reset: the keys that memory is cleared with are the record's.
-use mathlib.Core.Path.{_≡_, refl, sym, ap, _∙_}
+use mathlib.Core.Path.{_≡_, ap, _∙_}
 use mathlib.Core.List.{List, []}
 use Prim.Native.Nat.{ℕ}
-use lib.ListN.{length}
 use Rattle.model.specs.declared.Head.{Head}
 use Rattle.model.specs.declared.glass.Glass.{Glass}
 use Rattle.model.specs.Glass.{geometry}
-use Rattle.model.specs.Record.{recordBytes, decode, encode}
+use Rattle.model.specs.Record.{decode, encode}
 use Rattle.model.specs.Open.{clearMemory, openState, resetState}
 use Rattle.model.specs.Calls.{opening, reset, lent, answered, done}
-use Rattle.laws.specs.Opening.{open-keys, open-length}
+use Rattle.laws.specs.Opening.{open-keys}
 use Rattle.record.specs.Update.{updated}
 use Rattle.record.proofs.Updating.{updated-for}
 use Rattle.accepted.specs.Given.{Given}
@@ -17,9 +16,6 @@ use Rattle.accepted.specs.Opened.{Opened}
 
 module _ {v : Glass} {r m keys : List ℕ} (o : Opened v r m keys) (graphics text version : ℕ) {s : List ℕ}
     (e : s ≡ encode (geometry v) (openState (geometry v) graphics text version keys)) where
-  pub opened-length : length s ≡ recordBytes (geometry v)
-  opened-length = ap length e ∙ open-length (geometry v) graphics text version keys (o .count)
-
   pub was-opened : {n : List ℕ} → n ≡ clearMemory (decode (geometry v) s .keys) → answered 0 [] (lent s n []) ≡ done (geometry v) (opening graphics text version keys) (lent r m [])
   unfolding done
   was-opened f =

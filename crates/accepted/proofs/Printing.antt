@@ -6,7 +6,7 @@ use Prim.Native.Nat.{ℕ, _+_, _-_, _*_, _^_, _<_, _≤_}
 use native.Mathlib.Omega.{arith}
 use borrow.Rule.Slice.PartMut.{putMid}
 use lib.Dec.{eqb}
-use lib.ListN.{length, take, drop}
+use lib.ListN.{length}
 use Rattle.model.specs.declared.Canvas.{Canvas}
 use Rattle.model.specs.declared.Head.{Head}
 use Rattle.model.specs.declared.Marks.{Marks}
@@ -22,10 +22,10 @@ use Rattle.model.specs.Text.{atPlace}
 use Rattle.model.specs.Print.{Page, scrolledTimes, newlineOn, isInverse, printOn, pageOf, screenScrolls, scrollMark, stateWithPage, scrolledMemory, memoryWithPage}
 use Rattle.model.specs.Calls.{print, newline, lent, answered, withPage, done}
 use Rattle.laws.specs.Memory.{length-withWindow}
-use Rattle.laws.specs.Parts.{part-window, part-back}
+use Rattle.laws.specs.Parts.{part-back}
 use Rattle.laws.specs.Scrolls.{length-times}
 use Rattle.laws.specs.Flags.{flags-read}
-use Rattle.laws.specs.Record.{has-flags, length-part, part-passes}
+use Rattle.laws.specs.Record.{has-flags, part-passes}
 use Rattle.laws.specs.StateTest.{flags-room, flags-part}
 use Rattle.laws.specs.Updates.{flags-known, flags-state}
 use Rattle.laws.specs.Pages.{Sheet, newline-sheet}
@@ -37,17 +37,7 @@ use Rattle.text.specs.declared.page.Place.{Place}
 use Rattle.text.specs.Written.{page, HasFlags, Ready, Written}
 use Rattle.accepted.specs.Given.{Given}
 use Rattle.accepted.specs.Pages.{placeOf, PageStored}
-use Rattle.accepted.proofs.Drawing.{part-length, screen-room, text-room}
-
--- the lent parts of memory and record
-abbrev screenPart : Glass → Head → List ℕ → List ℕ
-screenPart v h m = take (h .graphics + v .screen - h .graphics) (drop (h .graphics) m)
-
-abbrev textPart : Glass → Head → List ℕ → List ℕ
-textPart v h m = take (h .text + v .cells - h .text) (drop (h .text) m)
-
-abbrev flagsPart : Glass → List ℕ → List ℕ
-flagsPart v r = take (v .others - v .flags) (drop (v .flags) r)
+use Rattle.accepted.proofs.Drawing.{screenPart, textPart, flagsPart, text-room, screen-length, text-length, flags-length, screen-is, text-is}
 
 module _ {v : Glass} {r : List ℕ} {h : Head} {m : List ℕ} (w : Given v r h m) where
   -- ---- the screen and the record
@@ -55,7 +45,7 @@ module _ {v : Glass} {r : List ℕ} {h : Head} {m : List ℕ} (w : Given v r h m
   pub rows-lent : (length (screenPart v h m) ≡ v .rows * rowBytes (geometry v)) × (0 < v .rows)
   rows-lent =
       let z = w .known .suits in
-      let n = part-length (h .graphics) (v .screen) m (screen-room w) ∙ z .is-screen ∙ screen-rows (geometry v) (z .glass) in
+      let n = screen-length w ∙ z .is-screen ∙ screen-rows (geometry v) (z .glass) in
       (n ∙ ap (λ (k : ℕ). k * rowBytes (geometry v)) (sym (z .is-rows)), omega (arith, z .is-rows, z .glass .row))
 
   pub place-short : (p : Place) → (p .row < v .rows) × (p .column < v .columns) → (p .row < 256) × (p .column < 256)
@@ -70,23 +60,19 @@ module _ {v : Glass} {r : List ℕ} {h : Head} {m : List ℕ} (w : Given v r h m
       let g = geometry v in
       let z = w .known .suits in
       let at = h .graphics in
-      let long = part-length at (v .screen) m (screen-room w) in
       let size : length s ≡ at + v .screen - at =
-      ap length f ∙ length-times n (rowBytes g) (screenPart v h m) (rw (long ∙ z .is-screen) (row-room g (z .glass))) ∙ long ∙ omega arith in
+      ap length f ∙ length-times n (rowBytes g) (screenPart v h m) (rw (screen-length w ∙ z .is-screen) (row-room g (z .glass))) ∙ screen-length w ∙ omega arith in
       let owed = o ∙ (λ i. scrollMark (k i .stride) (k i .height) (e i)) ∙ ap (λ (y : ℕ). scrollMark (v .stride) y (screenScrolls (h .screen) (p .scrolls))) (z .is-height) in
       record {
         rec = updated-for r (λ y x. marked y (c .dirty) (c .owed) (withHead b x)) (w .chosen) q ∙ (λ i. encode g (marked g (d i) (owed i) (withHead (a i) (decode g r))));
         memory = part-back at (at + v .screen) m s (omega arith) size
-            ∙ ap (λ (x : List ℕ). withWindow at x m) (f ∙ (λ i. scrolledTimes (e i) (rowBytes g) ((part-window at (v .screen) m ∙ ap (λ (y : ℕ). window at y m) (z .is-screen)) i)));
+            ∙ ap (λ (x : List ℕ). withWindow at x m) (f ∙ (λ i. scrolledTimes (e i) (rowBytes g) (screen-is w i)));
       }
 
   -- ---- the page, lent in two parts
 
   pub flags-end : v .others ≤ length r
   flags-end = rw (w .known .passing .sized) (flags-room v (w .known .suits) .1)
-
-  text-long : length (textPart v h m) ≡ v .cells
-  text-long = part-length (h .text) (v .cells) m (text-room w)
 
   all-cells : v .cells ≡ v .rows * v .columns
   all-cells = let z = w .known .suits in z .is-cells ∙ (λ i. sym (z .is-rows) i * sym (z .is-columns) i)
@@ -97,9 +83,9 @@ module _ {v : Glass} {r : List ℕ} {h : Head} {m : List ℕ} (w : Given v r h m
       let g = geometry v in
       let z = w .known .suits in
       let p = w .known .passing in
-      let n = text-long ∙ z .is-cells in
+      let n = text-length w ∙ z .is-cells in
       record {
-        sized = ap length (flags-part v r z) ∙ length-part g flags r (has-flags g) (p .sized) ∙ sym (ap flagBytes n);
+        sized = flags-length w ∙ sym (ap flagBytes n);
         fit = (λ i. flagsFit (n i) (flags-part v r z i)) ∙ part-passes g r p flags (has-flags g);
       }
 
@@ -110,8 +96,8 @@ module _ {v : Glass} {r : List ℕ} {h : Head} {m : List ℕ} (w : Given v r h m
     page-is =
         let z = w .known .suits in
         λ i. record {
-          text = (part-window (h .text) (v .cells) m ∙ (λ j. window (w .head j .text) (z .is-cells j) m)) i;
-          flags = flagsIn ((text-long ∙ z .is-cells) i) (flags-part v r z i);
+          text = (text-is w ∙ ap (λ (x : Head). window (x .text) (cells (geometry v)) m) (w .head)) i;
+          flags = flagsIn ((text-length w ∙ z .is-cells) i) (flags-part v r z i);
           row = (ap (λ (p : Place). p .row) e ∙ ap (λ (x : Head). x .row) (w .head)) i;
           column = (ap (λ (p : Place). p .column) e ∙ ap (λ (x : Head). x .column) (w .head)) i;
           scrolls = e i .scrolls;

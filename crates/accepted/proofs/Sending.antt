@@ -1,10 +1,10 @@
 -- A send: idle, or the line in hand copied and counted.
 use mathlib.Core.Path.{_≡_, refl, sym, ap, _∙_}
-use mathlib.Core.List.{List, [], _∷_}
+use mathlib.Core.List.{List}
 use mathlib.Core.Bool.{Bool, true, false}
-use Prim.Native.Nat.{ℕ, _+_, _-_, _*_, _≤_}
+use Prim.Native.Nat.{ℕ, _*_}
 use native.Mathlib.Omega.{arith}
-use lib.ListN.{length, take, drop}
+use lib.ListN.{length}
 use Rattle.model.specs.declared.Canvas.{Canvas}
 use Rattle.model.specs.declared.Rect.{Rect}
 use Rattle.model.specs.declared.Head.{Head}
@@ -17,12 +17,11 @@ use Rattle.model.specs.Rects.{isEmpty}
 use Rattle.model.specs.Record.{decode, encode, panelOf, withPanel}
 use Rattle.model.specs.Sends.{takeOwed, sendPending, lineNumbers, sendNumbers, copyLine, sendPanel}
 use Rattle.model.specs.Calls.{send, lent, answered, sentNumbers, done}
-use Rattle.laws.specs.Parts.{part-window}
 use Rattle.laws.specs.Sending.{SentOn, sent-proper}
 use Rattle.send.specs.Line.{LineOn}
 use Rattle.accepted.specs.Given.{Given}
 use Rattle.accepted.specs.NoLine.{noLine}
-use Rattle.accepted.proofs.Drawing.{screen-part}
+use Rattle.accepted.proofs.Drawing.{screenPart, screen-is, screen-part}
 
 module _ {v : Glass} {r : List ℕ} {h : Head} {m : List ℕ} (w : Given v r h m) {q : Rect} {s : List ℕ} (i : SentOn v 0 r q s) {t : Bool} (e : t ≡ isEmpty q) where
   empty-as : {u : Bool} → t ≡ u → isEmpty (takeOwed (panelOf (geometry v) (decode (geometry v) r) 0) .hand) ≡ u
@@ -33,7 +32,7 @@ module _ {v : Glass} {r : List ℕ} {h : Head} {m : List ℕ} (w : Given v r h m
   idles p f a = rw (empty-as f) (λ j. answered (a j .code) (sentNumbers (a j)) (lent (i .left j) m p))
 
   pub may-copy : {k : Canvas} {p : List ℕ} → t ≡ false → k ≡ canvas v → length p ≡ screenBytes (geometry v)
-      → LineOn (k .stride) (k .height) (take (h .graphics + v .screen - h .graphics) (drop (h .graphics) m)) p q
+      → LineOn (k .stride) (k .height) (screenPart v h m) p q
   may-copy f c l =
       let z = w .known .suits in
       let n = sent-proper (w .known) (z .glass .one) i e f in
@@ -45,12 +44,12 @@ module _ {v : Glass} {r : List ℕ} {h : Head} {m : List ℕ} (w : Given v r h m
         above = omega (arith, n, z .is-height);
       })
 
-  pub sends-line : (p : List ℕ) {k : Canvas} {b : List ℕ} {a : Sent} → t ≡ false → k ≡ canvas v → b ≡ copyLine (k .stride) q (take (h .graphics + v .screen - h .graphics) (drop (h .graphics) m)) p
+  pub sends-line : (p : List ℕ) {k : Canvas} {b : List ℕ} {a : Sent} → t ≡ false → k ≡ canvas v → b ≡ copyLine (k .stride) q (screenPart v h m) p
       → a .code ≡ 0 → sentNumbers a ≡ lineNumbers q → answered (a .code) (sentNumbers a) (lent s m b) ≡ done (geometry v) send (lent r m p)
   unfolding done sendNumbers sendPanel
   sends-line p f c d o l =
       let g = geometry v in
       rw (empty-as f)
-      ((λ j. answered (o j) (l j) (lent (i .left j) m ((d ∙ (λ y. copyLine (c y .stride) q (part-window (h .graphics) (v .screen) m y) p) ∙ (λ y. copyLine (v .stride) q (window (h .graphics) (w .known .suits .is-screen y) m) p)
+      ((λ j. answered (o j) (l j) (lent (i .left j) m ((d ∙ (λ y. copyLine (c y .stride) q (screen-is w y) p)
       ∙ ap (λ (x : Head). copyLine (v .stride) q (window (x .graphics) (screenBytes g) m) p) (w .head)) j)))
       ∙ ap (λ (x : Rect). answered 0 (lineNumbers x) (lent (encode g (withPanel 0 (sendPending (panelOf g (decode g r) 0)) (decode g r))) m (copyLine (v .stride) x (window (decode g r .head .graphics) (screenBytes g) m) p))) (i .line))

@@ -15,7 +15,6 @@ use Rattle.model.specs.Record.{decode, encode, withHead}
 use Rattle.model.specs.Refusals.{Test, test, refusal, ruled}
 use Rattle.model.specs.Calls.{Call, Lent, Outcome, lent, answered, takes, lengthsFit, lentTest, stateTest, stateTests, ownTests, refusals, numbers, nought, refused, changed, done, outcome}
 use Rattle.laws.specs.Tests.{by-test, and-true}
-use Rattle.laws.specs.Record.{Passing}
 use Rattle.laws.specs.Panels.{Known}
 use Rattle.record.specs.declared.entry.Entry.{Entry}
 use Rattle.record.specs.Entry.{Chosen, Entered}

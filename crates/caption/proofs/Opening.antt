@@ -11,11 +11,12 @@ use Rattle.model.specs.declared.glass.Glass.{Glass}
 use Rattle.model.specs.Geometry.{Geometry}
 use Rattle.model.specs.Bytes.{Words}
 use Rattle.model.specs.Glass.{geometry, glassOf}
-use Rattle.model.specs.Record.{recordBytes, windows}
+use Rattle.model.specs.Record.{windows}
 use Rattle.model.specs.Refusals.{LENT, WINDOW, VALUE}
 use Rattle.model.specs.Calls.{Outcome, opening, lent, answered, refusals, done, outcome}
 use Rattle.laws.specs.Tests.{and-true}
 use Rattle.record.specs.Entry.{Chosen}
+use Rattle.record.proofs.Entering.{lent-as, lent-sized}
 use Rattle.accepted.specs.Opened.{Opened}
 use Rattle.caption.proofs.Calls.{fails, passes, none-left, is-refused, is-done}
 
@@ -23,26 +24,23 @@ module _ {v : Glass} (r m : List ℕ) (graphics text version : ℕ) (keys : List
   abbrev g : Geometry
   g = glassOf (length r)
 
-  lent-as : {t : Bool} → (eqb (length r) (v .bytes) && eqb (length m) 65536) ≡ t → (eqb (length r) (recordBytes g) && eqb (length m) 65536) ≡ t
-  lent-as e = ap (λ (n : ℕ). eqb (length r) n && eqb (length m) 65536) (sym (k .suits .is-bytes ∙ ap recordBytes (k .glass))) ∙ e
-
   windows-as : {t u : Bool} → t ≡ windows (geometry v) graphics text → t ≡ u → windows g graphics text ≡ u
   windows-as e f = ap (λ (x : Geometry). windows x graphics text) (sym (k .glass)) ∙ sym e ∙ f
 
   pub open-lent : (eqb (length r) (v .bytes) && eqb (length m) 65536) ≡ false → answered LENT [] (lent r m []) ≡ outcome g (opening graphics text version keys) (lent r m [])
   unfolding refusals
-  open-lent e = is-refused g (opening graphics text version keys) (lent r m []) LENT (fails _ (lent-as e)) (λ z. omega arith)
+  open-lent e = is-refused g (opening graphics text version keys) (lent r m []) LENT (fails _ (lent-as (eqb (length m) 65536) r k e)) (λ z. omega arith)
 
   module _ (e : (eqb (length r) (v .bytes) && eqb (length m) 65536) ≡ true) {t : Bool} (w : t ≡ windows (geometry v) graphics text) where
     pub open-window : t ≡ false → answered WINDOW [] (lent r m []) ≡ outcome g (opening graphics text version keys) (lent r m [])
     unfolding refusals
-    open-window f = is-refused g (opening graphics text version keys) (lent r m []) WINDOW (passes LENT _ (lent-as e) (fails _ (windows-as w f))) (λ z. omega arith)
+    open-window f = is-refused g (opening graphics text version keys) (lent r m []) WINDOW (passes LENT _ (lent-as (eqb (length m) 65536) r k e) (fails _ (windows-as w f))) (λ z. omega arith)
 
     pub open-value : t ≡ true → 1 < version → answered VALUE [] (lent r m []) ≡ outcome g (opening graphics text version keys) (lent r m [])
     unfolding refusals
     open-value f h =
         is-refused g (opening graphics text version keys) (lent r m []) VALUE
-        (passes LENT _ (lent-as e) (passes WINDOW _ (windows-as w f) (fails [] (lt-leb version 1 h)))) (λ z. omega arith)
+        (passes LENT _ (lent-as (eqb (length m) 65536) r k e) (passes WINDOW _ (windows-as w f) (fails [] (lt-leb version 1 h)))) (λ z. omega arith)
 
     pub open-ends : {o : Outcome} → t ≡ true → version ≤ 1 → o ≡ done (geometry v) (opening graphics text version keys) (lent r m [])
         → o ≡ outcome g (opening graphics text version keys) (lent r m [])
@@ -50,9 +48,8 @@ module _ {v : Glass} (r m : List ℕ) (graphics text version : ℕ) (keys : List
     open-ends f h d =
         d ∙ ap (λ (x : Geometry). done x (opening graphics text version keys) (lent r m [])) (k .glass)
         ∙ is-done g (opening graphics text version keys) (lent r m [])
-        (passes LENT _ (lent-as e) (passes WINDOW _ (windows-as w f) (passes VALUE [] (le-leb version 1 h) none-left)))
+        (passes LENT _ (lent-as (eqb (length m) 65536) r k e) (passes WINDOW _ (windows-as w f) (passes VALUE [] (le-leb version 1 h) none-left)))
 
   pub may-open : (eqb (length r) (v .bytes) && eqb (length m) 65536) ≡ true → length keys ≡ 8 → Words keys → Opened v r m keys
   may-open e n w =
-      let p = and-true (eqb (length r) (v .bytes)) (eqb (length m) 65536) e in
-      record { suits = k .suits; sized = eqb-true (length r) (v .bytes) (p .0) ∙ k .suits .is-bytes; memory = eqb-true (length m) 65536 (p .1); count = n; words = w }
+      record { suits = k .suits; sized = lent-sized (eqb (length m) 65536) r k e; memory = eqb-true (length m) 65536 (and-true (eqb (length r) (v .bytes)) (eqb (length m) 65536) e .1); count = n; words = w }

@@ -1,10 +1,10 @@
--- The glass as numbers, each of which follows from the geometry by computing, and the ends of the entry: LENT refused, STATE refused, entered.
-use mathlib.Core.Path.{_≡_, refl, sym, ap, _∙_}
+-- The ends of the entry: LENT refused, STATE refused, entered.
+use mathlib.Core.Path.{_≡_, sym, ap, _∙_}
 use mathlib.Core.List.{List, [], _∷_}
 use mathlib.Core.Bool.{Bool, true, false, _&&_}
-use Prim.Native.Nat.{ℕ, _<_, _≤_}
+use Prim.Native.Nat.{ℕ, _<_}
 use native.Mathlib.Omega.{arith}
-use borrow.Author.Tests.{eqb-true, ne-eqb}
+use borrow.Author.Tests.{eqb-true}
 use lib.Dec.{eqb}
 use lib.ListN.{length, getD}
 use Rattle.model.specs.declared.Rect.{Rect}
@@ -13,62 +13,15 @@ use Rattle.model.specs.Rects.{none}
 use Rattle.model.specs.Open.{clearHead}
 use Rattle.model.specs.declared.glass.Glass.{Glass}
 use Rattle.model.specs.Geometry.{Geometry}
-use Rattle.model.specs.Glass.{geometry, glassOf, Suits}
+use Rattle.model.specs.Glass.{geometry, glassOf}
 use Rattle.model.specs.Bytes.{Bytes}
-use Rattle.model.specs.Record.{head, total, offset, recordBytes, headOf, decode, valid}
+use Rattle.model.specs.Record.{head, recordBytes, headOf, decode, valid}
 use Rattle.model.specs.Refusals.{LENT, STATE, refusal}
 use Rattle.model.specs.Calls.{lentTest, stateTest}
 use Rattle.laws.specs.Tests.{and-true}
-use Rattle.laws.specs.Record.{part-in, has-head}
 use Rattle.laws.specs.Windows.{head-part}
-use Rattle.laws.specs.Glasses.{base-glass}
 use Rattle.record.specs.declared.entry.Entry.{Entry}
 use Rattle.record.specs.Entry.{Chosen, Entered}
-
--- ---- the glass
-
-abbrev smallGlass : Glass
-smallGlass = record {
-  stride = 20;
-  bands = 1;
-  band = 80;
-  panels = 1;
-  width = 160;
-  height = 80;
-  screen = 1600;
-  rows = 5;
-  columns = 20;
-  cells = 100;
-  graphics = 63935;
-  text = 65435;
-  bytes = 170;
-  pending = 20;
-  keys = 38;
-  flags = 70;
-  others = 170;
-}
-
-small-suits : Suits smallGlass
-unfolding total offset
-small-suits = record {
-  glass = base-glass;
-  is-width = refl;
-  is-height = refl;
-  is-rows = refl;
-  is-columns = refl;
-  is-screen = refl;
-  is-cells = refl;
-  is-graphics = refl;
-  is-text = refl;
-  is-bytes = refl;
-  is-pending = refl;
-  is-keys = refl;
-  is-flags = refl;
-  is-others = refl;
-}
-
-pub is-chosen : (n : ℕ) → Chosen n smallGlass
-is-chosen n = record { suits = small-suits; glass = refl }
 
 -- ---- the entry
 
@@ -77,7 +30,7 @@ lent-sized {v} others r k e = eqb-true (length r) (v .bytes) (and-true (eqb (len
 
 module _ {v : Glass} (others : Bool) (r : List ℕ) (k : Chosen (length r) v) where
   -- LENT as the definitions test it
-  lent-as : {t : Bool} → (eqb (length r) (v .bytes) && others) ≡ t → (eqb (length r) (recordBytes (glassOf (length r))) && others) ≡ t
+  pub lent-as : {t : Bool} → (eqb (length r) (v .bytes) && others) ≡ t → (eqb (length r) (recordBytes (glassOf (length r))) && others) ≡ t
   lent-as e = ap (λ (x : ℕ). eqb (length r) x && others) (sym (k .suits .is-bytes ∙ ap recordBytes (k .glass))) ∙ e
 
   valid-as : {t u : Bool} → t ≡ valid (geometry v) r → t ≡ u → valid (glassOf (length r)) r ≡ u

@@ -19,10 +19,11 @@ pub fn join_owed(rec: &mut [u8], at: usize, bands: usize, band: u16, width: u16,
     let mut left = bands;
     while left > 0 {
         let q = layout::load_rect(rec, a);
-        let c = rect::cut_rect(width, lo, lo + band, m);
+        let hi = lo + band;
+        let c = rect::cut_rect(width, lo, hi, m);
         layout::store_rect(rec, a, rect::join_rects(q, c));
         a += 8;
-        lo += band;
+        lo = hi;
         left -= 1;
     }
 }
@@ -57,9 +58,10 @@ pub fn bands_fit(rec: &[u8], at: usize, bands: usize, band: u16, width: u16) -> 
     let mut left = bands;
     while left > 0 {
         let q = layout::load_rect(rec, a);
-        ok = ok & rect::rect_fits(width, lo, lo + band, q);
+        let hi = lo + band;
+        ok = ok & rect::rect_fits(width, lo, hi, q);
         a += 8;
-        lo += band;
+        lo = hi;
         left -= 1;
     }
     ok

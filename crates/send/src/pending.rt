@@ -57,13 +57,13 @@ pub fn send_panel(rec: &mut [u8], glass: Glass, k: usize) -> Rect
     ensures { λ r. ⌜ SentOn glass k (now (rec .entry)) r (now (rec .exit)) ⌝ }
 {
     let at = panels::panel_at(glass, k);
-    let bands = glass.bands;
-    let sent = slices::load_four(rec, at + 8 * bands + 8);
+    let in_hand = at + 8 * glass.bands;
+    let sent = slices::load_four(rec, in_hand + 8);
     let hand = take_hand(rec, glass, at);
     if rect::is_empty(hand) {
         return hand;
     }
-    layout::store_rect(rec, at + 8 * bands, next_line(hand));
-    slices::store_four(rec, at + 8 * bands + 8, count_line(sent));
+    layout::store_rect(rec, in_hand, next_line(hand));
+    slices::store_four(rec, in_hand + 8, count_line(sent));
     hand
 }

@@ -7,8 +7,10 @@ use mir.Facts.{toZ-ofZ}
 use Rattle.model.specs.Memory.{window}
 use Rattle.model.specs.Bitmaps.{sourceBytes, bitmap}
 use Rattle.model.specs.Calls.{done}
-use Rattle.accepted.proofs.Drawing.{part-length, screen-room, screen-part, drew, stands}
-use Rattle.accepted.proofs.Painting.{is-source, source-kept, source-length, source-room}
+use Rattle.laws.specs.Parts.{part-window}
+use Rattle.accepted.proofs.Drawing.{screen-room, screen-part, drew, stands}
+use Rattle.accepted.proofs.Kept.{kept, kept-length, kept-room}
+use Rattle.accepted.proofs.Painting.{is-source, source-length}
 use borrow.Author.Needs.{needs}
 use Rattle.accepted.proofs.bitmaps.paint_bitmap.Statement.{statement}
 use Rattle.accepted.proofs.bitmaps.paint_bitmap.Tie as tie
@@ -19,7 +21,7 @@ source-bytes-requires c κs = search needs
 add-end : tie.Need-add-end
 add-end c =
     let a = c .before .before .before in
-    let o = is-source (a .args .memory .now) (a .args .address) (a .args .width) (a .args .height) (omega arith) (omega arith) (omega arith) (a .pre .0 .memory) (a .pre .1) (c .source-bytes .ensures) in
+    let o = is-source (a .pre) (c .source-bytes .ensures) (omega arith) (omega arith) (omega arith) in
     omega (arith, o .inside)
 
 slice-aggregate-put-bytes : tie.Need-slice-aggregate-put-bytes
@@ -34,14 +36,14 @@ part-put-bytes-start c = search needs
 part-put-bytes-end : tie.Need-part-put-bytes-end
 part-put-bytes-end c =
     let a = c .before .before .before .before .before in
-    let o = is-source (a .args .memory .now) (a .args .address) (a .args .width) (a .args .height) (omega arith) (omega arith) (omega arith) (a .pre .0 .memory) (a .pre .1) (c .before .before .source-bytes .ensures) in
+    let o = is-source (a .pre) (c .before .before .source-bytes .ensures) (omega arith) (omega arith) (omega arith) in
     o .inside
 
 put-bytes-requires : tie.Need-put-bytes-requires
 put-bytes-requires c κs =
     let a = c .before .before .before .before .before .before in
-    let o = is-source (a .args .memory .now) (a .args .address) (a .args .width) (a .args .height) (omega arith) (omega arith) (omega arith) (a .pre .0 .memory) (a .pre .1) (c .before .before .before .source-bytes .ensures) in
-    omega (arith, o .short, part-length (a .args .address) _ (a .args .memory .now) (o .inside))
+    let o = is-source (a .pre) (c .before .before .before .source-bytes .ensures) (omega arith) (omega arith) (omega arith) in
+    omega (arith, o .short, source-length o)
 
 cast-from : tie.Need-cast-from
 cast-from c = search needs
@@ -67,20 +69,20 @@ part-paint-bitmap-end c = screen-room (c .before .before .before .before .before
 array-share-prefix-source : tie.Need-array-share-prefix-source
 array-share-prefix-source c =
     let a = c .before .before .before .before .before .before .before .before .before .before .before .before .before in
-    let o = is-source (a .args .memory .now) (a .args .address) (a .args .width) (a .args .height) (omega arith) (omega arith) (omega arith) (a .pre .0 .memory) (a .pre .1) (c .before .before .before .before .before .before .before .before .before .before .source-bytes .ensures) in
-    source-room o _ _ (c .before .before .before .before .before .before .put-bytes .ensures) (omega (arith, o .short))
+    let o = is-source (a .pre) (c .before .before .before .before .before .before .before .before .before .before .source-bytes .ensures) (omega arith) (omega arith) (omega arith) in
+    kept-room _ _ (source-length o) (c .before .before .before .before .before .before .put-bytes .ensures) (omega (arith, o .short))
 
 slice-aggregate-paint-bitmap : tie.Need-slice-aggregate-paint-bitmap
 slice-aggregate-paint-bitmap c =
     let a = c .before .before .before .before .before .before .before .before .before .before .before .before .before .before in
-    let o = is-source (a .args .memory .now) (a .args .address) (a .args .width) (a .args .height) (omega arith) (omega arith) (omega arith) (a .pre .0 .memory) (a .pre .1) (c .before .before .before .before .before .before .before .before .before .before .before .source-bytes .ensures) in
-    sym (source-length o _ _ (c .before .before .before .before .before .before .before .put-bytes .ensures))
+    let o = is-source (a .pre) (c .before .before .before .before .before .before .before .before .before .before .before .source-bytes .ensures) (omega arith) (omega arith) (omega arith) in
+    sym (kept-length _ _ (source-length o) (c .before .before .before .before .before .before .before .put-bytes .ensures))
 
 paint-bitmap-requires : tie.Need-paint-bitmap-requires
 paint-bitmap-requires c κs =
     let a = c .before .before .before .before .before .before .before .before .before .before .before .before .before .before in
-    let o = is-source (a .args .memory .now) (a .args .address) (a .args .width) (a .args .height) (omega arith) (omega arith) (omega arith) (a .pre .0 .memory) (a .pre .1) (c .before .before .before .before .before .before .before .before .before .before .before .source-bytes .ensures) in
-    (screen-part (a .pre .0) (c .before .before .canvas-of .ensures), source-length o _ _ (c .before .before .before .before .before .before .before .put-bytes .ensures) ∙ c .before .before .before .before .before .before .before .before .before .before .before .source-bytes .ensures)
+    let o = is-source (a .pre) (c .before .before .before .before .before .before .before .before .before .before .before .source-bytes .ensures) (omega arith) (omega arith) (omega arith) in
+    (screen-part (a .pre .0) (c .before .before .canvas-of .ensures), kept-length _ _ (source-length o) (c .before .before .before .before .before .before .before .put-bytes .ensures) ∙ c .before .before .before .before .before .before .before .before .before .before .before .source-bytes .ensures)
 
 mark-head-requires : tie.Need-mark-head-requires
 mark-head-requires c κs = stands (c .before .before .before .before .before .before .before .before .before .before .before .before .before .before .before .before .before .before .pre .0)
@@ -95,9 +97,9 @@ returns : tie.Need-returns
 unfolding done
 returns c =
     let a = c .before .before .before .before .before .before .before .before .before .before .before .before .before .before .before .before .before .before .before .before .before in
-    let o = is-source (a .args .memory .now) (a .args .address) (a .args .width) (a .args .height) (omega arith) (omega arith) (omega arith) (a .pre .0 .memory) (a .pre .1) (c .before .before .before .before .before .before .before .before .before .before .before .before .before .before .before .before .before .before .source-bytes .ensures) in
-    let kept = source-kept o _ _ (c .before .before .before .before .before .before .before .before .before .before .before .before .before .before .put-bytes .ensures) ∙ ap (λ (k : ℕ). window (a .args .address) k (a .args .memory .now)) (c .before .before .before .before .before .before .before .before .before .before .before .before .before .before .before .before .before .before .source-bytes .ensures) in
-    let painted = rw (toZ-ofZ {w = w32} {z = a .args .x} (a .fits .x), toZ-ofZ {w = w32} {z = a .args .y} (a .fits .y), kept) at (c .before .before .before .before .before .before .paint-bitmap .ensures) in
+    let o = is-source (a .pre) (c .before .before .before .before .before .before .before .before .before .before .before .before .before .before .before .before .before .before .source-bytes .ensures) (omega arith) (omega arith) (omega arith) in
+    let source = kept _ _ (source-length o) (c .before .before .before .before .before .before .before .before .before .before .before .before .before .before .put-bytes .ensures) ∙ part-window (a .args .address) _ (a .args .memory .now) ∙ ap (λ (k : ℕ). window (a .args .address) k (a .args .memory .now)) (c .before .before .before .before .before .before .before .before .before .before .before .before .before .before .before .before .before .before .source-bytes .ensures) in
+    let painted = rw (toZ-ofZ {w = w32} {z = a .args .x} (a .fits .x), toZ-ofZ {w = w32} {z = a .args .y} (a .fits .y), source) at (c .before .before .before .before .before .before .paint-bitmap .ensures) in
     drew (a .pre .0) (λ st h d. bitmap st h (window (a .args .address) (sourceBytes (a .args .width) (a .args .height)) (a .args .memory .now)) (a .args .x) (a .args .y) (a .args .width) (a .args .height) d) _ _ (c .before .before .before .before .before .before .before .before .before .before .paint-mode .ensures) (c .before .before .before .before .before .before .before .before .before .canvas-of .ensures) painted (c .before .before .mark-head .ensures)
 
 pub paint-bitmap-spec : {M : Type 1} → statement M

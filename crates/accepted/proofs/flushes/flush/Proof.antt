@@ -1,10 +1,10 @@
 use native.Mathlib.Omega.{arith}
-use mathlib.Core.Path.{sym, ap, _∙_}
-use lib.ListN.{length}
+use mathlib.Core.Path.{sym, _∙_}
 use Rattle.laws.specs.StateTest.{flags-room}
 use Rattle.laws.specs.Updates.{screen-small}
-use Rattle.accepted.proofs.Drawing.{screen-in, screen-room, text-room, stands}
-use Rattle.accepted.proofs.Flushing.{first-kept, first-room, text-length, glyphs-are, flags-counted, text-screen, flush-drew}
+use Rattle.accepted.proofs.Drawing.{screen-in, screen-room, text-room, text-length, stands}
+use Rattle.accepted.proofs.Kept.{kept, kept-length, kept-room}
+use Rattle.accepted.proofs.Flushing.{glyphs-are, flags-counted, text-screen, flush-drew}
 use borrow.Author.Needs.{needs}
 use Rattle.accepted.proofs.flushes.flush.Statement.{statement}
 use Rattle.accepted.proofs.flushes.flush.Tie as tie
@@ -46,10 +46,10 @@ part-flush-screen-end : tie.Need-part-flush-screen-end
 part-flush-screen-end c = screen-room (c .before .before .before .before .before .before .before .before .before .before .before .before .before .before .before .before .before .pre .0)
 
 array-share-prefix-text : tie.Need-array-share-prefix-text
-array-share-prefix-text c = let s = c .before .before .before .before .before .before .before .before .before .before .before .before .before .before .before .before .before .before in first-room _ _ (c .before .before .before .before .put-bytes .ensures) (text-length (s .pre .0)) (omega (arith, s .pre .1 .0))
+array-share-prefix-text c = let s = c .before .before .before .before .before .before .before .before .before .before .before .before .before .before .before .before .before .before in kept-room _ _ (text-length (s .pre .0)) (c .before .before .before .before .put-bytes .ensures) (omega (arith, s .pre .1 .0))
 
 slice-aggregate-flush-screen : tie.Need-slice-aggregate-flush-screen
-slice-aggregate-flush-screen c = let s = c .before .before .before .before .before .before .before .before .before .before .before .before .before .before .before .before .before .before .before in sym (ap length (first-kept _ _ _ (text-length (s .pre .0)) (c .before .before .before .before .before .put-bytes .ensures)) ∙ text-length (s .pre .0))
+slice-aggregate-flush-screen c = let s = c .before .before .before .before .before .before .before .before .before .before .before .before .before .before .before .before .before .before .before in sym (kept-length _ _ (text-length (s .pre .0)) (c .before .before .before .before .before .put-bytes .ensures))
 
 sub-flush-screen-2 : tie.Need-sub-flush-screen-2
 sub-flush-screen-2 c = omega (arith, flags-room _ (c .before .before .before .before .before .before .before .before .before .before .before .before .before .before .before .before .before .before .before .pre .0 .known .suits))
@@ -61,7 +61,7 @@ part-flush-screen-end-2 : tie.Need-part-flush-screen-end-2
 part-flush-screen-end-2 c = let k = c .before .before .before .before .before .before .before .before .before .before .before .before .before .before .before .before .before .before .before .before .pre .0 .known in omega (arith, flags-room _ (k .suits), k .passing .sized)
 
 flush-screen-requires : tie.Need-flush-screen-requires
-flush-screen-requires c κs = let s = c .before .before .before .before .before .before .before .before .before .before .before .before .before .before .before .before .before .before .before .before .before in let w = s .pre .0 in (text-screen w, (glyphs-are w _ (first-kept _ _ _ (text-length w) (c .before .before .before .before .before .before .before .put-bytes .ensures)) ∙ s .pre .1 .1, flags-counted w))
+flush-screen-requires c κs = let s = c .before .before .before .before .before .before .before .before .before .before .before .before .before .before .before .before .before .before .before .before .before in let w = s .pre .0 in (text-screen w, (glyphs-are w _ (kept _ _ (text-length w) (c .before .before .before .before .before .before .before .put-bytes .ensures)) ∙ s .pre .1 .1, flags-counted w))
 
 canvas-of-requires : tie.Need-canvas-of-requires
 canvas-of-requires c κs = search needs
@@ -79,7 +79,7 @@ same-length-2 : tie.Need-same-length-2
 same-length-2 c = search needs
 
 returns : tie.Need-returns
-returns c = let s = c .before .before .before .before .before .before .before .before .before .before .before .before .before .before .before .before .before .before .before .before .before .before .before .before .before .before .before .before .before .before in let w = s .pre .0 in flush-drew w _ _ _ (c .before .before .before .before .canvas-of .ensures) (c .before .before .before .whole-marks .ensures) (first-kept _ _ _ (text-length w) (c .before .before .before .before .before .before .before .before .before .before .before .before .before .before .before .before .put-bytes .ensures)) (c .before .before .before .before .before .before .before .before .flush-screen .ensures) (c .before .before .mark-head .ensures)
+returns c = let s = c .before .before .before .before .before .before .before .before .before .before .before .before .before .before .before .before .before .before .before .before .before .before .before .before .before .before .before .before .before .before in let w = s .pre .0 in flush-drew w _ _ _ (c .before .before .before .before .canvas-of .ensures) (c .before .before .before .whole-marks .ensures) (kept _ _ (text-length w) (c .before .before .before .before .before .before .before .before .before .before .before .before .before .before .before .before .put-bytes .ensures)) (c .before .before .before .before .before .before .before .before .flush-screen .ensures) (c .before .before .mark-head .ensures)
 
 pub flush-spec : {M : Type 1} → statement M
 flush-spec =

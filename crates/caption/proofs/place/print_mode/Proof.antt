@@ -1,12 +1,15 @@
-use Rattle.caption.proofs.Heads.{is-print-normal, is-print-mode}
+use mathlib.Core.Path.{refl}
+use Rattle.model.specs.Text.{printMode}
 use Rattle.caption.proofs.place.print_mode.Statement.{statement}
 use Rattle.caption.proofs.place.print_mode.Tie as tie
 
 returns : tie.Need-returns
-returns c = search is-print-normal
+unfolding printMode
+returns c = rw (c .if1 .taken) refl
 
 returns-2 : tie.Need-returns-2
-returns-2 c = search is-print-mode
+unfolding printMode
+returns-2 c = rw (c .if1 .left) refl
 
 pub print-mode-spec : {M : Type 1} → statement M
 print-mode-spec = tie.close (tie.spec returns returns-2)
