@@ -1,11 +1,11 @@
 -- The laws of a list of rectangles kept by bands: a mark added to it, its first taken from it.
-use mathlib.Core.Path.{_≡_, refl, sym, ap, _∙_}
+use mathlib.Core.Path.{_≡_, refl, ap, _∙_}
 use mathlib.Core.Logic.{_⊎_, inl, inr}
 use mathlib.Core.Bool.{true}
 use mathlib.Core.List.{List, [], _∷_}
 use Prim.Native.Nat.{ℕ, suc, _+_, _-_, _*_, _≤_, _<_, min}
 use native.Mathlib.Omega.{arith}
-use lib.ListN.{length, getD}
+use lib.ListN.{length}
 use Rattle.laws.specs.Tests.{if-cases, clash, by-test, by-lt, either}
 use Rattle.model.specs.declared.Rect.{Rect}
 use borrow.Author.Tests.{le-ltb}
@@ -109,17 +109,6 @@ first-none w b lo (r ∷ rs) f t =
     (λ e. omega (arith, lines-none r (empty-none r e), first-none w b (lo + b) rs (f .1) (rw e at t)))
     (λ e. clash (isEmpty r) (rw e at t) e)
 
--- ---- one band: what is owed moves whole into hand, and leaves nothing
-
-pub one-first : (w lo hi : ℕ) (o : Rect) → Fits w lo hi o → firstOwed (o ∷ []) ≡ o
-unfolding firstOwed
-one-first w lo hi o f = if-cases (λ (r : Rect). r ≡ o) (isEmpty o) (λ e. sym (empty-none o e)) (λ e. refl)
-
-pub one-rest : (w lo hi : ℕ) (o : Rect) → Fits w lo hi o → restOwed (o ∷ []) ≡ none ∷ []
-unfolding restOwed
-one-rest w lo hi o f =
-    if-cases (λ (l : List Rect). l ≡ none ∷ []) (isEmpty o) (λ e. ap (λ (r : Rect). r ∷ []) (empty-none o e)) (λ e. refl)
-
 -- ---- an empty mark adds nothing
 
 cut-none : (w lo hi : ℕ) → cut w lo hi none ≡ none
@@ -130,11 +119,3 @@ pub joinOwed-none : (w b lo : ℕ) (rs : List Rect) → joinOwed w b lo none rs 
 unfolding joinOwed
 joinOwed-none w b lo [] = refl
 joinOwed-none w b lo (r ∷ rs) = λ i. (ap (join r) (cut-none w lo (lo + b)) ∙ join-none r) i ∷ joinOwed-none w b (lo + b) rs i
-
--- ---- one band
-
--- a list of one
-pub one : (l : List Rect) → length l ≡ 1 → l ≡ getD l 0 none ∷ []
-one [] e = absurd (omega arith)
-one (q ∷ []) e = refl
-one (q ∷ r ∷ l) e = absurd (omega arith)

@@ -102,13 +102,6 @@ paintLines st left right il ir (x ∷ xs) s =
     paintLines st (left + st) (right + st) il ir xs (set (set s left (flipped il (getD x 0 0))) right (flipped ir (getD x 1 0)))
 
 module _ (st : ℕ) (il ir : Bool) where
-  pub length-lines : (left right : ℕ) (g : List (List ℕ)) (s : List ℕ) → length (paintLines st left right il ir g s) ≡ length s
-  unfolding paintLines
-  length-lines left right [] s = refl
-  length-lines left right (x ∷ xs) s =
-      length-lines (left + st) (right + st) xs (set (set s left (flipped il (getD x 0 0))) right (flipped ir (getD x 1 0)))
-      ∙ length-set (set s left (flipped il (getD x 0 0))) right (flipped ir (getD x 1 0)) ∙ length-set s left (flipped il (getD x 0 0))
-
   pub lines-turn : (left right i : ℕ) (g : List (List ℕ)) (s : List ℕ) → i < length g
       → paintLines st left right il ir (drop i g) s
       ≡ paintLines st (left + st) (right + st) il ir (drop (i + 1) g) (set (set s left (flipped il (getD (getD g i []) 0 0))) right (flipped ir (getD (getD g i []) 1 0)))

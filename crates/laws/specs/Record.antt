@@ -112,11 +112,6 @@ head-again : (c : List ℕ) → Bytes c → length c ≡ 18 → bytesOfHead (hea
 unfolding Bytes
 head-again c b l = exact 18 (bytesOfHead (headOf c)) c (ap (λ (x : List ℕ). x ++ drop 18 c) (head-elements c b) ∙ elements-drop 18 0 c (omega arith)) l
 
-rects-whole : (n : ℕ) (c : List ℕ) → Bytes c → length c ≡ 8 * n → rectsBytes (rectsAt n c 0) ≡ c
-rects-whole n c b l =
-    exact (8 * n) (rectsBytes (rectsAt n c 0)) c
-    (ap (λ (k : ℕ). rectsBytes (rectsAt n c 0) ++ drop k c) (sym (zero-add (8 * n))) ∙ rects-again n c 0 b (omega arith)) l
-
 words-whole : (n : ℕ) (c : List ℕ) → Bytes c → length c ≡ 4 * n → wordsBytes (wordsAt n c 0) ≡ c
 words-whole n c b l =
     exact (4 * n) (wordsBytes (wordsAt n c 0)) c
@@ -308,11 +303,6 @@ head-back g h e =
     let n = head-tells g h e in
     head-equal (two-back (h .graphics) (omega (arith, n))) (two-back (h .text) (omega (arith, n))) refl refl refl refl refl refl
     (rect-back (h .dirty) [] (fits-short 256 0 256 (h .dirty) (omega arith) (omega arith) (n .dirty)))
-
-rects-again-read : (n : ℕ) (qs : List Rect) → length qs ≡ n → AllShort qs → rectsAt n (rectsBytes qs) 0 ≡ qs
-rects-again-read n qs e b =
-    ap (λ (k : ℕ). rectsAt k (rectsBytes qs) 0) (sym e) ∙ ap (λ (l : List ℕ). rectsAt (length qs) l 0) (sym (append-nil (rectsBytes qs)))
-    ∙ rects-back qs [] b
 
 pub pending-back : (g : Geometry) (p : Pending) → IsGlass g → WellPending g p → pendingOf g (bytesOfPending p) 0 ≡ p
 unfolding pendingFits

@@ -16,7 +16,7 @@ use Rattle.model.specs.Memory.{window}
 use Rattle.model.specs.Rects.{fits}
 use Rattle.model.specs.Bytes.{rectAt, rectsAt}
 use Rattle.model.specs.Flags.{flagBytes, flagsFit}
-use Rattle.model.specs.Record.{RecordPart, head, panel, keys, flags, recordBytes, samePart, has, all, layout, at, partIn, headOf, pendingOf, windows, headFits, bandsFit, pendingFits, partFits, valid}
+use Rattle.model.specs.Record.{RecordPart, head, panel, keys, flags, recordBytes, has, all, layout, at, partIn, headOf, pendingOf, windows, headFits, bandsFit, pendingFits, partFits, valid}
 use Rattle.laws.specs.Tests.{by-eq, and-true}
 use Rattle.laws.specs.PartLists.{all-of, all-at}
 use Rattle.laws.specs.Record.{has-head, has-panel, panel-has, has-flags, part-in, length-part}
