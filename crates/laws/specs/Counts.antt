@@ -68,8 +68,7 @@ walk-sum : (p q : List ℕ) → length p ≡ length q → bytesDiffer p q ≡ su
 unfolding bytesDiffer sum
 walk-sum [] q e = refl
 walk-sum (a ∷ p) [] e = absurd (omega arith)
-walk-sum (a ∷ p) (b ∷ q) e =
-    ap (λ (n : ℕ). byteDiffers a b + n) (walk-sum p q (suc-inj e)) ∙ sym (sum-front (length p) (λ i. byteDiffers (getD (a ∷ p) i 0) (getD (b ∷ q) i 0)))
+walk-sum (a ∷ p) (b ∷ q) e = cc (walk-sum p q (suc-inj e), sum-front (length p) (λ i. byteDiffers (getD (a ∷ p) i 0) (getD (b ∷ q) i 0)))
 
 div8 : (q r : ℕ) → r < 8 → (q * 8 + r) / 8 ≡ q
 div8 q r h = omega arith

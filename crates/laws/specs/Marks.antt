@@ -85,5 +85,4 @@ in-byte st i x y hx e =
 
 pub poke-agrees : (st h : ℕ) (s : List ℕ) (i v : ℕ) → AgreeOutside st h (byteRect st i) s (set s i v)
 unfolding bit
-poke-agrees st h s i v x y hx hy n =
-    ap (λ (b : ℕ). bitAt b (7 - x % 8)) (getD-set-other s i (place st x y) v 0 (λ e. n (in-byte st i x y hx e)))
+poke-agrees st h s i v x y hx hy n = cc (getD-set-other s i (place st x y) v 0 (λ e. n (in-byte st i x y hx e)))

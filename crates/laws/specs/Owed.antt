@@ -51,9 +51,7 @@ pub window-tail : (a n k : ℕ) (s t r : List ℕ) → length s ≡ n → length
 unfolding withWindow
 window-tail a n k s t r e f h =
     let l : a + length (s ++ t) ≡ a + n + k = omega (arith, length-append s t) in
-    ap (λ (i : ℕ). take a r ++ ((s ++ t) ++ drop i r)) l
-    ∙ ap (λ (x : List ℕ). take a r ++ x) (append-assoc s t (drop (a + n + k) r))
-    ∙ ap (λ (x : List ℕ). take a r ++ (s ++ x)) (h ∙ ap (λ (i : ℕ). drop (a + i) r) (sym e))
+    cc (append-assoc s t (drop (a + n + k) r))
 
 -- rectangles past a store
 rects-past : (n a : ℕ) (q : Rect) (r : List ℕ) → a ≤ length r → rectsAt n (withWindow a (rectBytes q) r) (a + 8) ≡ rectsAt n r (a + 8)
@@ -72,12 +70,11 @@ unfolding joined joinOwed
 join-turn w band lo zero a m r p h e f g k = absurd (omega arith)
 join-turn w band lo (suc n) a m r {q} {c} {j} {r′} p h e f g k =
     let z : suc n - 1 ≡ n = omega arith in
-    let i : j ≡ join (rectAt r a) (cut w lo (lo + band) m) = g ∙ (λ x. join (e x) (f x)) in
-    ap (λ (x : ℕ). withWindow (a + 8) (rectsBytes (joinOwed w band (lo + band) m (rectsAt x r′ (a + 8)))) r′) z
-    ∙ ap (λ (x : List ℕ). withWindow (a + 8) (rectsBytes (joinOwed w band (lo + band) m (rectsAt n x (a + 8)))) x) k
-    ∙ ap (λ (x : List Rect). withWindow (a + 8) (rectsBytes (joinOwed w band (lo + band) m x)) (withWindow a (rectBytes j) r)) (rects-past n a j r (omega arith))
-    ∙ window-extend a 8 (rectBytes j) (rectsBytes (joinOwed w band (lo + band) m (rectsAt n r (a + 8)))) r refl (omega arith)
-    ∙ ap (λ (x : Rect). withWindow a (rectBytes x ++ rectsBytes (joinOwed w band (lo + band) m (rectsAt n r (a + 8)))) r) i
+    let i : j ≡ join (rectAt r a) (cut w lo (lo + band) m) = cc in
+    cc (
+      rects-past n a j r (omega arith),
+      window-extend a 8 (rectBytes j) (rectsBytes (joinOwed w band (lo + band) m (rectsAt n r (a + 8)))) r refl (omega arith),
+    )
 
 pub join-end : (w band lo left a : ℕ) (m : Rect) (r : List ℕ) → left ≡ 0 → joined w band lo m left a r ≡ r
 unfolding joined joinOwed
@@ -191,9 +188,7 @@ unfolding bandsFit
 fits-turn w band lo zero a r ok p e f = absurd (omega arith)
 fits-turn w band lo (suc n) a r ok {q} {t} p e f =
     let z : suc n - 1 ≡ n = omega arith in
-    ap (λ (x : ℕ). (ok && t) && bandsFit w band (lo + band) (rectsAt x r (a + 8))) z
-    ∙ and-assoc ok t (bandsFit w band (lo + band) (rectsAt n r (a + 8)))
-    ∙ ap (λ (x : Bool). ok && (x && bandsFit w band (lo + band) (rectsAt n r (a + 8)))) (f ∙ ap (fits w lo (lo + band)) e)
+    cc (and-assoc ok t _)
 
 pub fits-end : (w band lo left a : ℕ) (r : List ℕ) (ok : Bool) → left ≡ 0 → (ok && bandsFit w band lo (rectsAt left r a)) ≡ ok
 unfolding bandsFit

@@ -62,9 +62,7 @@ unfolding window partBytes
 from-panel g s k z h =
     let a = at g (panel k) in
     let r = encode g s in
-    sym (take-append-drop (pendingBytes g) (drop a r))
-    ∙ ap (λ (x : List ℕ). x ++ drop (pendingBytes g) (drop a r)) (part-encode g s z (panel k) (has-panel g k h))
-    ∙ ap (λ (x : List ℕ). bytesOfPending (panelOf g s k) ++ x) (drop-drop (pendingBytes g) a r)
+    cc (take-append-drop (pendingBytes g) (drop a r), part-encode g s z (panel k) (has-panel g k h), drop-drop (pendingBytes g) a r)
 
 pub length-owing : (g : Geometry) (m : Rect) (p : Pending) → length (owing g m p .owed) ≡ length (p .owed)
 unfolding owing
@@ -130,16 +128,11 @@ module _ (g : Geometry) (m : Rect) (l : IsGlass g) where
   -- a state with the mark joined to what each panel is owed
   pub marks-state : (s : State) → length (s .panels) ≡ g .panels → Sized g s → ((i : ℕ) → 0 ≤ i → i < g .panels → AllShort (panelOf g s i .owed))
       → markFrom g m 0 (g .panels) (encode g s) ≡ encode g (withPanels (map (owing g m) (s .panels)) s)
-  marks-state s c z b =
-      marks-from 0 (g .panels) s (omega arith) c z b
-      ∙ ap (λ (ps : List Pending). encode g (withPanels ps s))
-      (ap (λ (n : ℕ). each (owing g m) (nothingPending g) 0 n (s .panels)) (sym c) ∙ each-map (owing g m) (nothingPending g) [] (s .panels) 0 refl)
+  marks-state s c z b = cc (marks-from 0 (g .panels) s (omega arith) c z b, each-map (owing g m) (nothingPending g) [] (s .panels) 0 refl)
 
   -- the record with the mark joined to what each panel is owed
   pub marks-all : (r : List ℕ) → Passing g r → markFrom g m 0 (g .panels) r ≡ encode g (withPanels (map (owing g m) (decode g r .panels)) (decode g r))
-  marks-all r k =
-      ap (markFrom g m 0 (g .panels)) (sym (encode-decode g r k))
-      ∙ marks-state (decode g r) (count-decode g r) (sized-decode g r (k .sized)) short
+  marks-all r k = cc (encode-decode g r k, marks-state (decode g r) (count-decode g r) (sized-decode g r (k .sized)) short)
     where
       short : (i : ℕ) → 0 ≤ i → i < g .panels → AllShort (panelOf g (decode g r) i .owed)
       short i o h = rw (panel-decoded g r i h) (rects-short (g .bands) (partIn g (panel i) r) 0 (bytes-part g (panel i) r (k .bytes)))

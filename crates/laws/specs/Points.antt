@@ -57,14 +57,12 @@ point-byte Unknown b k hb hk = sym (withBit-own b (7 - k))
 pub plotted : (st x y : ℕ) (d : DrawMode) (s : List ℕ) {m v : ℕ} → Bytes s → m ≡ maskOf x → v ≡ pointByte d (getD s (place st x y) 0) m
     → set s (place st x y) v ≡ writePixel st s (pointWrite x y d)
 unfolding writePixel put bit Bytes
-plotted st x y d s {m} {v} h p q =
-    ap (set s (place st x y)) (q ∙ ap (pointByte d (getD s (place st x y) 0)) p ∙ point-byte d (getD s (place st x y) 0) (x % 8) (h (place st x y)) (omega arith))
+plotted st x y d s {m} {v} h p q = cc (point-byte d (getD s (place st x y) 0) (x % 8) (h (place st x y)) (omega arith))
 
 pub seen-bit : (st x y : ℕ) (s : List ℕ) {m : ℕ} → Bytes s → m ≡ maskOf x
     → not (eqb (bitAnd (getD s (place st x y) 0) m) 0) ≡ bit st s x y
 unfolding bit Bytes
-seen-bit st x y s {m} h p =
-    ap (λ (m : ℕ). not (eqb (bitAnd (getD s (place st x y) 0) m) 0)) p ∙ see-is (getD s (place st x y) 0) (x % 8) (h (place st x y)) (omega arith)
+seen-bit st x y s {m} h p = cc (see-is (getD s (place st x y) 0) (x % 8) (h (place st x y)) (omega arith))
 
 -- the code's table of masks
 abbrev pub masks : List ℕ

@@ -27,9 +27,7 @@ module _ (rows columns : ℕ) (v : Bool) where
       → printBytes rows columns v (drop i bs) p ≡ printBytes rows columns v (drop (i + 1) bs) (printByte rows columns v (getD bs i 0) p)
   byte-turn bs i p h e =
       let b = getD bs i 0 in
-      ap (λ (l : List ℕ). printBytes rows columns v l p) (drop-cons bs i 0 h)
-      ∙ alone b (drop (suc i) bs) p (last (and-false (leb 128 b) (ltb (i + 1) (length bs)) e))
-      ∙ ap (λ (k : ℕ). printBytes rows columns v (drop k bs) (printByte rows columns v b p)) (sym (add-one i))
+      cc (drop-cons bs i 0 h, alone b (drop (suc i) bs) p (last (and-false (leb 128 b) (ltb (i + 1) (length bs)) e)), add-one i)
     where
       last : (leb 128 (getD bs i 0) ≡ false) ⊎ (ltb (i + 1) (length bs) ≡ false) → (leb 128 (getD bs i 0) ≡ false) ⊎ (drop (suc i) bs ≡ [])
       last (inl f) = inl f

@@ -123,13 +123,7 @@ pending-again g r i b h =
     let n = g .bands in
     let j = i + 8 * n in
     let e : i + pendingBytes g ≡ j + 8 + 4 = omega arith in
-    append-assoc (rectsBytes (rectsAt n r i)) (rectBytes (rectAt r j) ++ fourBytes (four r (j + 8))) (drop (i + pendingBytes g) r)
-    ∙ ap (λ (l : List ℕ). rectsBytes (rectsAt n r i) ++ l)
-    (append-assoc (rectBytes (rectAt r j)) (fourBytes (four r (j + 8))) (drop (i + pendingBytes g) r)
-    ∙ ap (λ (k : ℕ). rectBytes (rectAt r j) ++ (fourBytes (four r (j + 8)) ++ drop k r)) e
-    ∙ ap (λ (l : List ℕ). rectBytes (rectAt r j) ++ l) (four-again r (j + 8) b (omega arith))
-    ∙ rect-again r j b (omega arith))
-    ∙ rects-again n r i b (omega arith)
+    cc (append-assoc _ _ _, four-again r (j + 8) b (omega arith), rect-again r j b (omega arith), rects-again n r i b (omega arith))
 
 pub pending-whole : (g : Geometry) (c : List ℕ) → Bytes c → length c ≡ pendingBytes g → bytesOfPending (pendingOf g c 0) ≡ c
 pending-whole g c b l =
@@ -329,10 +323,7 @@ listing-is f n l d e h =
 
 pub keys-back : (g : Geometry) (s : State) → Sized g s → Words (s .keys) → decode g (encode g s) .keys ≡ s .keys
 unfolding decode partBytes
-keys-back g s z k =
-    ap (λ (c : List ℕ). wordsAt 8 c 0) (part-encode g s z keys (has-keys g))
-    ∙ ap (λ (n : ℕ). wordsAt n (wordsBytes (s .keys)) 0) (sym (z .keys)) ∙ ap (λ (l : List ℕ). wordsAt (length (s .keys)) l 0) (sym (append-nil (wordsBytes (s .keys))))
-    ∙ words-back (s .keys) [] k
+keys-back g s z k = cc (part-encode g s z keys (has-keys g), z .keys, append-nil (wordsBytes (s .keys)), words-back (s .keys) [] k)
 
 pub decode-encode : (g : Geometry) (s : State) → IsGlass g → WellFormed g s → decode g (encode g s) ≡ s
 unfolding decode partBytes

@@ -136,8 +136,7 @@ beside-none st h x y d s o = seen-none st h x y d s (sym (off-beside st h x y o)
 -- two points of one line
 pub pair-drawn : (st h x₁ x₂ y : ℕ) (d : DrawMode) (s s₁ e : List ℕ) → s₁ ≡ draw st (seen st h (pointWrite x₁ y d ∷ [])) s
     → e ≡ draw st (seen st h (pointWrite x₂ y d ∷ [])) s₁ → e ≡ draw st (seen st h (pointWrite x₁ y d ∷ pointWrite x₂ y d ∷ [])) s
-pair-drawn st h x₁ x₂ y d s s₁ e k₁ k =
-    k ∙ ap (draw st (seen st h (pointWrite x₂ y d ∷ []))) k₁ ∙ sym (drawn-append st h (pointWrite x₁ y d ∷ []) (pointWrite x₂ y d ∷ []) s)
+pair-drawn st h x₁ x₂ y d s s₁ e k₁ k = cc (drawn-append st h (pointWrite x₁ y d ∷ []) (pointWrite x₂ y d ∷ []) s)
 
 pub pair-below : (st h x₁ x₂ y : ℕ) (d : DrawMode) (s : List ℕ) → h ≤ y → s ≡ draw st (seen st h (pointWrite x₁ y d ∷ pointWrite x₂ y d ∷ [])) s
 pair-below st h x₁ x₂ y d s o = pair-drawn st h x₁ x₂ y d s s s (below x₁) (below x₂)
@@ -224,8 +223,7 @@ pub one-byte : (st h left right y : ℕ) (d : DrawMode) (s e : List ℕ) {a b : 
     → a ≡ startMask left → b ≡ endMask right → left / 8 ≡ right / 8 → e ≡ masked s (st * y + left / 8) (bitAnd a b) d
     → e ≡ draw st (pixelRun left y (suc (right - left)) d) s
 one-byte st h left right y d s e r hs o p q k w =
-    w ∙ ap₂ (λ (a b : ℕ). masked s (st * y + left / 8) (bitAnd a b) d) p q
-    ∙ mask-run st h y (left / 8) left (right + 1) _ (suc (right - left)) d s r hs (o .2) (omega arith) (both-masks left right k) (omega arith)
+    cc (mask-run st h y (left / 8) left (right + 1) _ (suc (right - left)) d s r hs (o .2) (omega arith) (both-masks left right k) (omega arith))
 
 pub many-bytes : (st h left right y : ℕ) (d : DrawMode) (s s₁ s₂ e : List ℕ) {a b : ℕ} → Screen st h s → Bytes s
     → (left ≤ right) × (right < 8 * st) × (y < h) → a ≡ startMask left → b ≡ endMask right → (left / 8 ≡ right / 8 → ⊥)
@@ -238,20 +236,18 @@ many-bytes st h left right y d s s₁ s₂ e {a} {b} r hs o p q k w₁ w₂ w₃
     let n = 8 * (left / 8) + 8 - left in
     let m = right / 8 - (left / 8 + 1) in
     let v = suc (right - 8 * (right / 8)) in
-    let f₁ : s₁ ≡ masked s (st * y + left / 8) (startMask left) d = w₁ ∙ ap (λ (a : ℕ). masked s (st * y + left / 8) a d) p in
-    let g₁ : s₁ ≡ draw st (pixelRun left y n d) s
-    = f₁ ∙ mask-run st h y (left / 8) left (8 * (left / 8 + 1)) _ n d s r hs (o .2) (omega arith) (start-mask left) (omega arith) in
+    let f₁ : s₁ ≡ masked s (st * y + left / 8) (startMask left) d = cc in
+    let g₁ : s₁ ≡ draw st (pixelRun left y n d) s =
+    cc (mask-run st h y (left / 8) left (8 * (left / 8 + 1)) _ n d s r hs (o .2) (omega arith) (start-mask left) (omega arith)) in
     let hs₁ : Bytes s₁ = subst⁻¹ Bytes f₁ (bytes-masked s (st * y + left / 8) (startMask left) d hs (start-mask left .small)) in
     let i : st * y + left / 8 + 1 ≡ st * y + (left / 8 + 1) = omega arith in
     let j : st * y + right / 8 - (st * y + left / 8 + 1) ≡ m = omega arith in
-    let f₂ : s₂ ≡ maskedBytes s₁ (st * y + (left / 8 + 1)) m d = w₂ ∙ (λ u. maskedBytes s₁ (i u) (j u) d) in
-    let g₂ : s₂ ≡ draw st (pixelRun left y (n + 8 * m) d) s
-    = f₂ ∙ bytes-run st h y (left / 8 + 1) m d s₁ (screen-draw st h (pixelRun left y n d) r g₁) hs₁ (o .2) (omega arith)
-    ∙ ap (draw st (pixelRun (8 * (left / 8 + 1)) y (8 * m) d)) g₁ ∙ draw-run-append st left y (8 * (left / 8 + 1)) n (8 * m) d s (omega arith) in
+    let f₂ : s₂ ≡ maskedBytes s₁ (st * y + (left / 8 + 1)) m d = cc in
+    let g₂ : s₂ ≡ draw st (pixelRun left y (n + 8 * m) d) s =
+    cc (bytes-run st h y (left / 8 + 1) m d s₁ (screen-draw st h (pixelRun left y n d) r g₁) hs₁ (o .2) (omega arith), draw-run-append st left y (8 * (left / 8 + 1)) n (8 * m) d s (omega arith)) in
     let hs₂ : Bytes s₂ = subst⁻¹ Bytes f₂ (bytes-kept (st * y + (left / 8 + 1)) m d s₁ hs₁) in
     let t : (n + 8 * m) + v ≡ suc (right - left) = omega arith in
-    w₃ ∙ ap (λ (b : ℕ). masked s₂ (st * y + right / 8) b d) q
-    ∙ mask-run st h y (right / 8) (8 * (right / 8)) (right + 1) _ v d s₂ (screen-draw st h (pixelRun left y (n + 8 * m) d) r g₂) hs₂ (o .2) (omega arith) (end-mask right) (omega arith)
-    ∙ ap (draw st (pixelRun (8 * (right / 8)) y v d)) g₂
-    ∙ draw-run-append st left y (8 * (right / 8)) (n + 8 * m) v d s (omega arith)
-    ∙ ap (λ (z : ℕ). draw st (pixelRun left y z d) s) t
+    cc (
+      mask-run st h y (right / 8) (8 * (right / 8)) (right + 1) _ v d s₂ (screen-draw st h (pixelRun left y (n + 8 * m) d) r g₂) hs₂ (o .2) (omega arith) (end-mask right) (omega arith),
+      draw-run-append st left y (8 * (right / 8)) (n + 8 * m) v d s (omega arith),
+    )

@@ -24,14 +24,8 @@ scroll-turn n i d l h e =
     let k : i < length s = simp length-drop (omega arith) in
     let m : length (take i s) ≡ i = length-take-le i s (omega arith) in
     let c : n + i ≡ i + n = omega arith in
-    let v : getD l (i + n) 0 ≡ getD s i 0 =
-    ap (λ (x : List ℕ). getD x (i + n) 0) e
-    ∙ ap (λ (x : ℕ). getD (take i s ++ drop i d) (x + n) 0) (sym m)
-    ∙ getD-append-add (take i s) (drop i d) n 0
-    ∙ getD-drop i d n 0
-    ∙ ap (λ (x : ℕ). getD d x 0) (sym c)
-    ∙ sym (getD-drop n d i 0) in
-    ap (λ (x : List ℕ). set x i (getD l (i + n) 0)) e ∙ ap (λ (x : ℕ). set (take i s ++ drop i d) i x) v ∙ copy-turn s d i k (omega arith)
+    let v : getD l (i + n) 0 ≡ getD s i 0 = cc (getD-append-add (take i s) (drop i d) n 0, getD-drop i d n 0, getD-drop n d i 0) in
+    cc (copy-turn s d i k (omega arith))
 
 -- all are moved, and zeros are put over the last n
 pub scroll-end : (n i : ℕ) (d l : List ℕ) → n ≤ length d → i ≡ length d - n → l ≡ scrolling n i d → withWindow i (zeros n) l ≡ scrolled n 0 d

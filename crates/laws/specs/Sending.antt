@@ -91,10 +91,7 @@ three : (a n : ℕ) (x y z d : List ℕ) → length x ≡ 8 * n → length y ≡
     → withWindow (a + 8 * n + 8) z (withWindow (a + 8 * n) y (withWindow a x d)) ≡ withWindow a (x ++ (y ++ z)) d
 three a n x y z d e f h =
     let l : a + 8 * n + 8 ≡ a + (8 * n + 8) = omega arith in
-    ap (withWindow (a + 8 * n + 8) z) (window-extend a (8 * n) x y d e h)
-    ∙ ap (λ (k : ℕ). withWindow k z (withWindow a (x ++ y) d)) l
-    ∙ window-extend a (8 * n + 8) (x ++ y) z d (omega (arith, length-append x y)) h
-    ∙ ap (λ (u : List ℕ). withWindow a u d) (append-assoc x y z)
+    cc (window-extend a (8 * n) x y d e h, window-extend a (8 * n + 8) (x ++ y) z d (omega (arith, length-append x y)) h, append-assoc x y z)
 
 -- ---- as the code goes, with the glass by value
 
@@ -165,8 +162,7 @@ pub record SentOn (v : Glass) (k : ℕ) (r : List ℕ) (q : Rect) (r′ : List �
 
 pub line-sent : {v : Glass} {r : List ℕ} (k : ℕ) → Known v r → k < v .panels → {a : ℕ} {q : Rect} {r′ : List ℕ} → a ≡ at (geometry v) (panel k)
     → InHand (geometry v) a r q r′ → q ≡ takeOwed (panelOf (geometry v) (decode (geometry v) r) k) .hand
-line-sent {v} {r} k w h e i =
-    i .hand ∙ ap (λ (x : ℕ). takeOwed (pendingOf (geometry v) r x) .hand) e ∙ ap (λ (x : Pending). takeOwed x .hand) (sym (panel-here k w h))
+line-sent {v} {r} k w h e i = cc (i .hand, panel-here k w h)
 
 -- the line that is sent lies on the screen
 pub sent-proper : {v : Glass} {k : ℕ} {r : List ℕ} {q : Rect} {r′ : List ℕ} {t : Bool} → Known v r → k < v .panels → SentOn v k r q r′ → t ≡ isEmpty q → t ≡ false

@@ -106,10 +106,7 @@ head-is v h z e f =
 pub pending-is : (v : Glass) (r : List ℕ) (k a : ℕ) {b t : Bool} {q : Rect} → Suits v → a ≡ at (geometry v) (panel k) → b ≡ bandsFit (v .width) (v .band) 0 (rectsAt (v .bands) r a)
     → q ≡ rectAt r (a + 8 * v .bands) → t ≡ fits (v .width) 0 (v .height) q → (b && t) ≡ pendingFits (geometry v) (pendingOf (geometry v) r (at (geometry v) (panel k)))
 unfolding pendingFits
-pending-is v r k a z e f g h =
-    λ i. (f ∙ (λ j. bandsFit (z .is-width j) (v .band) 0 (rectsAt (v .bands) r (e j)))) i
-    && (h ∙ ap (fits (v .width) 0 (v .height)) (g ∙ ap (λ (x : ℕ). rectAt r (x + 8 * v .bands)) e)
-    ∙ (λ j. fits (z .is-width j) 0 (z .is-height j) (rectAt r (at (geometry v) (panel k) + 8 * v .bands)))) i
+pending-is v r k a z e f g h = cc (z .is-width, z .is-height)
 
 -- where the loop over panels stands
 pub record Fitting (v : Glass) (r : List ℕ) (panels : ℕ) (ok : Bool) (k : ℕ) : Type 0 where

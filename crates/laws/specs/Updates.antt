@@ -129,8 +129,7 @@ module _ {v : Glass} {r : List ℕ} (k : Known v r) {c : List ℕ}
   cleared : c ≡ bytesOfFlags (clearFlags (geometry v))
   cleared =
       let g = geometry v in
-      e ∙ ap (λ (n : ℕ). bytesOfFlags (replicate n false))
-      (ap length (flags-part v r (k .suits)) ∙ length-part g flags r (has-flags g) (k .passing .sized))
+      cc (flags-part v r (k .suits), length-part g flags r (has-flags g) (k .passing .sized))
 
   pub cleared-known : Known v (putMid (v .flags) (v .others - v .flags) r c)
   cleared-known = flags-known k (clearFlags (geometry v)) (length-no-flags (cells (geometry v))) cleared
