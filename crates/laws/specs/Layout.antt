@@ -161,7 +161,6 @@ rects-at n r i = ap (rectsAt n r) (sym (add-zero i)) ∙ rects-from n r i 0
 pub rects-back : (qs : List Rect) (l : List ℕ) → AllShort qs → rectsAt (length qs) (rectsBytes qs ++ l) 0 ≡ qs
 rects-back [] l b = refl
 rects-back (q ∷ qs) l b =
-    let a = append-assoc (rectBytes q) (rectsBytes qs) l in
     cc (rect-back q (rectsBytes qs ++ l) (b .0), rects-at (length qs) (rectBytes q ++ (rectsBytes qs ++ l)) 8, rects-back qs l (b .1))
 
 words-from : (n : ℕ) (r : List ℕ) (i j : ℕ) → wordsAt n r (i + j) ≡ wordsAt n (drop i r) j
@@ -176,9 +175,7 @@ words-at n r i = ap (wordsAt n r) (sym (add-zero i)) ∙ words-from n r i 0
 
 pub words-back : (ws : List ℕ) (l : List ℕ) → Words ws → wordsAt (length ws) (wordsBytes ws ++ l) 0 ≡ ws
 words-back [] l b = refl
-words-back (w ∷ ws) l b =
-    let a = append-assoc (fourBytes w) (wordsBytes ws) l in
-    cc (four-back w (b .0), words-at (length ws) (fourBytes w ++ (wordsBytes ws ++ l)) 4, words-back ws l (b .1))
+words-back (w ∷ ws) l b = cc (four-back w (b .0), words-at (length ws) (fourBytes w ++ (wordsBytes ws ++ l)) 4, words-back ws l (b .1))
 
 -- ---- how long
 

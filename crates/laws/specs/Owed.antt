@@ -70,7 +70,6 @@ unfolding joined joinOwed
 join-turn w band lo zero a m r p h e f g k = absurd (omega arith)
 join-turn w band lo (suc n) a m r {q} {c} {j} {r′} p h e f g k =
     let z : suc n - 1 ≡ n = omega arith in
-    let i : j ≡ join (rectAt r a) (cut w lo (lo + band) m) = cc in
     cc (
       rects-past n a j r (omega arith),
       window-extend a 8 (rectBytes j) (rectsBytes (joinOwed w band (lo + band) m (rectsAt n r (a + 8)))) r refl (omega arith),

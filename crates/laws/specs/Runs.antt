@@ -232,7 +232,6 @@ pub many-bytes : (st h left right y : ℕ) (d : DrawMode) (s s₁ s₂ e : List 
     → e ≡ masked s₂ (st * y + right / 8) b d
     → e ≡ draw st (pixelRun left y (suc (right - left)) d) s
 many-bytes st h left right y d s s₁ s₂ e {a} {b} r hs o p q k w₁ w₂ w₃ =
-    let l : left / 8 < right / 8 = omega arith in
     let n = 8 * (left / 8) + 8 - left in
     let m = right / 8 - (left / 8 + 1) in
     let v = suc (right - 8 * (right / 8)) in
