@@ -72,8 +72,7 @@ length-restOwed (r ∷ rs) = if-cases (λ (l : List Rect). length l ≡ suc (len
 pub restOwed-fits : (w b lo : ℕ) (rs : List Rect) → BandsFit w b lo rs → BandsFit w b lo (restOwed rs)
 unfolding restOwed
 restOwed-fits w b lo [] f = tt
-restOwed-fits w b lo (r ∷ rs) f =
-    if-cases (BandsFit w b lo) (isEmpty r) (λ e. (f .0, restOwed-fits w b (lo + b) rs (f .1))) (λ e. (inl refl, f .1))
+restOwed-fits w b lo (r ∷ rs) f = if-cases (BandsFit w b lo) (isEmpty r) (λ e. (f .0, restOwed-fits w b (lo + b) rs (f .1))) (λ e. (inl refl, f .1))
 
 -- what is taken: nothing, or a rectangle of the screen no higher than a band
 pub firstOwed-fits : (w b lo hi : ℕ) (rs : List Rect) → BandsFit w b lo rs → lo + length rs * b ≤ hi
@@ -89,16 +88,14 @@ firstOwed-fits w b lo hi (r ∷ rs) f l =
 pub owedLines-split : (w b lo : ℕ) (rs : List Rect) → BandsFit w b lo rs → linesOf (firstOwed rs) + owedLines (restOwed rs) ≡ owedLines rs
 unfolding owedLines firstOwed restOwed
 owedLines-split w b lo [] f = refl
-owedLines-split w b lo (r ∷ rs) f =
-    by-test (isEmpty r) (λ e. rw e (omega (arith, owedLines-split w b (lo + b) rs (f .1)))) (λ e. rw e (omega arith))
+owedLines-split w b lo (r ∷ rs) f = by-test (isEmpty r) (λ e. rw e (omega (arith, owedLines-split w b (lo + b) rs (f .1)))) (λ e. rw e (omega arith))
 
 -- and no pixel is lost
 pub in-split : (rs : List Rect) (x y : ℕ) → InAny rs x y → In (firstOwed rs) x y ⊎ InAny (restOwed rs) x y
 unfolding firstOwed restOwed
 in-split [] x y i = absurd i
 in-split (r ∷ rs) x y (inl i) = rw (in-not-none r x y i) (inl i)
-in-split (r ∷ rs) x y (inr i) =
-    by-test (isEmpty r) (λ e. rw e (either (in-split rs x y i) inl (λ k. inr (inr k)))) (λ e. rw e (inr (inr i)))
+in-split (r ∷ rs) x y (inr i) = by-test (isEmpty r) (λ e. rw e (either (in-split rs x y i) inl (λ k. inr (inr k)))) (λ e. rw e (inr (inr i)))
 
 -- nothing is taken only where nothing is owed
 pub first-none : (w b lo : ℕ) (rs : List Rect) → BandsFit w b lo rs → isEmpty (firstOwed rs) ≡ true → owedLines rs ≡ 0

@@ -225,6 +225,4 @@ module _ (st h : ℕ) (source : List ℕ) (x y : ℤ) (w n : ℕ) (m : PaintMode
 
     pub bitmap-below : {k : Marks} → across .from < across .to → down .to ≤ down .from → k ≡ both none → drawn k s ≡ drawnOn st h (bitmap st h source x y w n m) s
     unfolding paintedLines seen draw
-    bitmap-below {k} a b f =
-        same-bitmap s k (f ∙ ap both (sym (rect-below across down a b)))
-        (let e : down .to - down .from ≡ zero = omega arith in rw e)
+    bitmap-below {k} a b f = same-bitmap s k (f ∙ ap both (sym (rect-below across down a b))) (let e : down .to - down .from ≡ zero = omega arith in rw e)

@@ -137,11 +137,9 @@ module _ (st h x y rx ry : ℕ) (fill : Bool) (d : DrawMode) (s e : List ℕ) (m
   pub ellipse-filled : {t u : Bool} {k : DrawMode} {q : Rect} → fill ≡ true → m ≡ bothLowered st h q → q ≡ ellipseMark st h x y rx ry
       → radiiFit rx ry fill d ≡ true → t ≡ isPoint rx ry → t ≡ false → u ≡ isNothing fill d → u ≡ false
       → k ≡ solid d → e ≡ painted st h x y fill k (parts rx ry) s → drawn m e ≡ drawnOn st h (ellipse st h x y rx ry fill d) s
-  ellipse-filled g b a f p q n o same w =
-      ellipse-marked f p q n o ((λ i. b i .dirty) ∙ a) (rw g ((λ i. b i .owed) ∙ ap (lowered (8 * st) h) a)) _ same w
+  ellipse-filled g b a f p q n o same w = ellipse-marked f p q n o ((λ i. b i .dirty) ∙ a) (rw g ((λ i. b i .owed) ∙ ap (lowered (8 * st) h) a)) _ same w
 
   pub ellipse-outlined : {t u : Bool} {k : DrawMode} {q : Rect} → fill ≡ false → m ≡ both q → q ≡ ellipseMark st h x y rx ry
       → radiiFit rx ry fill d ≡ true → t ≡ isPoint rx ry → t ≡ false → u ≡ isNothing fill d → u ≡ false
       → k ≡ solid d → e ≡ painted st h x y fill k (parts rx ry) s → drawn m e ≡ drawnOn st h (ellipse st h x y rx ry fill d) s
-  ellipse-outlined g b a f p q n o same w =
-      ellipse-marked f p q n o ((λ i. b i .dirty) ∙ a) (rw g ((λ i. b i .owed) ∙ a)) _ same w
+  ellipse-outlined g b a f p q n o same w = ellipse-marked f p q n o ((λ i. b i .dirty) ∙ a) (rw g ((λ i. b i .owed) ∙ a)) _ same w

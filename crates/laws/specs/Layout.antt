@@ -49,8 +49,7 @@ pub four-from : (r : List ℕ) (i : ℕ) → four r i ≡ four (drop i r) 0
 four-from r i = cc (add-zero i, two-from r i 0, two-from r i 2)
 
 pub rect-from : (r : List ℕ) (i : ℕ) → rectAt r i ≡ rectAt (drop i r) 0
-rect-from r i =
-    rect-equal (ap (two r) (sym (add-zero i)) ∙ two-from r i 0) (two-from r i 2) (two-from r i 4) (two-from r i 6)
+rect-from r i = rect-equal (ap (two r) (sym (add-zero i)) ∙ two-from r i 0) (two-from r i 2) (two-from r i 4) (two-from r i 6)
 
 -- ---- read, then written: the bytes again
 

@@ -119,8 +119,7 @@ vertical-below st h x top bottom d s a b = rw (column-below st h x top (suc (bot
 pub vertical-seen : (st h x top bottom n : ℕ) (d : DrawMode) → x < 8 * st → top < h → top ≤ bottom → n ≡ min bottom (h - 1) - top + 1
     → seen st h (vertical x top bottom d) ≡ pixelColumn x top n d
 unfolding vertical
-vertical-seen st h x top bottom n d a b o e =
-    column-cut st h x top (suc (bottom - top)) n d a (omega arith) (omega arith) (λ k. omega arith)
+vertical-seen st h x top bottom n d a b o e = column-cut st h x top (suc (bottom - top)) n d a (omega arith) (omega arith) (λ k. omega arith)
 
 -- ---- as the code draws them
 

@@ -117,10 +117,4 @@ module _ (rows columns : ℕ) where
     print-sheet bs p s =
         let q = printBytes rows columns v bs p in
         let k = bytes-sheet bs p s in
-        record {
-          wide = k .wide;
-          text = length-clear (cellOf columns q) (q .text) ∙ k .text;
-          flags = k .flags;
-          row = k .row;
-          room = k .room;
-        }
+        record { wide = k .wide; text = length-clear (cellOf columns q) (q .text) ∙ k .text; flags = k .flags; row = k .row; room = k .room }

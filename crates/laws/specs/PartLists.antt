@@ -53,8 +53,7 @@ other p q ps n h =
 pub written-same : (f f′ : RecordPart → List ℕ) (ps : List RecordPart) → ((p : RecordPart) → has p ps ≡ true → f p ≡ f′ p) → written f ps ≡ written f′ ps
 unfolding written has
 written-same f f′ [] e = refl
-written-same f f′ (p ∷ ps) e =
-    λ i. e p (or-left (has p ps) (same-self p)) i ++ written-same f f′ ps (λ q h. e q (or-right (samePart q p) h)) i
+written-same f f′ (p ∷ ps) e = λ i. e p (or-left (has p ps) (same-self p)) i ++ written-same f f′ ps (λ q h. e q (or-right (samePart q p) h)) i
 
 pub all-at : (t : RecordPart → Bool) (ps : List RecordPart) (p : RecordPart) → all t ps ≡ true → has p ps ≡ true → t p ≡ true
 unfolding all has

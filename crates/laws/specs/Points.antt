@@ -101,8 +101,7 @@ lowered-both st h {r} {m} {o} p q = let k : o ≡ lowered (8 * st) h r = q ∙ a
 -- a point's write lies in what it marks
 pub point-within : (st h x y : ℕ) (d : DrawMode) → within (pointRect st h x y) (seen st h (pointWrite x y d ∷ [])) ≡ true
 unfolding within seen pointRect
-point-within st h x y d =
-    by-test (onScreen st h x y) (λ e. rw (e, in-inside (pixelRect x y) x y (omega arith))) (λ e. rw e)
+point-within st h x y d = by-test (onScreen st h x y) (λ e. rw (e, in-inside (pixelRect x y) x y (omega arith))) (λ e. rw e)
 
 pub point-owes : (st h x y : ℕ) (d : DrawMode) → OwesItsMark st h (point st h x y d)
 unfolding point owes

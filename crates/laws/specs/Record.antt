@@ -218,27 +218,13 @@ sized-decode g r l = record {
 }
 
 pub well-sized : (g : Geometry) (s : State) → WellFormed g s → Sized g s
-well-sized g s f = record {
-  owed = all-owed g s (f .count) (λ k h. f .panels k h .bands);
-  keys = f .words;
-  flags = f .flags;
-}
+well-sized g s f = record { owed = all-owed g s (f .count) (λ k h. f .panels k h .bands); keys = f .words; flags = f .flags }
 
 pub fits-short : (w lo hi : ℕ) (q : Rect) → w < 65536 → hi < 65536 → fits w lo hi q ≡ true → Short q
 fits-short w lo hi q hw hh e =
     either (passes-fits w lo hi q e)
-    (λ z. record {
-      left = rw z (omega arith);
-      top = rw z (omega arith);
-      right = rw z (omega arith);
-      bottom = rw z (omega arith);
-    })
-    (λ p. record {
-      left = omega (arith, p);
-      top = omega (arith, p);
-      right = omega (arith, p);
-      bottom = omega (arith, p);
-    })
+    (λ z. record { left = rw z (omega arith); top = rw z (omega arith); right = rw z (omega arith); bottom = rw z (omega arith) })
+    (λ p. record { left = omega (arith, p); top = omega (arith, p); right = omega (arith, p); bottom = omega (arith, p) })
 
 bands-short : (w band lo : ℕ) (qs : List Rect) → w < 65536 → lo + length qs * band < 65536 → bandsFit w band lo qs ≡ true → AllShort qs
 unfolding bandsFit
