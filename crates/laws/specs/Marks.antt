@@ -3,7 +3,7 @@ use mathlib.Core.Path.{_≡_, ap, _∙_}
 use mathlib.Core.Logic.{_≢_, _⊎_, inl, inr}
 use mathlib.Core.Bool.{true, _&&_}
 use mathlib.Core.List.{List, [], _∷_}
-use Prim.Native.Nat.{ℕ, _+_, _-_, _*_, _/_, _%_, _<_}
+use Prim.Native.Nat.{ℕ, _+_, _*_, _/_, _%_, _<_}
 use lib.Arith.{digits-div, digits-mod}
 use lib.ListN.{set}
 use lib.Seq.{getD-set-other}
@@ -11,7 +11,6 @@ use native.Mathlib.Omega.{arith}
 use lib.Dec.{ltb}
 use borrow.Author.Tests.{ltb-true, leb-true, le-leb, lt-ltb}
 use Rattle.model.specs.declared.Rect.{Rect}
-use Rattle.model.specs.Bits.{bitAt}
 use Rattle.model.specs.Pixels.{bit, place, onScreen, PixelWrite, draw, seen}
 use Rattle.model.specs.Rects.{In, inside, insideTests}
 use Rattle.model.specs.Marks.{whole, within, owes}

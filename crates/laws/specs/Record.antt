@@ -5,10 +5,9 @@ use mathlib.Core.Bool.{Bool, true, false}
 use Prim.Native.Nat.{ℕ, zero, suc, _+_, _-_, _*_, _<_, _≤_}
 use native.Mathlib.Omega.{arith}
 use native.Mathlib.Nat.{add-zero, zero-add}
-use lib.Dec.{eqb}
 use lib.ListN.{length, getD, drop, length-append, length-replicate, drop-of-length-le}
 use lib.Seq.{drop-drop, drop-at, getD-set-same, getD-set-other, ext-getD}
-use borrow.Author.Tests.{ne-eqb, eq-eqb}
+use borrow.Author.Tests.{ne-eqb}
 use Rattle.model.specs.declared.Rect.{Rect}
 use Rattle.model.specs.declared.Head.{Head}
 use Rattle.model.specs.Geometry.{Geometry, width, height, rows, columns, cells, screenBytes}
@@ -326,60 +325,41 @@ decode-encode g s k f =
 
 -- ---- a store of one part: the bytes of the state with that part changed, and no other
 
--- t is s but for the part q
-abbrev pub But : Geometry → RecordPart → State → State → Type 0
-But g q s t = (p : RecordPart) → samePart q p ≡ false → partBytes g s p ≡ partBytes g t p
-
-pub put-part : (g : Geometry) (q : RecordPart) (s t : State) → IsGlass g → has q (layout g) ≡ true → Sized g s → length (partBytes g t q) ≡ size g q → But g q s t
-    → withWindow (at g q) (partBytes g t q) (encode g s) ≡ encode g t
-unfolding encode
-put-part g q s t l h z n k = part-stored (size g) (partBytes g s) (partBytes g t) q (layout g) (sizes g s z) n k h (l .apart)
+module _ (g : Geometry) (q : RecordPart) (s t : State) where
+  -- the bytes of the part q of t stored in the bytes of s, where the other parts of the two states are the same
+  pub put-part : IsGlass g → has q (layout g) ≡ true → Sized g s → length (partBytes g t q) ≡ size g q → (samePart q head ≡ false → s .head ≡ t .head)
+      → ((k : ℕ) → samePart q (panel k) ≡ false → panelOf g s k ≡ panelOf g t k) → (samePart q keys ≡ false → s .keys ≡ t .keys)
+      → (samePart q flags ≡ false → s .flags ≡ t .flags) → withWindow (at g q) (partBytes g t q) (encode g s) ≡ encode g t
+  unfolding encode partBytes
+  put-part l h z n a b c d = part-stored (size g) (partBytes g s) (partBytes g t) q (layout g) (sizes g s z) n but h (l .apart)
+    where
+      but : (p : RecordPart) → samePart q p ≡ false → partBytes g s p ≡ partBytes g t p
+      but head e = ap bytesOfHead (a e)
+      but (panel k) e = ap bytesOfPending (b k e)
+      but keys e = ap wordsBytes (c e)
+      but flags e = ap bytesOfFlags (d e)
 
 pub put-head : (g : Geometry) (h : Head) (s : State) → IsGlass g → Sized g s → withWindow 0 (bytesOfHead h) (encode g s) ≡ encode g (withHead h s)
 unfolding partBytes offset
-put-head g h s l z = put-part g head s (withHead h s) l (has-head g) z refl but
-  where
-    but : But g head s (withHead h s)
-    but head e = clash true refl e
-    but (panel k) e = refl
-    but keys e = refl
-    but flags e = refl
+put-head g h s l z = put-part g head s (withHead h s) l (has-head g) z refl (λ e. clash true refl e) (λ k e. refl) (λ e. refl) (λ e. refl)
 
 pub put-keys : (g : Geometry) (ks : List ℕ) (s : State) → IsGlass g → Sized g s → length ks ≡ 8 → withWindow (at g keys) (wordsBytes ks) (encode g s) ≡ encode g (withKeyWords ks s)
 unfolding partBytes
-put-keys g ks s l z n = put-part g keys s (withKeyWords ks s) l (has-keys g) z (length-words ks ∙ ap (λ (k : ℕ). 4 * k) n) but
-  where
-    but : But g keys s (withKeyWords ks s)
-    but head e = refl
-    but (panel k) e = refl
-    but keys e = clash true refl e
-    but flags e = refl
+put-keys g ks s l z n =
+    put-part g keys s (withKeyWords ks s) l (has-keys g) z (length-words ks ∙ ap (λ (k : ℕ). 4 * k) n) (λ e. refl) (λ k e. refl) (λ e. clash true refl e) (λ e. refl)
 
 pub put-flags : (g : Geometry) (fs : List Bool) (s : State) → IsGlass g → Sized g s → length fs ≡ cells g → withWindow (at g flags) (bytesOfFlags fs) (encode g s) ≡ encode g (withFlags fs s)
 unfolding partBytes
-put-flags g fs s l z n = put-part g flags s (withFlags fs s) l (has-flags g) z (length-flags fs ∙ n) but
-  where
-    but : But g flags s (withFlags fs s)
-    but head e = refl
-    but (panel k) e = refl
-    but keys e = refl
-    but flags e = clash true refl e
+put-flags g fs s l z n = put-part g flags s (withFlags fs s) l (has-flags g) z (length-flags fs ∙ n) (λ e. refl) (λ k e. refl) (λ e. refl) (λ e. clash true refl e)
 
 pub put-panel : (g : Geometry) (k : ℕ) (p : Pending) (s : State) → IsGlass g → Sized g s → k < g .panels → length (s .panels) ≡ g .panels → length (p .owed) ≡ g .bands
     → withWindow (at g (panel k)) (bytesOfPending p) (encode g s) ≡ encode g (withPanel k p s)
 unfolding partBytes
 put-panel g k p s l z h c n =
+    let here : panelOf g (withPanel k p s) k ≡ p = getD-set-same (s .panels) k p (nothingPending g) (omega arith) in
     ap (λ (q : Pending). withWindow (at g (panel k)) (bytesOfPending q) (encode g s)) (sym here)
-    ∙ put-part g (panel k) s (withPanel k p s) l (has-panel g k h) z (length-pending g (panelOf g (withPanel k p s) k) (ap (λ (q : Pending). length (q .owed)) here ∙ n)) but
-  where
-    here : panelOf g (withPanel k p s) k ≡ p
-    here = getD-set-same (s .panels) k p (nothingPending g) (omega arith)
-
-    but : But g (panel k) s (withPanel k p s)
-    but head e = refl
-    but (panel i) e = ap bytesOfPending (sym (getD-set-other (s .panels) k i p (nothingPending g) (λ q. absurd (clash (eqb (tag (panel k)) (tag (panel i))) (eq-eqb (tag (panel k)) (tag (panel i)) (omega arith)) e))))
-    but keys e = refl
-    but flags e = refl
+    ∙ put-part g (panel k) s (withPanel k p s) l (has-panel g k h) z (length-pending g (panelOf g (withPanel k p s) k) (rw here n)) (λ e. refl)
+    (λ i e. sym (getD-set-other (s .panels) k i p (nothingPending g) (λ q. omega (arith, tests)))) (λ e. refl) (λ e. refl)
 
 pub sized-panel : (g : Geometry) (k : ℕ) (p : Pending) (s : State) → Sized g s → k < length (s .panels) → length (p .owed) ≡ g .bands → Sized g (withPanel k p s)
 sized-panel g k p s z h n = record {
