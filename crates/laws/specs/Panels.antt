@@ -79,16 +79,14 @@ mark-panel g m s k l z c h b =
     let t = rectBytes (p .hand) ++ fourBytes (p .sent) in
     let rest = drop (a + pendingBytes g) r in
     let here : drop a r ≡ rectsBytes (p .owed) ++ (t ++ rest) = from-panel g s k z h ∙ append-assoc (rectsBytes (p .owed)) t rest in
-    let there : drop (a + 8 * n) r ≡ t ++ rest =
-    sym (drop-drop (8 * n) a r) ∙ ap (drop (8 * n)) here ∙ drop-at (rectsBytes (p .owed)) (t ++ rest) (8 * n) (length-rects (p .owed) ∙ ap (λ (x : ℕ). 8 * x) (z .owed k)) in
-    let owed : rectsAt n r a ≡ p .owed =
-    rects-at n r a ∙ ap (λ (x : List ℕ). rectsAt n x 0) here ∙ ap (λ (x : ℕ). rectsAt x (rectsBytes (p .owed) ++ (t ++ rest)) 0) (sym (z .owed k)) ∙ rects-back (p .owed) (t ++ rest) b in
+    let long : length (rectsBytes (p .owed)) ≡ 8 * n = cc (length-rects (p .owed), z .owed k) in
+    let there : drop (a + 8 * n) r ≡ t ++ rest = cc (drop-drop (8 * n) a r, drop-at (rectsBytes (p .owed)) (t ++ rest) (8 * n) long) in
+    let owed : rectsAt n r a ≡ p .owed = cc (rects-at n r a, z .owed k, rects-back (p .owed) (t ++ rest) b) in
     let new = joinOwed (width g) (g .band) 0 m (p .owed) in
     let count : length new ≡ n = length-joinOwed (width g) (g .band) 0 m (p .owed) ∙ z .owed k in
     let e : a + 8 * n + 12 ≡ a + pendingBytes g = omega arith in
-    ap (λ (x : List Rect). withWindow a (rectsBytes (joinOwed (width g) (g .band) 0 m x)) r) owed
-    ∙ sym (window-tail a (8 * n) 12 (rectsBytes new) t r (length-rects new ∙ ap (λ (x : ℕ). 8 * x) count) refl (ap (λ (x : ℕ). t ++ drop x r) e ∙ sym there))
-    ∙ put-panel g k (owing g m p) s l z h c count
+    let same = window-tail a (8 * n) 12 (rectsBytes new) t r (length-rects new ∙ ap (λ (x : ℕ). 8 * x) count) refl (cc) in
+    cc (put-panel g k (owing g m p) s l z h c count)
 
 -- ---- and to each of them, panel after panel
 
@@ -186,16 +184,7 @@ unfolding markFrom
 mark-goes {v} {m} {r = r} {panels} {k} {a} {r′} z i h n e f =
     let c : panels - k ≡ suc (panels - (k + 1)) = omega arith in
     let g = geometry v in
-    record {
-      counted = i .counted;
-      some = omega arith;
-      sized = n ∙ i .sized;
-      same =
-          ap (λ (x : ℕ). markFrom g m x (panels - (k + 1)) r′) (add-one k)
-          ∙ ap (markFrom g m (suc k) (panels - (k + 1))) (f ∙ (λ x. joined (z .is-width x) (v .band) 0 m (v .bands) (e x) r))
-          ∙ ap (λ (x : ℕ). markFrom g m k x r) (sym c)
-          ∙ i .same;
-    }
+    record { counted = i .counted; some = omega arith; sized = n ∙ i .sized; same = cc (add-one k, z .is-width, i .same) }
 
 pub mark-ends : {v : Glass} {m : Rect} {r₀ r : List ℕ} {panels k : ℕ} → Marking v m r₀ r panels k → panels ≤ k → r ≡ markFrom (geometry v) m 0 (v .panels) r₀
 unfolding markFrom

@@ -96,14 +96,8 @@ window-drop n i k r = ap (take k) (sym (drop-drop i n r))
 put-next : (n i : ℕ) (a b l : List ℕ) → length a ≡ n → withWindow (n + i) b (a ++ l) ≡ a ++ withWindow i b l
 unfolding withWindow
 put-next n i a b l e =
-    ap (λ (m : ℕ). take (m + i) (a ++ l) ++ (b ++ drop (m + i + length b) (a ++ l))) (sym e)
-    ∙ ap (λ (x : List ℕ). x ++ (b ++ drop (length a + i + length b) (a ++ l))) (take-append-add a l i)
-    ∙ ap (λ (m : ℕ). (a ++ take i l) ++ (b ++ drop m (a ++ l))) s
-    ∙ ap (λ (x : List ℕ). (a ++ take i l) ++ (b ++ x)) (drop-append-add a l (i + length b))
-    ∙ append-assoc a (take i l) (b ++ drop (i + length b) l)
-  where
-    s : length a + i + length b ≡ length a + (i + length b)
-    s = omega arith
+    let s : length a + i + length b ≡ length a + (i + length b) = omega arith in
+    cc (take-append-add a l i, drop-append-add a l (i + length b), append-assoc a (take i l) (b ++ drop (i + length b) l))
 
 module _ (n : RecordPart → ℕ) where
   -- the bytes of a part stand at its offset

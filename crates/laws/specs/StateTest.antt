@@ -92,16 +92,7 @@ fit-goes {v} {r} {panels} {ok} {k} {t} i h e =
     let c : panels - k ≡ suc (panels - (k + 1)) = omega arith in
     let n = panels - (k + 1) in
     let g = geometry v in
-    record {
-      counted = i .counted;
-      some = omega arith;
-      same =
-          ap (λ (x : ℕ). (ok && t) && panelsFit g r x n) (add-one k)
-          ∙ and-assoc ok t (panelsFit g r (suc k) n)
-          ∙ ap (λ (x : Bool). ok && (x && panelsFit g r (suc k) n)) e
-          ∙ ap (λ (x : ℕ). ok && panelsFit g r k x) (sym c)
-          ∙ i .same;
-    }
+    record { counted = i .counted; some = omega arith; same = cc (add-one k, and-assoc ok t (panelsFit g r (suc k) n), i .same) }
 
 pub fit-ends : {v : Glass} {r : List ℕ} {panels : ℕ} {ok : Bool} {k : ℕ} → Fitting v r panels ok k → panels ≤ k → ok ≡ panelsFit (geometry v) r 0 (v .panels)
 unfolding panelsFit
