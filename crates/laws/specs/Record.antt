@@ -263,17 +263,8 @@ head-tells g h e =
 
 pub head-equal : {a b : Head} → a .graphics ≡ b .graphics → a .text ≡ b .text → a .row ≡ b .row → a .column ≡ b .column
     → a .screen ≡ b .screen → a .print ≡ b .print → a .cursor ≡ b .cursor → a .version ≡ b .version → a .dirty ≡ b .dirty → a ≡ b
-head-equal e1 e2 e3 e4 e5 e6 e7 e8 e9 = λ i. record {
-  graphics = e1 i;
-  text = e2 i;
-  row = e3 i;
-  column = e4 i;
-  screen = e5 i;
-  print = e6 i;
-  cursor = e7 i;
-  version = e8 i;
-  dirty = e9 i;
-}
+head-equal e1 e2 e3 e4 e5 e6 e7 e8 e9 =
+    λ i. record { graphics = e1 i; text = e2 i; row = e3 i; column = e4 i; screen = e5 i; print = e6 i; cursor = e7 i; version = e8 i; dirty = e9 i }
 
 -- each part back: its fields, written and read again
 
@@ -289,15 +280,14 @@ pending-back g p k f =
     let n = g .bands in
     let rest = rectBytes (p .hand) ++ fourBytes (p .sent) in
     let t = and-true (bandsFit (width g) (g .band) 0 (p .owed)) (fits (width g) 0 (height g) (p .hand)) (f .passes) in
-    let z : 0 + 8 * n ≡ 8 * n = zero-add (8 * n) in
-    let here : drop (0 + 8 * n) (bytesOfPending p) ≡ rest =
-    ap (λ (i : ℕ). drop i (bytesOfPending p)) z ∙ drop-at (rectsBytes (p .owed)) rest (8 * n) (length-rects (p .owed) ∙ ap (λ (i : ℕ). 8 * i) (f .bands)) in
+    let long : length (rectsBytes (p .owed)) ≡ 8 * n = cc (length-rects (p .owed), f .bands) in
+    let here : drop (0 + 8 * n) (bytesOfPending p) ≡ rest = cc (zero-add (8 * n), drop-at (rectsBytes (p .owed)) rest (8 * n) long) in
     let there : drop (0 + 8 * n + 8) (bytesOfPending p) ≡ fourBytes (p .sent) = sym (drop-drop 8 (0 + 8 * n) (bytesOfPending p)) ∙ ap (drop 8) here in
+    let owed = rects-back (p .owed) rest (bands-short (width g) (g .band) 0 (p .owed) (omega (arith, k)) (rw (f .bands) (omega (arith, k))) (t .0)) in
+    let hand = rect-back (p .hand) (fourBytes (p .sent)) (fits-short (width g) 0 (height g) (p .hand) (omega (arith, k)) (omega (arith, k)) (t .1)) in
     λ i. record {
-      owed = (ap (λ (j : ℕ). rectsAt j (bytesOfPending p) 0) (sym (f .bands))
-          ∙ rects-back (p .owed) rest (bands-short (width g) (g .band) 0 (p .owed) (omega (arith, k)) (rw (f .bands) (omega (arith, k))) (t .0))) i;
-      hand = (rect-from (bytesOfPending p) (0 + 8 * n) ∙ ap (λ (l : List ℕ). rectAt l 0) here
-          ∙ rect-back (p .hand) (fourBytes (p .sent)) (fits-short (width g) 0 (height g) (p .hand) (omega (arith, k)) (omega (arith, k)) (t .1))) i;
+      owed = (ap (λ (j : ℕ). rectsAt j (bytesOfPending p) 0) (sym (f .bands)) ∙ owed) i;
+      hand = (rect-from (bytesOfPending p) (0 + 8 * n) ∙ ap (λ (l : List ℕ). rectAt l 0) here ∙ hand) i;
       sent = (four-from (bytesOfPending p) (0 + 8 * n + 8) ∙ ap (λ (l : List ℕ). four l 0) there ∙ four-back (p .sent) (f .counted)) i;
     }
 
