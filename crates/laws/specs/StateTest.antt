@@ -52,9 +52,8 @@ valid-is g r {a} {b} {c} l fa fb fc =
     let n = g .panels - 1 in
     let some : g .panels ≡ suc n = omega (arith, l .one) in
     let first = pendingFits g (pendingOf g r (at g (panel 0))) in
-    let two : b ≡ (first && panelsFit g r 1 n) = fb ∙ ap (panelsFit g r 0) some in
-    ap (λ (x : Bool). (a && x) && c) two ∙ flags-first a first c (panelsFit g r 1 n)
-    ∙ (λ i. (fa ∙ ap (headFits g) (sym (head-part g r))) i && (pendingFits g (sym (pending-part g r 0) i) && (fc i && panels-all g r 1 n i)))
+    let two : b ≡ (first && panelsFit g r 1 n) = cc in
+    cc (flags-first a first c (panelsFit g r 1 n), head-part g r, pending-part g r 0, panels-all g r 1 n)
 
 -- ---- as the code goes, with the glass by value
 
