@@ -3,7 +3,7 @@ use mathlib.Core.Path.{_≡_, refl, sym, ap, ap₂, subst⁻¹, _∙_}
 use mathlib.Core.Bool.{Bool, true, false, not, xor, cond, _&&_, Bool·beq}
 use mathlib.Core.List.{List, [], _∷_, _++_}
 use Prim.Native.Nat.{ℕ, zero, suc, _+_, _-_, _*_, _/_, _≤_, _<_}
-use native.Mathlib.Nat.{mul-le-mul-left}
+use native.Mathlib.Nat.{add-zero, zero-add, suc-add, add-suc, mul-le-mul-left}
 use native.Mathlib.Omega.{arith}
 use lib.Bits.{bitAnd, bitXor, and-lt, xor-lt}
 use lib.ListN.{length, getD, set}
@@ -147,14 +147,8 @@ pair-below st h x₁ x₂ y d s o = pair-drawn st h x₁ x₂ y d s s s (below x
 -- two runs that meet are one
 pub run-append : (x y n m : ℕ) (d : DrawMode) → pixelRun x y (n + m) d ≡ pixelRun x y n d ++ pixelRun (x + n) y m d
 unfolding pixelRun
-run-append x y zero m d =
-    let e : zero + m ≡ m = omega arith in
-    let f : x + zero ≡ x = omega arith in
-    rw (e, f)
-run-append x y (suc n) m d =
-    let e : suc n + m ≡ suc (n + m) = omega arith in
-    let f : x + suc n ≡ suc x + n = omega arith in
-    rw (e, f) (ap (λ (l : List PixelWrite). record { x = x; y = y; op = runOp d } ∷ l) (run-append (suc x) y n m d))
+run-append x y zero m d = rw (zero-add m, add-zero x)
+run-append x y (suc n) m d = cc (suc-add n m, add-suc x n, suc-add x n, run-append (suc x) y n m d)
 
 pub draw-run-append : (st x y z n m : ℕ) (d : DrawMode) (s : List ℕ) → x + n ≡ z → draw st (pixelRun z y m d) (draw st (pixelRun x y n d) s) ≡ draw st (pixelRun x y (n + m) d) s
 draw-run-append st x y z n m d s e =
@@ -184,14 +178,8 @@ bytes-end k to d s t h q = let l : to - k ≡ zero = omega arith in rw l at q
 
 pub bytes-append : (i n m : ℕ) (d : DrawMode) (s : List ℕ) → maskedBytes s i (n + m) d ≡ maskedBytes (maskedBytes s i n d) (i + n) m d
 unfolding maskedBytes
-bytes-append i zero m d s =
-    let e : zero + m ≡ m = omega arith in
-    let f : i + zero ≡ i = omega arith in
-    rw (e, f)
-bytes-append i (suc n) m d s =
-    let e : suc n + m ≡ suc (n + m) = omega arith in
-    let f : i + suc n ≡ suc i + n = omega arith in
-    rw (e, f) (bytes-append (suc i) n m d (masked s i 255 d))
+bytes-append i zero m d s = rw (zero-add m, add-zero i)
+bytes-append i (suc n) m d s = cc (suc-add n m, add-suc i n, suc-add i n, bytes-append (suc i) n m d (masked s i 255 d))
 
 bytes-masked : (s : List ℕ) (i m : ℕ) (d : DrawMode) → Bytes s → m < 256 → Bytes (masked s i m d)
 unfolding masked Bytes

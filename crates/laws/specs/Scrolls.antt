@@ -33,10 +33,8 @@ unfolding scrolled zeros
 scroll-end n i d l h k e =
     let s = drop n d in
     let m : length s ≡ i = simp length-drop (omega arith) in
-    ap (withWindow i (zeros n)) (e ∙ ap (λ (x : List ℕ). x ++ drop i d) (take-all i s (omega arith)))
-    ∙ append-window s (zeros n) (drop i d) i m
-    ∙ ap (λ (x : List ℕ). s ++ (zeros n ++ x)) (drop-of-length-le (drop i d) {i = length (zeros n)} (rw (length-zeros n) (simp length-drop (omega arith))))
-    ∙ ap (λ (x : List ℕ). s ++ x) (append-nil (zeros n))
+    let gone = drop-of-length-le (drop i d) {i = length (zeros n)} (rw (length-zeros n) (simp length-drop (omega arith))) in
+    cc (take-all i s (omega arith), append-window s (zeros n) (drop i d) i m, append-nil (zeros n))
 
 pub length-scrolled : {A : Type 0} (n : ℕ) (a : A) (l : List A) → n ≤ length l → length (scrolled n a l) ≡ length l
 unfolding scrolled
@@ -55,11 +53,9 @@ unfolding scrolledTimes scrolled
 times-once zero k s h = rw zero-mul (sym (append-nil s))
 times-once (suc n) k s h =
     let e : k + n * k ≡ suc n * k = omega arith in
-    times-once n k (scrolled k 0 s) (rw (length-scrolled k 0 s (omega arith)) (omega arith))
-    ∙ ap (λ (x : List ℕ). x ++ replicate (n * k) 0) (drop-append-le (n * k) (drop k s) (replicate k 0) (simp length-drop (omega arith)) ∙ ap (λ (x : List ℕ). x ++ replicate k 0) (drop-drop (n * k) k s))
-    ∙ append-assoc (drop (k + n * k) s) (replicate k 0) (replicate (n * k) 0)
-    ∙ ap (λ (x : List ℕ). drop (k + n * k) s ++ x) (replicate-append-replicate k (n * k) 0)
-    ∙ ap (λ (x : ℕ). drop x s ++ replicate x 0) e
+    let rest = times-once n k (scrolled k 0 s) (rw (length-scrolled k 0 s (omega arith)) (omega arith)) in
+    let past = drop-append-le (n * k) (drop k s) (replicate k 0) (simp length-drop (omega arith)) in
+    cc (drop-drop (n * k) k s, append-assoc (drop (k + n * k) s) (replicate k 0) (replicate (n * k) 0), replicate-append-replicate {A = ℕ} k (n * k) 0)
 
 drop-zeros : (k m : ℕ) → drop k (zeros m) ≡ zeros (m - k)
 unfolding zeros
@@ -97,9 +93,4 @@ times-most n m k s h p =
     (λ l. let e : n ≡ m + (n - m) = omega arith in
     let f : m ≡ min n m = omega arith in
     let g : k ≤ m * k = rw (mul-comm m k) (le-mul-of-pos-right k p) in
-    ap (λ (x : ℕ). scrolledTimes x k s) e
-    ∙ times-add m (n - m) k s
-    ∙ ap (scrolledTimes (n - m) k) (times-once m k s (rw h (omega arith)) ∙ all-gone (m * k) s h)
-    ∙ blank-times (n - m) k (m * k) g
-    ∙ sym (all-gone (m * k) s h)
-    ∙ ap (λ (x : ℕ). scrolled (x * k) 0 s) f)
+    cc (times-add m (n - m) k s, times-once m k s (rw h (omega arith)), all-gone (m * k) s h, blank-times (n - m) k (m * k) g))
