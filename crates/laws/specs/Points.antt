@@ -22,7 +22,7 @@ use Rattle.model.specs.Marks.{drawn, drawnOn, within, owes}
 use Rattle.model.specs.Points.{pointOp, pixelRect, pointWrite, pointRect, point, isSet}
 use Rattle.laws.specs.Tests.{if-cases, by-test, by-lt, and-true}
 use Rattle.laws.specs.Pixels.{place-lt}
-use Rattle.laws.specs.Tables.{allBelow, every-at, or-is, and-is, flip-is, see-is}
+use Rattle.laws.specs.Tables.{every-at, or-is, and-is, flip-is, see-is}
 use Rattle.laws.specs.Rects.{fits-passes}
 use Rattle.laws.specs.Marks.{in-inside}
 use Rattle.laws.specs.Writes.{OwesItsMark}
@@ -68,14 +68,8 @@ seen-bit st x y s {m} h p = cc (see-is (getD s (place st x y) 0) (x % 8) (h (pla
 abbrev pub masks : List ℕ
 masks = 128 ∷ 64 ∷ 32 ∷ 16 ∷ 8 ∷ 4 ∷ 2 ∷ 1 ∷ []
 
-abbrev mask-rule : ℕ → Bool
-mask-rule k = eqb (getD masks k 0) (128 / 2 ^ k)
-
-mask-all : allBelow 8 mask-rule ≡ true
-mask-all = refl
-
 pub mask-at : (x : ℕ) → getD masks (x % 8) 0 ≡ maskOf x
-mask-at x = eqb-true _ _ (every-at 8 mask-rule mask-all (x % 8) (omega arith))
+mask-at x = eqb-true _ _ (every-at 8 (λ k. eqb (getD masks k 0) (128 / 2 ^ k)) refl (x % 8) (omega arith))
 
 pub on-true : (st h x y : ℕ) → onScreen st h x y ≡ true → (x < 8 * st) × (y < h)
 unfolding onScreen

@@ -15,7 +15,7 @@ use Rattle.model.specs.Bytes.{Bytes}
 use Rattle.model.specs.Points.{pointOp, pointWrite}
 use Rattle.model.specs.Lines.{isUnknown, runOp, pixelRun}
 use Rattle.laws.specs.Tests.{clash, by-lt}
-use Rattle.laws.specs.Tables.{allBelow, every-at}
+use Rattle.laws.specs.Tables.{every-at}
 use Rattle.laws.specs.Bytes.{Masked, same-bool, bitAt-and, bitAt-xor, bitAt-not, bytes-set}
 use Rattle.laws.specs.Masks.{Mask, startMask, endMask, start-mask, end-mask, both-masks, whole-mask, point-mask, run-equal, run-masked, run-draw}
 use Rattle.laws.specs.Writes.{draw-append, drawn-append, screen-draw}
@@ -46,13 +46,10 @@ allOrNone false = 0
 unfoldable pub maskByte : DrawMode → ℕ → ℕ → ℕ
 maskByte d b m = bitXor (bitAnd b (255 - bitAnd m (allOrNone (clears d)))) (bitAnd m (allOrNone (flips d)))
 
-alike : (t : Bool) → allBelow 8 (λ k. Bool·beq (bitAt (allOrNone t) k) t) ≡ true
-unfolding bitAt
-alike true = refl
-alike false = refl
-
 alike-bit : (t : Bool) (k : ℕ) → k < 8 → bitAt (allOrNone t) k ≡ t
-alike-bit t k h = same-bool _ _ (every-at 8 (λ k. Bool·beq (bitAt (allOrNone t) k) t) (alike t) k h)
+unfolding bitAt
+alike-bit true k h = every-at 8 (bitAt 255) refl k h
+alike-bit false k h = same-bool _ _ (every-at 8 (λ k. Bool·beq (bitAt 0 k) false) refl k h)
 
 alike-small : (t : Bool) → allOrNone t < 256
 alike-small true = omega arith
