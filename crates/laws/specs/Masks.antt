@@ -16,8 +16,8 @@ use Rattle.model.specs.Bits.{bitAt}
 use Rattle.model.specs.Pixels.{place, bit, put, PixelWrite, writePixel, draw, copyRun}
 use Rattle.model.specs.Bytes.{Bytes}
 use Rattle.laws.specs.Tests.{by-lt, by-eq}
-use Rattle.laws.specs.Tables.{every-at, every₂-at}
-use Rattle.laws.specs.Bytes.{same-bool, bitAt-and, Masked, bytes-set, bytes-put, screens-equal}
+use Rattle.laws.specs.Tables.{same-bool, every-at, every₂-at}
+use Rattle.laws.specs.Bytes.{bitAt-and, Masked, bytes-set, bytes-put, screens-equal}
 use Rattle.laws.specs.Pixels.{place-line, length-put, put-same, put-other}
 
 -- ---- the masks

@@ -15,8 +15,8 @@ use Rattle.model.specs.Bytes.{Bytes}
 use Rattle.model.specs.Points.{pointOp, pointWrite}
 use Rattle.model.specs.Lines.{isUnknown, runOp, pixelRun}
 use Rattle.laws.specs.Tests.{clash, by-lt}
-use Rattle.laws.specs.Tables.{every-at}
-use Rattle.laws.specs.Bytes.{Masked, same-bool, bitAt-and, bitAt-xor, bitAt-not, bytes-set}
+use Rattle.laws.specs.Tables.{same-bool, every-at}
+use Rattle.laws.specs.Bytes.{Masked, bitAt-and, bitAt-xor, bitAt-not, bytes-set}
 use Rattle.laws.specs.Masks.{Mask, startMask, endMask, start-mask, end-mask, both-masks, whole-mask, point-mask, run-equal, run-masked, run-draw}
 use Rattle.laws.specs.Writes.{draw-append, drawn-append, screen-draw}
 use Rattle.laws.specs.Points.{maskOf, seen-one, seen-none}
