@@ -32,10 +32,8 @@ band-in lo band (suc n) h p l = omega arith
 pub drop-window : (a n : ℕ) (s r : List ℕ) → length s ≡ n → a ≤ length r → drop (a + n) (withWindow a s r) ≡ drop (a + n) r
 unfolding withWindow
 drop-window a n s r e h =
-    sym (drop-drop n a (take a r ++ (s ++ drop (a + length s) r)))
-    ∙ ap (drop n) (drop-at (take a r) (s ++ drop (a + length s) r) a (length-take-le a r h))
-    ∙ drop-at s (drop (a + length s) r) n e
-    ∙ ap (λ (k : ℕ). drop (a + k) r) e
+    let past = drop-at (take a r) (s ++ drop (a + length s) r) a (length-take-le a r h) in
+    cc (drop-drop n a (take a r ++ (s ++ drop (a + length s) r)), drop-at s (drop (a + length s) r) n e)
 
 pub window-nothing : (a : ℕ) (r : List ℕ) → withWindow a [] r ≡ r
 unfolding withWindow

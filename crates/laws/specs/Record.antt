@@ -112,9 +112,7 @@ unfolding Bytes
 head-again c b l = exact 18 (bytesOfHead (headOf c)) c (ap (λ (x : List ℕ). x ++ drop 18 c) (head-elements c b) ∙ elements-drop 18 0 c (omega arith)) l
 
 words-whole : (n : ℕ) (c : List ℕ) → Bytes c → length c ≡ 4 * n → wordsBytes (wordsAt n c 0) ≡ c
-words-whole n c b l =
-    exact (4 * n) (wordsBytes (wordsAt n c 0)) c
-    (ap (λ (k : ℕ). wordsBytes (wordsAt n c 0) ++ drop k c) (sym (zero-add (4 * n))) ∙ words-again n c 0 b (omega arith)) l
+words-whole n c b l = exact (4 * n) (wordsBytes (wordsAt n c 0)) c (cc (zero-add (4 * n), words-again n c 0 b (omega arith))) l
 
 pub pending-again : (g : Geometry) (r : List ℕ) (i : ℕ) → Bytes r → i + pendingBytes g ≤ length r
     → bytesOfPending (pendingOf g r i) ++ drop (i + pendingBytes g) r ≡ drop i r
@@ -125,9 +123,7 @@ pending-again g r i b h =
     cc (append-assoc _ _ _, four-again r (j + 8) b (omega arith), rect-again r j b (omega arith), rects-again n r i b (omega arith))
 
 pub pending-whole : (g : Geometry) (c : List ℕ) → Bytes c → length c ≡ pendingBytes g → bytesOfPending (pendingOf g c 0) ≡ c
-pending-whole g c b l =
-    exact (pendingBytes g) (bytesOfPending (pendingOf g c 0)) c
-    (ap (λ (k : ℕ). bytesOfPending (pendingOf g c 0) ++ drop k c) (sym (zero-add (pendingBytes g))) ∙ pending-again g c 0 b (omega arith)) l
+pending-whole g c b l = exact (pendingBytes g) (bytesOfPending (pendingOf g c 0)) c (cc (zero-add (pendingBytes g), pending-again g c 0 b (omega arith))) l
 
 pub getD-listing : {A : Type 0} (f : ℕ → A) (k n i : ℕ) (d : A) → i < n → getD (listing f k n) i d ≡ f (k + i)
 unfolding listing

@@ -191,11 +191,8 @@ bytes-run st h y k (suc n) d s r hs hy hk =
     let e : masked s (st * y + k) 255 d ≡ draw st (pixelRun (8 * k) y 8 d) s = mask-run st h y k (8 * k) (8 * (k + 1)) 255 8 d s r hs hy (omega arith) (whole-mask k) (omega arith) in
     let i : suc (st * y + k) ≡ st * y + suc k = omega arith in
     let l : 8 + 8 * n ≡ 8 * suc n = omega arith in
-    ap (λ (j : ℕ). maskedBytes (masked s (st * y + k) 255 d) j n d) i
-    ∙ bytes-run st h y (suc k) n d (masked s (st * y + k) 255 d) (screen-draw st h (pixelRun (8 * k) y 8 d) r e) (bytes-masked s (st * y + k) 255 d hs (omega arith)) hy (omega arith)
-    ∙ ap (draw st (pixelRun (8 * suc k) y (8 * n) d)) e
-    ∙ draw-run-append st (8 * k) y (8 * suc k) 8 (8 * n) d s (omega arith)
-    ∙ ap (λ (z : ℕ). draw st (pixelRun (8 * k) y z d) s) l
+    let rest = bytes-run st h y (suc k) n d (masked s (st * y + k) 255 d) (screen-draw st h (pixelRun (8 * k) y 8 d) r e) (bytes-masked s (st * y + k) 255 d hs (omega arith)) hy (omega arith) in
+    cc (draw-run-append st (8 * k) y (8 * suc k) 8 (8 * n) d s (omega arith))
 
 pub bytes-kept : (i n : ℕ) (d : DrawMode) (s : List ℕ) → Bytes s → Bytes (maskedBytes s i n d)
 unfolding maskedBytes
