@@ -88,5 +88,7 @@ unfolding differing
 differing-bytes g s p hs hp =
     let st : ℕ = g .stride in
     let f : ℕ → ℕ = λ i. byteDiffers (getD s i 0) (getD p i 0) in
-    let turned : (y : ℕ) → y < height g → sum st (λ q. f (st * y + q)) ≡ sum st (λ q. f (y * st + q)) = λ y hy. sum-ext st _ _ (λ q hq. ap (λ (n : ℕ). f (n + q)) (mul-comm st y)) in
-    sum-ext (height g) _ _ (λ y hy. line st y s p ∙ turned y hy) ∙ sym (sum-mul (height g) st f) ∙ ap (λ (n : ℕ). sum n f) (mul-comm (height g) st ∙ sym hs) ∙ sym (walk-sum s p (hs ∙ sym hp))
+    let turned : (y : ℕ) → y < height g → sum st (λ q. f (st * y + q)) ≡ sum st (λ q. f (y * st + q)) =
+    λ y hy. sum-ext st _ _ (λ q hq. ap (λ (n : ℕ). f (n + q)) (mul-comm st y)) in
+    sum-ext (height g) _ _ (λ y hy. line st y s p ∙ turned y hy) ∙ sym (sum-mul (height g) st f)
+    ∙ ap (λ (n : ℕ). sum n f) (mul-comm (height g) st ∙ sym hs) ∙ sym (walk-sum s p (hs ∙ sym hp))

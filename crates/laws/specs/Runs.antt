@@ -228,7 +228,5 @@ many-bytes st h left right y d s s₁ s₂ e {a} {b} r hs o p q k w₁ w₂ w₃
     cc (bytes-run st h y (left / 8 + 1) m d s₁ (screen-draw st h (pixelRun left y n d) r g₁) hs₁ (o .2) (omega arith), draw-run-append st left y (8 * (left / 8 + 1)) n (8 * m) d s (omega arith)) in
     let hs₂ : Bytes s₂ = subst⁻¹ Bytes f₂ (bytes-kept (st * y + (left / 8 + 1)) m d s₁ hs₁) in
     let t : (n + 8 * m) + v ≡ suc (right - left) = omega arith in
-    cc (
-      mask-run st h y (right / 8) (8 * (right / 8)) (right + 1) _ v d s₂ (screen-draw st h (pixelRun left y (n + 8 * m) d) r g₂) hs₂ (o .2) (omega arith) (end-mask right) (omega arith),
-      draw-run-append st left y (8 * (right / 8)) (n + 8 * m) v d s (omega arith),
-    )
+    let last = mask-run st h y (right / 8) (8 * (right / 8)) (right + 1) _ v d s₂ (screen-draw st h (pixelRun left y (n + 8 * m) d) r g₂) hs₂ (o .2) (omega arith) (end-mask right) (omega arith) in
+    cc (draw-run-append st left y (8 * (right / 8)) (n + 8 * m) v d s (omega arith))
