@@ -1,11 +1,11 @@
 -- The laws of a list of rectangles kept by bands: a mark added to it, its first taken from it.
-use mathlib.Core.Path.{_≡_, refl, sym, ap, _∙_}
+use mathlib.Core.Path.{_≡_, refl, ap, _∙_}
 use mathlib.Core.Logic.{_⊎_, inl, inr}
 use mathlib.Core.Bool.{true}
 use mathlib.Core.List.{List, [], _∷_}
 use Prim.Native.Nat.{ℕ, suc, _+_, _-_, _*_, _≤_, _<_, min}
 use native.Mathlib.Omega.{arith}
-use lib.ListN.{length, getD}
+use lib.ListN.{length}
 use Rattle.laws.specs.Tests.{if-cases, clash, by-test, by-lt, either}
 use Rattle.model.specs.declared.Rect.{Rect}
 use borrow.Author.Tests.{le-ltb}
@@ -72,8 +72,7 @@ length-restOwed (r ∷ rs) = if-cases (λ (l : List Rect). length l ≡ suc (len
 pub restOwed-fits : (w b lo : ℕ) (rs : List Rect) → BandsFit w b lo rs → BandsFit w b lo (restOwed rs)
 unfolding restOwed
 restOwed-fits w b lo [] f = tt
-restOwed-fits w b lo (r ∷ rs) f =
-    if-cases (BandsFit w b lo) (isEmpty r) (λ e. (f .0, restOwed-fits w b (lo + b) rs (f .1))) (λ e. (inl refl, f .1))
+restOwed-fits w b lo (r ∷ rs) f = if-cases (BandsFit w b lo) (isEmpty r) (λ e. (f .0, restOwed-fits w b (lo + b) rs (f .1))) (λ e. (inl refl, f .1))
 
 -- what is taken: nothing, or a rectangle of the screen no higher than a band
 pub firstOwed-fits : (w b lo hi : ℕ) (rs : List Rect) → BandsFit w b lo rs → lo + length rs * b ≤ hi
@@ -89,16 +88,14 @@ firstOwed-fits w b lo hi (r ∷ rs) f l =
 pub owedLines-split : (w b lo : ℕ) (rs : List Rect) → BandsFit w b lo rs → linesOf (firstOwed rs) + owedLines (restOwed rs) ≡ owedLines rs
 unfolding owedLines firstOwed restOwed
 owedLines-split w b lo [] f = refl
-owedLines-split w b lo (r ∷ rs) f =
-    by-test (isEmpty r) (λ e. rw e (omega (arith, owedLines-split w b (lo + b) rs (f .1)))) (λ e. rw e (omega arith))
+owedLines-split w b lo (r ∷ rs) f = by-test (isEmpty r) (λ e. rw e (omega (arith, owedLines-split w b (lo + b) rs (f .1)))) (λ e. rw e (omega arith))
 
 -- and no pixel is lost
 pub in-split : (rs : List Rect) (x y : ℕ) → InAny rs x y → In (firstOwed rs) x y ⊎ InAny (restOwed rs) x y
 unfolding firstOwed restOwed
 in-split [] x y i = absurd i
 in-split (r ∷ rs) x y (inl i) = rw (in-not-none r x y i) (inl i)
-in-split (r ∷ rs) x y (inr i) =
-    by-test (isEmpty r) (λ e. rw e (either (in-split rs x y i) inl (λ k. inr (inr k)))) (λ e. rw e (inr (inr i)))
+in-split (r ∷ rs) x y (inr i) = by-test (isEmpty r) (λ e. rw e (either (in-split rs x y i) inl (λ k. inr (inr k)))) (λ e. rw e (inr (inr i)))
 
 -- nothing is taken only where nothing is owed
 pub first-none : (w b lo : ℕ) (rs : List Rect) → BandsFit w b lo rs → isEmpty (firstOwed rs) ≡ true → owedLines rs ≡ 0
@@ -108,17 +105,6 @@ first-none w b lo (r ∷ rs) f t =
     by-test (isEmpty r)
     (λ e. omega (arith, lines-none r (empty-none r e), first-none w b (lo + b) rs (f .1) (rw e at t)))
     (λ e. clash (isEmpty r) (rw e at t) e)
-
--- ---- one band: what is owed moves whole into hand, and leaves nothing
-
-pub one-first : (w lo hi : ℕ) (o : Rect) → Fits w lo hi o → firstOwed (o ∷ []) ≡ o
-unfolding firstOwed
-one-first w lo hi o f = if-cases (λ (r : Rect). r ≡ o) (isEmpty o) (λ e. sym (empty-none o e)) (λ e. refl)
-
-pub one-rest : (w lo hi : ℕ) (o : Rect) → Fits w lo hi o → restOwed (o ∷ []) ≡ none ∷ []
-unfolding restOwed
-one-rest w lo hi o f =
-    if-cases (λ (l : List Rect). l ≡ none ∷ []) (isEmpty o) (λ e. ap (λ (r : Rect). r ∷ []) (empty-none o e)) (λ e. refl)
 
 -- ---- an empty mark adds nothing
 
@@ -130,11 +116,3 @@ pub joinOwed-none : (w b lo : ℕ) (rs : List Rect) → joinOwed w b lo none rs 
 unfolding joinOwed
 joinOwed-none w b lo [] = refl
 joinOwed-none w b lo (r ∷ rs) = λ i. (ap (join r) (cut-none w lo (lo + b)) ∙ join-none r) i ∷ joinOwed-none w b (lo + b) rs i
-
--- ---- one band
-
--- a list of one
-pub one : (l : List Rect) → length l ≡ 1 → l ≡ getD l 0 none ∷ []
-one [] e = absurd (omega arith)
-one (q ∷ []) e = refl
-one (q ∷ r ∷ l) e = absurd (omega arith)

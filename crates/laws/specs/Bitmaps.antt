@@ -56,8 +56,7 @@ paint-write x y m s = λ i. record { x = x; y = y; op = λ v. paint-point m s v 
 
 pub painted-pixel : (st k : ℕ) (source : List ℕ) (m : PaintMode) (i j x y : ℕ) (s e : List ℕ) {b : Bool} {d : DrawMode} → b ≡ bit k source i j → d ≡ paintAs m b
     → e ≡ writePixel st s (pointWrite x y d) → e ≡ writePixel st s (paintedPixel k source m i j x y)
-painted-pixel st k source m i j x y s e p q w =
-    w ∙ ap (λ (z : DrawMode). writePixel st s (pointWrite x y z)) (q ∙ ap (paintAs m) p) ∙ ap (writePixel st s) (paint-write x y m (bit k source i j))
+painted-pixel st k source m i j x y s e p q w = cc (paint-write x y m (bit k source i j))
 
 -- ---- clipping
 
@@ -107,8 +106,7 @@ module _ (k : ℕ) (source : List ℕ) (m : PaintMode) where
       let n : to - x ≡ suc (to - (x + 1)) = omega arith in
       let a : i + 1 ≡ suc i = omega arith in
       let c : x + 1 ≡ suc x = omega arith in
-      (λ z. draw st (paintedLine k source m (a z) j (c z) y (to - (x + 1))) (w z))
-      ∙ sym (ap (λ (l : ℕ). draw st (paintedLine k source m i j x y l) s) n) ∙ g
+      cc
 
   pub line-end : (st i j x y to : ℕ) (s t : List ℕ) → to ≤ x → draw st (paintedLine k source m i j x y (to - x)) s ≡ t → s ≡ t
   unfolding paintedLine draw
@@ -148,9 +146,7 @@ module _ (k : ℕ) (source : List ℕ) (m : PaintMode) where
         let n : to - y ≡ suc (to - (y + 1)) = omega arith in
         let a : j + 1 ≡ suc j = omega arith in
         let c : y + 1 ≡ suc y = omega arith in
-        (λ z. draw st (paintedLines k source m across (a z) (c z) (to - (y + 1))) (w z))
-        ∙ sym (draw-append st (paintedLine k source m (across .skip) j (across .from) y (across .to - across .from)) (paintedLines k source m across (suc j) (suc y) (to - (y + 1))) s)
-        ∙ sym (ap (λ (l : ℕ). draw st (paintedLines k source m across j y l) s) n) ∙ g
+        cc (draw-append st _ _ s)
 
     pub lines-end : (st j y to : ℕ) (s t : List ℕ) → to ≤ y → draw st (paintedLines k source m across j y (to - y)) s ≡ t → s ≡ t
     unfolding paintedLines draw
@@ -229,6 +225,4 @@ module _ (st h : ℕ) (source : List ℕ) (x y : ℤ) (w n : ℕ) (m : PaintMode
 
     pub bitmap-below : {k : Marks} → across .from < across .to → down .to ≤ down .from → k ≡ both none → drawn k s ≡ drawnOn st h (bitmap st h source x y w n m) s
     unfolding paintedLines seen draw
-    bitmap-below {k} a b f =
-        same-bitmap s k (f ∙ ap both (sym (rect-below across down a b)))
-        (let e : down .to - down .from ≡ zero = omega arith in rw e)
+    bitmap-below {k} a b f = same-bitmap s k (f ∙ ap both (sym (rect-below across down a b))) (let e : down .to - down .from ≡ zero = omega arith in rw e)

@@ -110,15 +110,10 @@ lines-drawn st h left right y (suc n) d s r hs o p q k =
     let i : st * y ≡ st * y + 0 = omega arith in
     let j : st * y + st ≡ st * suc y = omega arith in
     let l : 8 * st ≡ suc (8 * st - 1 - 0) = omega (arith, r .wide) in
-    let f : maskedBytes s (st * y) st d ≡ draw st (seen st h (horizontal st h left right y d)) s
-    = horizontal-drawn st h left right y d s _ r o p q (omega arith)
-    (ap (λ (a : ℕ). maskedBytes s a st d) i ∙ bytes-run st h y 0 st d s r hs (omega arith) (omega arith) ∙ ap (λ (z : ℕ). draw st (pixelRun 0 y z d) s) l) in
-    ap (λ (z : ℕ). maskedBytes s (st * y) z d) e
-    ∙ bytes-append (st * y) st (st * n) d s
-    ∙ ap (λ (a : ℕ). maskedBytes (maskedBytes s (st * y) st d) a (st * n) d) j
-    ∙ lines-drawn st h left right (suc y) n d (maskedBytes s (st * y) st d) (screen-draw st h (seen st h (horizontal st h left right y d)) r f) (bytes-kept (st * y) st d s hs) o p q (omega arith)
-    ∙ ap (draw st (seen st h (boxRows st h left right (suc y) n d))) f
-    ∙ sym (drawn-append st h (horizontal st h left right y d) (boxRows st h left right (suc y) n d) s)
+    let f : maskedBytes s (st * y) st d ≡ draw st (seen st h (horizontal st h left right y d)) s =
+    horizontal-drawn st h left right y d s _ {l = y} r o p q (omega arith) (cc (bytes-run st h y 0 st d s r hs (omega arith) (omega arith))) in
+    let rest = lines-drawn st h left right (suc y) n d (maskedBytes s (st * y) st d) (screen-draw st h (seen st h (horizontal st h left right y d)) r f) (bytes-kept (st * y) st d s hs) o p q (omega arith) in
+    cc (bytes-append (st * y) st (st * n) d s, drawn-append st h _ _ s)
 
 pub box-whole : (st h left top right bottom : ℕ) (d : DrawMode) (s e : List ℕ) {a b : ℕ} {t : Bool} → Screen st h s → Bytes s → (left ≤ right) × (top ≤ bottom)
     → a ≡ clamp left (8 * st) → b ≡ clamp right (8 * st) → t ≡ wholeLines st h a b bottom → t ≡ true
@@ -129,8 +124,7 @@ box-whole st h left top right bottom d s e {a} {b} r hs o p q u v w =
     let f = all-true (wholeTests st h a b bottom) (sym u ∙ v) in
     let z : bottom - top + top ≡ bottom = omega arith in
     let g : st * (bottom + 1) - st * top ≡ st * suc (bottom - top) = omega (arith, ap (λ (k : ℕ). st * k) z) in
-    w ∙ ap (λ (n : ℕ). maskedBytes s (st * top) n d) g
-    ∙ lines-drawn st h left right top (suc (bottom - top)) d s r hs (o .0) (omega (arith, tests)) (omega (arith, tests)) (omega (arith, tests))
+    cc (lines-drawn st h left right top (suc (bottom - top)) d s r hs (o .0) (omega (arith, tests)) (omega (arith, tests)) (omega (arith, tests)))
 
 -- ---- an outline, part after part
 

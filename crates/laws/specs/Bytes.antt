@@ -14,15 +14,9 @@ use Rattle.model.specs.Bits.{bitAt}
 use Rattle.model.specs.Pixels.{bit, put, place}
 use Rattle.model.specs.Bytes.{Bytes}
 use Rattle.laws.specs.Tests.{by-lt, by-eq}
-use Rattle.laws.specs.Tables.{allBelow, every-at, every₂-at, withBit-lt}
+use Rattle.laws.specs.Tables.{same-bool, allBelow, every-at, every₂-at, withBit-lt}
 
 -- ---- an operation that works bit by bit
-
-pub same-bool : (a b : Bool) → Bool·beq a b ≡ true → a ≡ b
-same-bool true true e = refl
-same-bool true false e = sym e
-same-bool false true e = e
-same-bool false false e = refl
 
 -- the operation on two digits is f
 abbrev digit-rule : (ℕ → ℕ → ℕ) → (Bool → Bool → Bool) → ℕ → ℕ → Bool
@@ -48,15 +42,9 @@ bitAt-xor = by-digits bitXor xor xor-shr xor-mod refl
 
 -- ---- the complement of a byte
 
-abbrev not-rule : ℕ → ℕ → Bool
-not-rule m k = Bool·beq (bitAt (255 - m) k) (not (bitAt m k))
-
-not-all : allBelow 256 (λ m. allBelow 8 (not-rule m)) ≡ true
-unfolding bitAt
-not-all = refl
-
 pub bitAt-not : (m k : ℕ) → m < 256 → k < 8 → bitAt (255 - m) k ≡ not (bitAt m k)
-bitAt-not m k hm hk = same-bool _ _ (every₂-at 256 8 not-rule not-all m k hm hk)
+unfolding bitAt
+bitAt-not m k hm hk = same-bool _ _ (every₂-at 256 8 (λ m k. Bool·beq (bitAt (255 - m) k) (not (bitAt m k))) refl m k hm hk)
 
 -- ---- a byte with the bits of a mask changed
 
@@ -73,20 +61,11 @@ mix-cond : (f o t : Bool) → (f && t || o && not t) ≡ cond t f o
 mix-cond f o true = rw (and-true f, and-false o) (or-false f)
 mix-cond f o false = rw (and-false f) (and-true o)
 
-module _ (b m : ℕ) (hb : b < 256) (hm : m < 256) where
-  kept-bit : (k : ℕ) → k < 8 → bitAt (bitAnd b (255 - m)) k ≡ (bitAt b k && not (bitAt m k))
-  kept-bit k h = bitAt-and b (255 - m) k ∙ ap (λ (t : Bool). bitAt b k && t) (bitAt-not m k hm h)
-
-  kept-small : bitAnd b (255 - m) < 256
-  kept-small = and-lt 8 b (255 - m) hb (omega arith)
-
-  pub mix-masked : (f : ℕ) → f < 256 → Masked m (λ k v. bitAt f k) b (mixed m f b)
-  mix-masked f hf = record {
-    small = or-lt 8 (bitAnd f m) (bitAnd b (255 - m)) (and-lt 8 f m hf hm) kept-small;
-    bits = λ k h.
-        bitAt-or (bitAnd f m) (bitAnd b (255 - m)) k ∙ ap₂ _||_ (bitAt-and f m k) (kept-bit k h)
-        ∙ mix-cond (bitAt f k) (bitAt b k) (bitAt m k);
-  }
+pub mix-masked : (b m : ℕ) → b < 256 → m < 256 → (f : ℕ) → f < 256 → Masked m (λ k v. bitAt f k) b (mixed m f b)
+mix-masked b m hb hm f hf = record {
+  small = or-lt 8 (bitAnd f m) (bitAnd b (255 - m)) (and-lt 8 f m hf hm) (and-lt 8 b (255 - m) hb (omega arith));
+  bits = λ k h. cc (bitAt-or (bitAnd f m) (bitAnd b (255 - m)) k, bitAt-and f m k, bitAt-and b (255 - m) k, bitAt-not m k hm h, mix-cond (bitAt f k) (bitAt b k) (bitAt m k));
+}
 
 -- ---- a byte is the sum of its bits
 
@@ -98,15 +77,9 @@ sum-same : (n : ℕ) (f g : ℕ → Bool) → ((k : ℕ) → k < n → f k ≡ g
 sum-same zero f g e = refl
 sum-same (suc n) f g e = ap₂ (λ (t : Bool) (m : ℕ). cond t (2 ^ n) 0 + m) (e n (omega arith)) (sum-same n f g (λ k h. e k (omega arith)))
 
-abbrev sum-rule : ℕ → Bool
-sum-rule b = eqb b (sum 8 (bitAt b))
-
-sum-all : allBelow 256 sum-rule ≡ true
-unfolding bitAt
-sum-all = refl
-
 byte-sum : (b : ℕ) → b < 256 → b ≡ sum 8 (bitAt b)
-byte-sum b h = eqb-true _ _ (every-at 256 sum-rule sum-all b h)
+unfolding bitAt
+byte-sum b h = eqb-true _ _ (every-at 256 (λ b. eqb b (sum 8 (bitAt b))) refl b h)
 
 pub byte-equal : (a b : ℕ) → a < 256 → b < 256 → ((k : ℕ) → k < 8 → bitAt a k ≡ bitAt b k) → a ≡ b
 byte-equal a b ha hb e = byte-sum a ha ∙ sum-same 8 (bitAt a) (bitAt b) e ∙ sym (byte-sum b hb)

@@ -1,4 +1,4 @@
--- Codes: the known ones by evaluation, and a table of rows searched from the first on.
+-- Codes: a table of rows searched from the first on.
 use mathlib.Core.Path.{_≡_, refl, sym, ap, _∙_}
 use mathlib.Core.Bool.{Bool, true, false}
 use mathlib.Core.List.{List, [], _∷_}
@@ -10,19 +10,9 @@ use Rattle.model.specs.declared.Found.{Found}
 use Rattle.model.specs.declared.Found.the-variants.{At, Nothing}
 use Rattle.model.specs.declared.Glyph.{Glyph}
 use Rattle.model.specs.Bytes.{two, four}
-use Rattle.model.specs.Codes.{CodeRow, codes, emojiRows, inRow, indexIn, emojiIndex, gbIndex, extraFrom}
+use Rattle.model.specs.Codes.{CodeRow, codes, emojiRows, inRow, indexIn, emojiIndex, extraFrom}
 use Rattle.model.specs.Glyphs.{glyphOr}
 use Rattle.laws.specs.Tests.{all-true}
-
--- ---- known codes: the first and the last emoji of each version, and GB rows 4-9 and 10-15 alike
-
-pub known-emoji : (emojiIndex 0 250 70 ≡ At 0) × (emojiIndex 0 253 125 ≡ At 526) × (emojiIndex 1 248 161 ≡ At 0) × (emojiIndex 1 253 217 ≡ At 526)
-unfolding emojiIndex indexIn inRow
-known-emoji = (refl, refl, refl, refl)
-
-pub known-gb : (gbIndex 161 161 ≡ At 0) × (gbIndex 247 254 ≡ At 7613) × (gbIndex 164 161 ≡ At 282) × (gbIndex 170 161 ≡ At 282)
-unfolding gbIndex
-known-gb = (refl, refl, refl, refl)
 
 -- ---- rows
 

@@ -68,8 +68,7 @@ walk-sum : (p q : List ℕ) → length p ≡ length q → bytesDiffer p q ≡ su
 unfolding bytesDiffer sum
 walk-sum [] q e = refl
 walk-sum (a ∷ p) [] e = absurd (omega arith)
-walk-sum (a ∷ p) (b ∷ q) e =
-    ap (λ (n : ℕ). byteDiffers a b + n) (walk-sum p q (suc-inj e)) ∙ sym (sum-front (length p) (λ i. byteDiffers (getD (a ∷ p) i 0) (getD (b ∷ q) i 0)))
+walk-sum (a ∷ p) (b ∷ q) e = cc (walk-sum p q (suc-inj e), sum-front (length p) (λ i. byteDiffers (getD (a ∷ p) i 0) (getD (b ∷ q) i 0)))
 
 div8 : (q r : ℕ) → r < 8 → (q * 8 + r) / 8 ≡ q
 div8 q r h = omega arith
@@ -89,9 +88,7 @@ unfolding differing
 differing-bytes g s p hs hp =
     let st : ℕ = g .stride in
     let f : ℕ → ℕ = λ i. byteDiffers (getD s i 0) (getD p i 0) in
-    sum-ext (height g) _ _ (λ y hy. line st y s p)
-    ∙ sum-ext (height g) (λ y. sum st (λ q. f (st * y + q))) (λ y. sum st (λ q. f (y * st + q)))
-    (λ y hy. sum-ext st _ _ (λ q hq. ap (λ (n : ℕ). f (n + q)) (mul-comm st y)))
-    ∙ sym (sum-mul (height g) st f)
-    ∙ ap (λ (n : ℕ). sum n f) (mul-comm (height g) st ∙ sym hs)
-    ∙ sym (walk-sum s p (hs ∙ sym hp))
+    let turned : (y : ℕ) → y < height g → sum st (λ q. f (st * y + q)) ≡ sum st (λ q. f (y * st + q)) =
+    λ y hy. sum-ext st _ _ (λ q hq. ap (λ (n : ℕ). f (n + q)) (mul-comm st y)) in
+    sum-ext (height g) _ _ (λ y hy. line st y s p ∙ turned y hy) ∙ sym (sum-mul (height g) st f)
+    ∙ ap (λ (n : ℕ). sum n f) (mul-comm (height g) st ∙ sym hs) ∙ sym (walk-sum s p (hs ∙ sym hp))

@@ -29,9 +29,7 @@ pub corners-drawn : (st h x y a b : ℕ) (d : DrawMode) (s s₁ e : List ℕ) {l
     → e ≡ draw st (seen st h (corners x y d (part a b))) s
 unfolding corners
 corners-drawn st h x y a b d s s₁ e {l} {r} {t} {m} pl pr pt pm k₁ k =
-    k ∙ ap (draw st (seen st h (pointWrite l m d ∷ pointWrite r m d ∷ []))) k₁
-    ∙ sym (drawn-append st h (pointWrite l t d ∷ pointWrite r t d ∷ []) (pointWrite l m d ∷ pointWrite r m d ∷ []) s)
-    ∙ (λ i. draw st (seen st h (pointWrite (pl i) (pt i) d ∷ pointWrite (pr i) (pt i) d ∷ pointWrite (pl i) (pm i) d ∷ pointWrite (pr i) (pm i) d ∷ [])) s)
+    cc (drawn-append st h (pointWrite l t d ∷ pointWrite r t d ∷ []) (pointWrite l m d ∷ pointWrite r m d ∷ []) s)
 
 pub chord-order : (left right : ℕ) {l : ℕ} → l ≡ cond (ltb right left) 0 left → l ≤ right
 chord-order left right e = rw e (if-cases (λ (n : ℕ). n ≤ right) (ltb right left) (λ t. omega arith) (λ t. omega (arith, tests)))
@@ -47,9 +45,7 @@ pub chords-drawn : (st h x y a b : ℕ) (d : DrawMode) (s s₁ e : List ℕ) {t 
     → s₁ ≡ draw st (seen st h (chord st h x a t d)) s → e ≡ draw st (seen st h (chord st h x a m d)) s₁
     → e ≡ draw st (seen st h (chords st h x y d (part a b))) s
 unfolding chords
-chords-drawn st h x y a b d s s₁ e {t} {m} pt pm k₁ k =
-    k ∙ ap (draw st (seen st h (chord st h x a m d))) k₁ ∙ sym (drawn-append st h (chord st h x a t d) (chord st h x a m d) s)
-    ∙ (λ i. draw st (seen st h (chord st h x a (pt i) d ++ chord st h x a (pm i) d)) s)
+chords-drawn st h x y a b d s s₁ e {t} {m} pt pm k₁ k = cc (drawn-append st h _ _ s)
 
 pub part-filled : (st h x y : ℕ) (d : DrawMode) (q : Part) (s e : List ℕ) {fill : Bool} → fill ≡ true
     → e ≡ draw st (seen st h (chords st h x y d q)) s → e ≡ draw st (seen st h (partWrites st h x y fill d q)) s
@@ -141,11 +137,9 @@ module _ (st h x y rx ry : ℕ) (fill : Bool) (d : DrawMode) (s e : List ℕ) (m
   pub ellipse-filled : {t u : Bool} {k : DrawMode} {q : Rect} → fill ≡ true → m ≡ bothLowered st h q → q ≡ ellipseMark st h x y rx ry
       → radiiFit rx ry fill d ≡ true → t ≡ isPoint rx ry → t ≡ false → u ≡ isNothing fill d → u ≡ false
       → k ≡ solid d → e ≡ painted st h x y fill k (parts rx ry) s → drawn m e ≡ drawnOn st h (ellipse st h x y rx ry fill d) s
-  ellipse-filled g b a f p q n o same w =
-      ellipse-marked f p q n o ((λ i. b i .dirty) ∙ a) (rw g ((λ i. b i .owed) ∙ ap (lowered (8 * st) h) a)) _ same w
+  ellipse-filled g b a f p q n o same w = ellipse-marked f p q n o ((λ i. b i .dirty) ∙ a) (rw g ((λ i. b i .owed) ∙ ap (lowered (8 * st) h) a)) _ same w
 
   pub ellipse-outlined : {t u : Bool} {k : DrawMode} {q : Rect} → fill ≡ false → m ≡ both q → q ≡ ellipseMark st h x y rx ry
       → radiiFit rx ry fill d ≡ true → t ≡ isPoint rx ry → t ≡ false → u ≡ isNothing fill d → u ≡ false
       → k ≡ solid d → e ≡ painted st h x y fill k (parts rx ry) s → drawn m e ≡ drawnOn st h (ellipse st h x y rx ry fill d) s
-  ellipse-outlined g b a f p q n o same w =
-      ellipse-marked f p q n o ((λ i. b i .dirty) ∙ a) (rw g ((λ i. b i .owed) ∙ a)) _ same w
+  ellipse-outlined g b a f p q n o same w = ellipse-marked f p q n o ((λ i. b i .dirty) ∙ a) (rw g ((λ i. b i .owed) ∙ a)) _ same w

@@ -50,8 +50,7 @@ unfolding xStep ended
 next-x r rx ry n zero j w q k l e =
     ends (rw (step-is-x r rx ry w e) (eq-eqb _ 0 (x-last r rx (w .x) (k .x) (q .some) (q .x) (q .most))))
     (λ z h. omega (arith, x-at-last (w .fxy) j r h (rw e at (k .circle))))
-next-x r rx ry n (suc p) j w q k l e =
-    goes-on r rx ry n p j w (rw (step-is-x r rx ry w e) (step-x r rx ry p j w q k e)) (omega arith)
+next-x r rx ry n (suc p) j w q k l e = goes-on r rx ry n p j w (rw (step-is-x r rx ry w e) (step-x r rx ry p j w q k e)) (omega arith)
 
 next-y : (r rx ry n p j : ℕ) (w : Walk) → Radii r rx ry → Walking r rx ry (suc p) j w → n ≡ suc p + (r - j) → w .neg ≡ true → Next r rx ry n w
 next-y r rx ry n p j w q k l e =

@@ -27,14 +27,10 @@ module _ (st h x y : ℕ) (fill : Bool) (d : DrawMode) where
   writes-append : (ps qs : List Part) → partsWrites st h x y fill d (ps ++ qs) ≡ partsWrites st h x y fill d ps ++ partsWrites st h x y fill d qs
   unfolding partsWrites
   writes-append [] qs = refl
-  writes-append (p ∷ ps) qs =
-      ap (λ (l : List PixelWrite). partWrites st h x y fill d p ++ l) (writes-append ps qs)
-      ∙ sym (append-assoc (partWrites st h x y fill d p) (partsWrites st h x y fill d ps) (partsWrites st h x y fill d qs))
+  writes-append (p ∷ ps) qs = cc (writes-append ps qs, append-assoc _ _ _)
 
   painted-append : (ps qs : List Part) (s : List ℕ) → painted st h x y fill d (ps ++ qs) s ≡ painted st h x y fill d qs (painted st h x y fill d ps s)
-  painted-append ps qs s =
-      ap (λ (l : List PixelWrite). draw st (seen st h l) s) (writes-append ps qs)
-      ∙ drawn-append st h (partsWrites st h x y fill d ps) (partsWrites st h x y fill d qs) s
+  painted-append ps qs s = cc (writes-append ps qs, drawn-append st h _ _ s)
 
   -- one part, or none
   pub painted-one : (q : Part) (s : List ℕ) → painted st h x y fill d (q ∷ []) s ≡ draw st (seen st h (partWrites st h x y fill d q)) s
@@ -79,9 +75,7 @@ module _ (st h x y r rx ry : ℕ) (fill : Bool) (d : DrawMode) where
       → painted st h x y fill d (partsFrom (suc n) r rx ry w) s ≡ t
       → painted st h x y fill d (cond (ended (step r rx ry w)) [] (partsFrom n r rx ry (step r rx ry w))) e ≡ t
   unfolding partsFrom
-  turned-rest n w s e t k u =
-      ap (painted st h x y fill d (cond (ended (step r rx ry w)) [] (partsFrom n r rx ry (step r rx ry w)))) k
-      ∙ sym (painted-append st h x y fill d (stepParts r rx ry w) (cond (ended (step r rx ry w)) [] (partsFrom n r rx ry (step r rx ry w))) s) ∙ u
+  turned-rest n w s e t k u = cc (painted-append st h x y fill d _ _ s)
 
   goes-on : (n m : ℕ) (w : Walk) (s e t : List ℕ) → e ≡ painted st h x y fill d (stepParts r rx ry w) s
       → painted st h x y fill d (partsFrom n r rx ry w) s ≡ t → suc m ≤ n → ended (step r rx ry w) ≡ false → OnWay r rx ry m (step r rx ry w)

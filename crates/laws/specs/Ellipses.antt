@@ -33,8 +33,7 @@ pub record OnY (r ry j : ℕ) (a : Axis) : Type 0 where
 
 -- tmp moves, or not
 abbrev Reaches : ℕ → ℕ → Axis → Type 0
-Reaches r radius a =
-    (r ≤ a .delta + radius) × (advanced r radius a .delta + r ≡ a .delta + radius) × (advanced r radius a .tmp ≡ (a .tmp + a .inc) % 256)
+Reaches r radius a = (r ≤ a .delta + radius) × (advanced r radius a .delta + r ≡ a .delta + radius) × (advanced r radius a .tmp ≡ (a .tmp + a .inc) % 256)
 
 abbrev Stays : ℕ → ℕ → Axis → Type 0
 Stays r radius a = (a .delta + radius < r) × (advanced r radius a .delta ≡ a .delta + radius) × (advanced r radius a .tmp ≡ a .tmp)

@@ -117,9 +117,7 @@ pub flags-turn : (ok : Bool) (c : List ℕ) (i : ℕ) → i < length c
 unfolding flagsFit
 flags-turn ok c i h =
     let k : length c - i ≡ suc (length c - suc i) = omega arith in
-    ap (λ (j : ℕ). (ok && leb (getD c i 0) 1) && flagsFit (length c - j) (drop j c)) (add-one i)
-    ∙ and-assoc ok (leb (getD c i 0) 1) (flagsFit (length c - suc i) (drop (suc i) c))
-    ∙ (λ j. ok && flagsFit (sym k j) (sym (drop-cons c i 0 h) j))
+    cc (add-one i, and-assoc ok _ _, drop-cons c i 0 h)
 
 pub flags-end : (ok : Bool) (c : List ℕ) (i : ℕ) → length c ≤ i → (ok && flagsFit (length c - i) (drop i c)) ≡ ok
 unfolding flagsFit

@@ -86,10 +86,7 @@ module _ (st n : ℕ) where
     rest-more s w l =
         let m = left-after s (cellsTaken (shownAt st n text s .kind)) w l (taken-most (shownAt st n text s .kind) .0) in
         let q : placesLeft st n s ≡ suc (placesLeft st n s - 1) = omega arith in
-        ap (λ (k : ℕ). walk st n text k s) q
-        ∙ rw (lt-ltb (s .row) n l)
-        (ap (λ (x : List Shown). shownAt st n text s ∷ x)
-        (enough (placesLeft st n s - 1) (placesLeft st n (nextSpot st (shownAt st n text s))) (nextSpot st (shownAt st n text s)) (within-next s w l) (omega arith) (omega arith)))
+        cc (lt-ltb (s .row) n l, enough (placesLeft st n s - 1) (placesLeft st n (nextSpot st (shownAt st n text s))) (nextSpot st (shownAt st n text s)) (within-next s w l) (omega arith) (omega arith))
 
     pub rest-end : (s : Spot) → n ≤ s .row → rest s ≡ []
     rest-end s h = over (placesLeft st n s) s h

@@ -7,7 +7,7 @@ use native.Mathlib.Nat.{mul-suc}
 use native.Mathlib.Numerals.{add-one}
 use native.Mathlib.Omega.{arith}
 use borrow.Author.Tests.{lt-ltb, le-ltb, le-leb, lt-leb}
-use lib.Dec.{ltb, leb}
+use lib.Dec.{leb}
 use lib.ListN.{length, getD, set, take, drop, length-set}
 use lib.Seq.{getD-take, getD-drop, drop-cons}
 use Rattle.model.specs.Glyphs.{Store, flipped, value, paint, fontsFit, columnStores, lineStores}
@@ -28,9 +28,7 @@ paint-append (w ∷ a) b s = paint-append a b (set s (w .place) (value w))
 pub fits-append : (a b : List Store) → fontsFit (a ++ b) ≡ (fontsFit a && fontsFit b)
 unfolding fontsFit
 fits-append [] b = refl
-fits-append (w ∷ a) b =
-    ap (λ (t : Bool). ltb (w .index) (length (w .font)) && t) (fits-append a b)
-    ∙ sym (and-assoc (ltb (w .index) (length (w .font))) (fontsFit a) (fontsFit b))
+fits-append (w ∷ a) b = cc (fits-append a b, and-assoc _ _ _)
 
 -- ---- places: a glyph whose last line lies on a screen of n bytes
 
@@ -102,13 +100,6 @@ paintLines st left right il ir (x ∷ xs) s =
     paintLines st (left + st) (right + st) il ir xs (set (set s left (flipped il (getD x 0 0))) right (flipped ir (getD x 1 0)))
 
 module _ (st : ℕ) (il ir : Bool) where
-  pub length-lines : (left right : ℕ) (g : List (List ℕ)) (s : List ℕ) → length (paintLines st left right il ir g s) ≡ length s
-  unfolding paintLines
-  length-lines left right [] s = refl
-  length-lines left right (x ∷ xs) s =
-      length-lines (left + st) (right + st) xs (set (set s left (flipped il (getD x 0 0))) right (flipped ir (getD x 1 0)))
-      ∙ length-set (set s left (flipped il (getD x 0 0))) right (flipped ir (getD x 1 0)) ∙ length-set s left (flipped il (getD x 0 0))
-
   pub lines-turn : (left right i : ℕ) (g : List (List ℕ)) (s : List ℕ) → i < length g
       → paintLines st left right il ir (drop i g) s
       ≡ paintLines st (left + st) (right + st) il ir (drop (i + 1) g) (set (set s left (flipped il (getD (getD g i []) 0 0))) right (flipped ir (getD (getD g i []) 1 0)))
@@ -126,7 +117,4 @@ module _ (st : ℕ) (il ir : Bool) where
       let u : a + (j + 2) ≡ a + j + 2 = omega arith in
       let p = take n (drop a font) in
       let t = set (set s left (flipped il (getD p j 0))) right (flipped ir (getD p (j + 1) 0)) in
-      part-lines font a n (left + st) (right + st) (j + 2) h t (omega arith)
-      ∙ ap (λ (k : ℕ). paint (lineStores st font (left + st) (right + st) k il ir h) t) u
-      ∙ (λ t. paint (lineStores st font (left + st) (right + st) (a + j + 2) il ir h)
-      (set (set s left (flipped il (at j (omega arith) t))) right (flipped ir ((at (j + 1) (omega arith) ∙ ap (λ (k : ℕ). getD font k 0) (sym q)) t))))
+      cc (part-lines font a n (left + st) (right + st) (j + 2) h t (omega arith), at j (omega arith), at (j + 1) (omega arith))

@@ -1,13 +1,13 @@
 -- Key addresses: the test by words, and the loop that writes 0xff at each.
 use mathlib.Core.Path.{_≡_, refl, sym, ap, _∙_}
 use mathlib.Core.List.{List}
-use mathlib.Core.Bool.{Bool, true, false, _&&_}
+use mathlib.Core.Bool.{Bool, true, false}
 use Prim.Native.Nat.{ℕ, zero, suc, _+_, _*_, _/_, _%_, _^_, _<_, _≤_}
 use native.Mathlib.Numerals.{add-one}
 use native.Mathlib.Omega.{arith}
 use borrow.Author.Tests.{lt-ltb, le-ltb}
 use lib.Dec.{eqb}
-use lib.ListN.{length, getD, set, length-set}
+use lib.ListN.{length, set, length-set}
 use Rattle.model.specs.Bits.{bitAt}
 use Rattle.model.specs.Bytes.{four, wordsAt}
 use Rattle.model.specs.Geometry.{memoryBytes}
@@ -30,9 +30,7 @@ pub key-test : (v : Glass) (r : List ℕ) (a : ℕ) {w : ℕ} → Suits v → a 
 unfolding isKey bitAt
 key-test v r a z h e =
     let k = v .keys in
-    ap (λ (n : ℕ). eqb (n / 2 ^ (a % 32) % 2) 1) (e ∙ sym (word-at 8 r k (a / 32) (omega arith)))
-    ∙ ap (λ (t : Bool). t && bitAt (getD (wordsAt 8 r k) (a / 32) 0) (a % 32)) (sym (lt-ltb a 256 h))
-    ∙ ap (λ (l : List ℕ). isKey l a) (sym (keys-here v r z))
+    cc (word-at 8 r k (a / 32) (omega arith), lt-ltb a 256 h, keys-here v r z)
 
 pub no-key : (keys : List ℕ) (a : ℕ) → 256 ≤ a → false ≡ isKey keys a
 unfolding isKey

@@ -46,14 +46,10 @@ two-from r i j =
     rw (getD-drop i r j 0, getD-drop i r (j + 1) 0, e)
 
 pub four-from : (r : List ℕ) (i : ℕ) → four r i ≡ four (drop i r) 0
-four-from r i =
-    ap (λ (k : ℕ). two r k + 65536 * two r (i + 2)) (sym (add-zero i))
-    ∙ ap (λ (n : ℕ). n + 65536 * two r (i + 2)) (two-from r i 0)
-    ∙ ap (λ (n : ℕ). two (drop i r) 0 + 65536 * n) (two-from r i 2)
+four-from r i = cc (add-zero i, two-from r i 0, two-from r i 2)
 
 pub rect-from : (r : List ℕ) (i : ℕ) → rectAt r i ≡ rectAt (drop i r) 0
-rect-from r i =
-    rect-equal (ap (two r) (sym (add-zero i)) ∙ two-from r i 0) (two-from r i 2) (two-from r i 4) (two-from r i 6)
+rect-from r i = rect-equal (ap (two r) (sym (add-zero i)) ∙ two-from r i 0) (two-from r i 2) (two-from r i 4) (two-from r i 6)
 
 -- ---- read, then written: the bytes again
 
@@ -66,9 +62,7 @@ pub elements-drop : (n i : ℕ) (l : List ℕ) → i + n ≤ length l → elemen
 elements-drop zero i l h = rw add-zero
 elements-drop (suc n) i l h =
     let e : i + suc n ≡ suc i + n = omega arith in
-    ap (λ (k : ℕ). getD l i 0 ∷ (elements n (suc i) l ++ drop k l)) e
-    ∙ ap (λ (m : List ℕ). getD l i 0 ∷ m) (elements-drop n (suc i) l (omega arith))
-    ∙ sym (drop-cons l i 0 (omega arith))
+    cc (elements-drop n (suc i) l (omega arith), drop-cons l i 0 (omega arith))
 
 pub low : (a b : ℕ) → a < 256 → (a + 256 * b) % 256 ≡ a
 low a b h = omega arith
@@ -98,36 +92,24 @@ four-bytes l b = simp (byte0, byte1, byte2, byte3, b)
 pub rect-again : (r : List ℕ) (i : ℕ) → Bytes r → i + 8 ≤ length r → rectBytes (rectAt r i) ++ drop (i + 8) r ≡ drop i r
 unfolding Bytes
 rect-again r i b h =
-    ap (λ (q : Rect). rectBytes q ++ drop (i + 8) r) (rect-from r i)
-    ∙ ap (λ (m : List ℕ). m ++ drop (i + 8) r) (eight (drop i r) (bytes-drop i r b))
-    ∙ ap (λ (m : List ℕ). elements 8 0 (drop i r) ++ m) (sym (drop-drop 8 i r))
-    ∙ elements-drop 8 0 (drop i r) (simp length-drop (omega arith))
+    cc (rect-from r i, eight (drop i r) (bytes-drop i r b), drop-drop 8 i r, elements-drop 8 0 (drop i r) (simp length-drop (omega arith)))
 
 pub four-again : (r : List ℕ) (i : ℕ) → Bytes r → i + 4 ≤ length r → fourBytes (four r i) ++ drop (i + 4) r ≡ drop i r
 unfolding Bytes
 four-again r i b h =
-    ap (λ (n : ℕ). fourBytes n ++ drop (i + 4) r) (four-from r i)
-    ∙ ap (λ (m : List ℕ). m ++ drop (i + 4) r) (four-bytes (drop i r) (bytes-drop i r b))
-    ∙ ap (λ (m : List ℕ). elements 4 0 (drop i r) ++ m) (sym (drop-drop 4 i r))
-    ∙ elements-drop 4 0 (drop i r) (simp length-drop (omega arith))
+    cc (four-from r i, four-bytes (drop i r) (bytes-drop i r b), drop-drop 4 i r, elements-drop 4 0 (drop i r) (simp length-drop (omega arith)))
 
 pub rects-again : (n : ℕ) (r : List ℕ) (i : ℕ) → Bytes r → i + 8 * n ≤ length r → rectsBytes (rectsAt n r i) ++ drop (i + 8 * n) r ≡ drop i r
 rects-again zero r i b h = let e : i + 8 * 0 ≡ i = omega arith in ap (λ (k : ℕ). drop k r) e
 rects-again (suc n) r i b h =
     let e : i + 8 * suc n ≡ i + 8 + 8 * n = omega arith in
-    append-assoc (rectBytes (rectAt r i)) (rectsBytes (rectsAt n r (i + 8))) (drop (i + 8 * suc n) r)
-    ∙ ap (λ (k : ℕ). rectBytes (rectAt r i) ++ (rectsBytes (rectsAt n r (i + 8)) ++ drop k r)) e
-    ∙ ap (λ (m : List ℕ). rectBytes (rectAt r i) ++ m) (rects-again n r (i + 8) b (omega arith))
-    ∙ rect-again r i b (omega arith)
+    cc (append-assoc _ _ _, rects-again n r (i + 8) b (omega arith), rect-again r i b (omega arith))
 
 pub words-again : (n : ℕ) (r : List ℕ) (i : ℕ) → Bytes r → i + 4 * n ≤ length r → wordsBytes (wordsAt n r i) ++ drop (i + 4 * n) r ≡ drop i r
 words-again zero r i b h = let e : i + 4 * 0 ≡ i = omega arith in ap (λ (k : ℕ). drop k r) e
 words-again (suc n) r i b h =
     let e : i + 4 * suc n ≡ i + 4 + 4 * n = omega arith in
-    append-assoc (fourBytes (four r i)) (wordsBytes (wordsAt n r (i + 4))) (drop (i + 4 * suc n) r)
-    ∙ ap (λ (k : ℕ). fourBytes (four r i) ++ (wordsBytes (wordsAt n r (i + 4)) ++ drop k r)) e
-    ∙ ap (λ (m : List ℕ). fourBytes (four r i) ++ m) (words-again n r (i + 4) b (omega arith))
-    ∙ four-again r i b (omega arith)
+    cc (append-assoc _ _ _, words-again n r (i + 4) b (omega arith), four-again r i b (omega arith))
 
 -- ---- written, then read: the fields again
 
@@ -136,8 +118,7 @@ two-back n h = omega arith
 
 pub four-back : (n : ℕ) → n < 4294967296 → n % 256 + 256 * (n / 256 % 256) + 65536 * (n / 65536 % 256 + 256 * (n / 16777216 % 256)) ≡ n
 four-back n h =
-    let k : n / 65536 % 256 + 256 * (n / 16777216 % 256) ≡ n / 65536 =
-    ap (λ (x : ℕ). n / 65536 % 256 + 256 * (x % 256)) (sym (div-div-eq-div-mul n 65536 256)) ∙ two-back (n / 65536) (omega arith) in
+    let k : n / 65536 % 256 + 256 * (n / 16777216 % 256) ≡ n / 65536 = cc (div-div-eq-div-mul n 65536 256, two-back (n / 65536) (omega arith)) in
     omega (arith, k, div-div-eq-div-mul n 256 256)
 
 -- the numbers of a rectangle have two bytes each
@@ -179,9 +160,7 @@ rects-at n r i = ap (rectsAt n r) (sym (add-zero i)) ∙ rects-from n r i 0
 pub rects-back : (qs : List Rect) (l : List ℕ) → AllShort qs → rectsAt (length qs) (rectsBytes qs ++ l) 0 ≡ qs
 rects-back [] l b = refl
 rects-back (q ∷ qs) l b =
-    let a = append-assoc (rectBytes q) (rectsBytes qs) l in
-    ap (λ (m : List ℕ). rectAt m 0 ∷ rectsAt (length qs) m 8) a
-    ∙ (λ k. rect-back q (rectsBytes qs ++ l) (b .0) k ∷ (rects-at (length qs) (rectBytes q ++ (rectsBytes qs ++ l)) 8 ∙ rects-back qs l (b .1)) k)
+    cc (rect-back q (rectsBytes qs ++ l) (b .0), rects-at (length qs) (rectBytes q ++ (rectsBytes qs ++ l)) 8, rects-back qs l (b .1))
 
 words-from : (n : ℕ) (r : List ℕ) (i j : ℕ) → wordsAt n r (i + j) ≡ wordsAt n (drop i r) j
 words-from zero r i j = refl
@@ -195,10 +174,7 @@ words-at n r i = ap (wordsAt n r) (sym (add-zero i)) ∙ words-from n r i 0
 
 pub words-back : (ws : List ℕ) (l : List ℕ) → Words ws → wordsAt (length ws) (wordsBytes ws ++ l) 0 ≡ ws
 words-back [] l b = refl
-words-back (w ∷ ws) l b =
-    let a = append-assoc (fourBytes w) (wordsBytes ws) l in
-    ap (λ (m : List ℕ). four m 0 ∷ wordsAt (length ws) m 4) a
-    ∙ (λ k. four-back w (b .0) k ∷ (words-at (length ws) (fourBytes w ++ (wordsBytes ws ++ l)) 4 ∙ words-back ws l (b .1)) k)
+words-back (w ∷ ws) l b = cc (four-back w (b .0), words-at (length ws) (fourBytes w ++ (wordsBytes ws ++ l)) 4, words-back ws l (b .1))
 
 -- ---- how long
 

@@ -1,5 +1,5 @@
 -- Horizontal and vertical lines: where their writes lie, and which of them fall on the screen.
-use mathlib.Core.Path.{_≡_, refl, sym, ap, _∙_}
+use mathlib.Core.Path.{_≡_, refl, ap}
 use mathlib.Core.Logic.{inr}
 use mathlib.Core.Bool.{true, false}
 use mathlib.Core.List.{List, [], _∷_}
@@ -119,8 +119,7 @@ vertical-below st h x top bottom d s a b = rw (column-below st h x top (suc (bot
 pub vertical-seen : (st h x top bottom n : ℕ) (d : DrawMode) → x < 8 * st → top < h → top ≤ bottom → n ≡ min bottom (h - 1) - top + 1
     → seen st h (vertical x top bottom d) ≡ pixelColumn x top n d
 unfolding vertical
-vertical-seen st h x top bottom n d a b o e =
-    column-cut st h x top (suc (bottom - top)) n d a (omega arith) (omega arith) (λ k. omega arith)
+vertical-seen st h x top bottom n d a b o e = column-cut st h x top (suc (bottom - top)) n d a (omega arith) (omega arith) (λ k. omega arith)
 
 -- ---- as the code draws them
 
@@ -128,14 +127,11 @@ pub horizontal-drawn : (st h left right y : ℕ) (d : DrawMode) (s e : List ℕ)
     → a ≡ clamp left (8 * st) → b ≡ clamp right (8 * st) → l ≡ clamp y h → e ≡ draw st (pixelRun a l (suc (b - a)) d) s
     → e ≡ draw st (seen st h (horizontal st h left right y d)) s
 unfolding horizontal
-horizontal-drawn st h left right y d s e r o p q k w =
-    w ∙ (λ i. draw st (pixelRun (p i) (k i) (suc (q i - p i)) d) s)
-    ∙ sym (ap (λ (l : List PixelWrite). draw st l s) (horizontal-seen st h left right y d (r .wide) (r .high) o))
+horizontal-drawn st h left right y d s e r o p q k w = cc (horizontal-seen st h left right y d (r .wide) (r .high) o)
 
 pub vertical-drawn : (st h x top bottom : ℕ) (d : DrawMode) (s e : List ℕ) {last : ℕ} → x < 8 * st → top < h → top ≤ bottom → last ≡ clamp bottom h
     → e ≡ draw st (pixelColumn x top (last - top + 1) d) s → e ≡ draw st (seen st h (vertical x top bottom d)) s
-vertical-drawn st h x top bottom d s e {last} a b o p w =
-    w ∙ sym (ap (λ (l : List PixelWrite). draw st l s) (vertical-seen st h x top bottom (last - top + 1) d a b o (ap (λ (z : ℕ). z - top + 1) p)))
+vertical-drawn st h x top bottom d s e {last} a b o p w = cc (vertical-seen st h x top bottom _ d a b o (ap (λ (z : ℕ). z - top + 1) p))
 
 -- what is left of a column, drawn on what stands, gives the whole
 pub column-turn : (st x y n : ℕ) (d : DrawMode) (s e t : List ℕ) → 0 < n → e ≡ writePixel st s (pointWrite x y d) → draw st (pixelColumn x y n d) s ≡ t

@@ -3,7 +3,7 @@ use mathlib.Core.Path.{_≡_, ap, _∙_}
 use mathlib.Core.Logic.{_≢_, _⊎_, inl, inr}
 use mathlib.Core.Bool.{true, _&&_}
 use mathlib.Core.List.{List, [], _∷_}
-use Prim.Native.Nat.{ℕ, _+_, _-_, _*_, _/_, _%_, _<_}
+use Prim.Native.Nat.{ℕ, _+_, _*_, _/_, _%_, _<_}
 use lib.Arith.{digits-div, digits-mod}
 use lib.ListN.{set}
 use lib.Seq.{getD-set-other}
@@ -11,7 +11,6 @@ use native.Mathlib.Omega.{arith}
 use lib.Dec.{ltb}
 use borrow.Author.Tests.{ltb-true, leb-true, le-leb, lt-ltb}
 use Rattle.model.specs.declared.Rect.{Rect}
-use Rattle.model.specs.Bits.{bitAt}
 use Rattle.model.specs.Pixels.{bit, place, onScreen, PixelWrite, draw, seen}
 use Rattle.model.specs.Rects.{In, inside, insideTests}
 use Rattle.model.specs.Marks.{whole, within, owes}
@@ -85,5 +84,4 @@ in-byte st i x y hx e =
 
 pub poke-agrees : (st h : ℕ) (s : List ℕ) (i v : ℕ) → AgreeOutside st h (byteRect st i) s (set s i v)
 unfolding bit
-poke-agrees st h s i v x y hx hy n =
-    ap (λ (b : ℕ). bitAt b (7 - x % 8)) (getD-set-other s i (place st x y) v 0 (λ e. n (in-byte st i x y hx e)))
+poke-agrees st h s i v x y hx hy n = cc (getD-set-other s i (place st x y) v 0 (λ e. n (in-byte st i x y hx e)))

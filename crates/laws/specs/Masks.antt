@@ -16,8 +16,8 @@ use Rattle.model.specs.Bits.{bitAt}
 use Rattle.model.specs.Pixels.{place, bit, put, PixelWrite, writePixel, draw, copyRun}
 use Rattle.model.specs.Bytes.{Bytes}
 use Rattle.laws.specs.Tests.{by-lt, by-eq}
-use Rattle.laws.specs.Tables.{allBelow, every-at, every₂-at}
-use Rattle.laws.specs.Bytes.{same-bool, bitAt-and, Masked, bytes-set, bytes-put, screens-equal}
+use Rattle.laws.specs.Tables.{same-bool, every-at, every₂-at}
+use Rattle.laws.specs.Bytes.{bitAt-and, Masked, bytes-set, bytes-put, screens-equal}
 use Rattle.laws.specs.Pixels.{place-line, length-put, put-same, put-other}
 
 -- ---- the masks
@@ -37,31 +37,6 @@ pub record Mask (k a b m : ℕ) : Type 0 where
   pub small : m < 256
   pub has : (x : ℕ) → x / 8 ≡ k → bitAt m (7 - x % 8) ≡ (leb a x && ltb x b)
 
-abbrev start-rule : ℕ → ℕ → Bool
-start-rule i j = Bool·beq (bitAt (255 / 2 ^ i) (7 - j)) (leb i j)
-
-abbrev end-rule : ℕ → ℕ → Bool
-end-rule i j = Bool·beq (bitAt (255 - 127 / 2 ^ i) (7 - j)) (leb j i)
-
-start-all : allBelow 8 (λ i. allBelow 8 (start-rule i)) ≡ true
-unfolding bitAt
-start-all = refl
-
-end-all : allBelow 8 (λ i. allBelow 8 (end-rule i)) ≡ true
-unfolding bitAt
-end-all = refl
-
-abbrev point-rule : ℕ → ℕ → Bool
-point-rule i j = Bool·beq (bitAt (128 / 2 ^ i) (7 - j)) (leb i j && leb j i)
-
-point-all : allBelow 8 (λ i. allBelow 8 (point-rule i)) ≡ true
-unfolding bitAt
-point-all = refl
-
-whole-all : allBelow 8 (bitAt 255) ≡ true
-unfolding bitAt
-whole-all = refl
-
 -- two pixels of one byte stand as their places in it
 same-byte : (a x : ℕ) → x / 8 ≡ a / 8 → leb (a % 8) (x % 8) ≡ leb a x
 same-byte a x e =
@@ -70,10 +45,12 @@ same-byte a x e =
     (λ l. le-leb (a % 8) (x % 8) (omega arith) ∙ sym (le-leb a x l))
 
 pub start-bit : (a x : ℕ) → x / 8 ≡ a / 8 → bitAt (startMask a) (7 - x % 8) ≡ leb a x
-start-bit a x e = same-bool _ _ (every₂-at 8 8 start-rule start-all (a % 8) (x % 8) (omega arith) (omega arith)) ∙ same-byte a x e
+unfolding bitAt
+start-bit a x e = same-bool _ _ (every₂-at 8 8 (λ i j. Bool·beq (bitAt (255 / 2 ^ i) (7 - j)) (leb i j)) refl (a % 8) (x % 8) (omega arith) (omega arith)) ∙ same-byte a x e
 
 pub end-bit : (b x : ℕ) → x / 8 ≡ b / 8 → bitAt (endMask b) (7 - x % 8) ≡ leb x b
-end-bit b x e = same-bool _ _ (every₂-at 8 8 end-rule end-all (b % 8) (x % 8) (omega arith) (omega arith)) ∙ same-byte x b (sym e)
+unfolding bitAt
+end-bit b x e = same-bool _ _ (every₂-at 8 8 (λ i j. Bool·beq (bitAt (255 - 127 / 2 ^ i) (7 - j)) (leb j i)) refl (b % 8) (x % 8) (omega arith) (omega arith)) ∙ same-byte x b (sym e)
 
 start-small : (a : ℕ) → startMask a < 256
 start-small a = omega (arith, div-le-self 255 (2 ^ (a % 8)))
@@ -111,21 +88,23 @@ both-masks a b h = record {
 
 -- one pixel alone
 pub point-mask : (x : ℕ) → Mask (x / 8) x (x + 1) (128 / 2 ^ (x % 8))
+unfolding bitAt
 point-mask x = record {
   from = omega arith;
   upto = omega arith;
   small = omega (arith, div-le-self 128 (2 ^ (x % 8)));
   has = λ z e.
-      same-bool _ _ (every₂-at 8 8 point-rule point-all (x % 8) (z % 8) (omega arith) (omega arith))
+      same-bool _ _ (every₂-at 8 8 (λ i j. Bool·beq (bitAt (128 / 2 ^ i) (7 - j)) (leb i j && leb j i)) refl (x % 8) (z % 8) (omega arith) (omega arith))
       ∙ ap₂ _&&_ (same-byte x z e) (same-byte z x (sym e) ∙ leb-suc z x);
 }
 
 pub whole-mask : (k : ℕ) → Mask k (8 * k) (8 * (k + 1)) 255
+unfolding bitAt
 whole-mask k = record {
   from = omega arith;
   upto = omega arith;
   small = omega arith;
-  has = λ x e. rw (le-leb (8 * k) x (omega arith), lt-ltb x (8 * (k + 1)) (omega arith)) (every-at 8 (bitAt 255) whole-all (7 - x % 8) (omega arith));
+  has = λ x e. rw (le-leb (8 * k) x (omega arith), lt-ltb x (8 * (k + 1)) (omega arith)) (every-at 8 (bitAt 255) refl (7 - x % 8) (omega arith));
 }
 
 -- ---- a run

@@ -13,14 +13,14 @@ use Rattle.model.specs.Glass.{geometry, Suits}
 use Rattle.model.specs.Memory.{zeros, withWindow}
 use Rattle.model.specs.Rects.{none}
 use Rattle.model.specs.Bytes.{rectsBytes, rectBytes, wordsBytes, fourBytes, Words}
-use Rattle.model.specs.Record.{RecordPart, head, panel, keys, flags, offset, written, total, layout, size, pendingBytes, recordBytes, Pending, State, decode, encode, partBytes, bytesOfHead, bytesOfPending, panelOf, nothingPending}
+use Rattle.model.specs.Record.{RecordPart, head, panel, keys, flags, written, total, layout, size, pendingBytes, recordBytes, Pending, State, decode, encode, partBytes, bytesOfHead, bytesOfPending, panelOf, nothingPending}
 use Rattle.model.specs.Marks.{whole, owing}
 use Rattle.model.specs.Open.{clearHead, clearFlags, openPending, openState}
 use Rattle.laws.specs.ListLaws.{getD-replicate, getD-in, map-replicate}
 use Rattle.laws.specs.Flags.{no-flags, length-no-flags}
 use Rattle.laws.specs.Layout.{AllShort}
 use Rattle.laws.specs.PartLists.{written-same, length-written}
-use Rattle.laws.specs.Record.{Sized, all-owed, sizes, keys-back, has-head, has-keys, part-in, put-head, put-keys}
+use Rattle.laws.specs.Record.{Sized, all-owed, sizes, keys-back, put-head, put-keys}
 use Rattle.laws.specs.Panels.{markFrom, marks-state, length-owing}
 
 -- ---- zeros

@@ -32,10 +32,8 @@ band-in lo band (suc n) h p l = omega arith
 pub drop-window : (a n : ℕ) (s r : List ℕ) → length s ≡ n → a ≤ length r → drop (a + n) (withWindow a s r) ≡ drop (a + n) r
 unfolding withWindow
 drop-window a n s r e h =
-    sym (drop-drop n a (take a r ++ (s ++ drop (a + length s) r)))
-    ∙ ap (drop n) (drop-at (take a r) (s ++ drop (a + length s) r) a (length-take-le a r h))
-    ∙ drop-at s (drop (a + length s) r) n e
-    ∙ ap (λ (k : ℕ). drop (a + k) r) e
+    let past = drop-at (take a r) (s ++ drop (a + length s) r) a (length-take-le a r h) in
+    cc (drop-drop n a (take a r ++ (s ++ drop (a + length s) r)), drop-at s (drop (a + length s) r) n e)
 
 pub window-nothing : (a : ℕ) (r : List ℕ) → withWindow a [] r ≡ r
 unfolding withWindow
@@ -51,9 +49,7 @@ pub window-tail : (a n k : ℕ) (s t r : List ℕ) → length s ≡ n → length
 unfolding withWindow
 window-tail a n k s t r e f h =
     let l : a + length (s ++ t) ≡ a + n + k = omega (arith, length-append s t) in
-    ap (λ (i : ℕ). take a r ++ ((s ++ t) ++ drop i r)) l
-    ∙ ap (λ (x : List ℕ). take a r ++ x) (append-assoc s t (drop (a + n + k) r))
-    ∙ ap (λ (x : List ℕ). take a r ++ (s ++ x)) (h ∙ ap (λ (i : ℕ). drop (a + i) r) (sym e))
+    cc (append-assoc s t (drop (a + n + k) r))
 
 -- rectangles past a store
 rects-past : (n a : ℕ) (q : Rect) (r : List ℕ) → a ≤ length r → rectsAt n (withWindow a (rectBytes q) r) (a + 8) ≡ rectsAt n r (a + 8)
@@ -64,24 +60,6 @@ rects-past n a q r h = rects-at n (withWindow a (rectBytes q) r) (a + 8) ∙ ap 
 -- the bytes r with the mark m joined to the bands that are left
 unfoldable pub joined : ℕ → ℕ → ℕ → Rect → ℕ → ℕ → List ℕ → List ℕ
 joined w band lo m left a r = withWindow a (rectsBytes (joinOwed w band lo m (rectsAt left r a))) r
-
-pub join-turn : (w band lo left a : ℕ) (m : Rect) (r : List ℕ) {q c j : Rect} {r′ : List ℕ} → 0 < left → a + 8 * left ≤ length r
-    → q ≡ rectAt r a → c ≡ cut w lo (lo + band) m → j ≡ join q c → r′ ≡ withWindow a (rectBytes j) r
-    → joined w band (lo + band) m (left - 1) (a + 8) r′ ≡ joined w band lo m left a r
-unfolding joined joinOwed
-join-turn w band lo zero a m r p h e f g k = absurd (omega arith)
-join-turn w band lo (suc n) a m r {q} {c} {j} {r′} p h e f g k =
-    let z : suc n - 1 ≡ n = omega arith in
-    let i : j ≡ join (rectAt r a) (cut w lo (lo + band) m) = g ∙ (λ x. join (e x) (f x)) in
-    ap (λ (x : ℕ). withWindow (a + 8) (rectsBytes (joinOwed w band (lo + band) m (rectsAt x r′ (a + 8)))) r′) z
-    ∙ ap (λ (x : List ℕ). withWindow (a + 8) (rectsBytes (joinOwed w band (lo + band) m (rectsAt n x (a + 8)))) x) k
-    ∙ ap (λ (x : List Rect). withWindow (a + 8) (rectsBytes (joinOwed w band (lo + band) m x)) (withWindow a (rectBytes j) r)) (rects-past n a j r (omega arith))
-    ∙ window-extend a 8 (rectBytes j) (rectsBytes (joinOwed w band (lo + band) m (rectsAt n r (a + 8)))) r refl (omega arith)
-    ∙ ap (λ (x : Rect). withWindow a (rectBytes x ++ rectsBytes (joinOwed w band (lo + band) m (rectsAt n r (a + 8)))) r) i
-
-pub join-end : (w band lo left a : ℕ) (m : Rect) (r : List ℕ) → left ≡ 0 → joined w band lo m left a r ≡ r
-unfolding joined joinOwed
-join-end w band lo left a m r e = ap (λ (x : ℕ). withWindow a (rectsBytes (joinOwed w band lo m (rectsAt x r a))) r) e ∙ window-nothing a r
 
 -- where the loop stands: what is left of the bytes and of the lines, and what it comes to
 pub record Joining (w band : ℕ) (m : Rect) (bands at : ℕ) (r₀ r : List ℕ) (a lo left : ℕ) : Type 0 where
@@ -96,18 +74,18 @@ join-starts w band m bands at r h l = record { room = h; lines = omega arith; si
 pub join-goes : {w band : ℕ} {m : Rect} {bands at : ℕ} {r₀ r : List ℕ} {a lo left : ℕ} {q c j : Rect} {r′ : List ℕ} → Joining w band m bands at r₀ r a lo left → 0 < left
     → q ≡ rectAt r a → c ≡ cut w lo (lo + band) m → j ≡ join q c → r′ ≡ withWindow a (rectBytes j) r
     → Joining w band m bands at r₀ r′ (a + 8) (lo + band) (left - 1)
-join-goes {w} {band} {m} {r = r} {a} {lo} {left} {j = j} {r′} k p e f g h =
-    let n : length r′ ≡ length r = ap length h ∙ length-withWindow a (rectBytes j) r (omega (arith, k .room)) in
-    record {
-      room = omega (arith, k .room);
-      lines = lines-left lo band left 65535 p (k .lines);
-      sized = n ∙ k .sized;
-      same = join-turn w band lo left a m r p (k .room) e f g h ∙ k .same;
-    }
+unfolding joined joinOwed
+join-goes {left = zero} k p e f g h = absurd (omega arith)
+join-goes {w} {band} {m} {r = r} {a} {lo} {left = suc n} {j = j} {r′ = r′} k p e f g h =
+    let z : suc n - 1 ≡ n = omega arith in
+    let s : length r′ ≡ length r = ap length h ∙ length-withWindow a (rectBytes j) r (omega (arith, k .room)) in
+    let t = window-extend a 8 (rectBytes j) (rectsBytes (joinOwed w band (lo + band) m (rectsAt n r (a + 8)))) r refl (omega (arith, k .room)) in
+    record { room = omega (arith, k .room); lines = lines-left lo band (suc n) 65535 p (k .lines); sized = s ∙ k .sized; same = cc (rects-past n a j r (omega (arith, k .room)), k .same) }
 
 pub join-ends : (w band : ℕ) (m : Rect) (bands at : ℕ) (r₀ r : List ℕ) (a lo left : ℕ) → Joining w band m bands at r₀ r a lo left → left ≤ 0
     → r ≡ joined w band 0 m bands at r₀
-join-ends w band m bands at r₀ r a lo left k z = sym (join-end w band lo left a m r (omega arith)) ∙ k .same
+unfolding joined joinOwed
+join-ends w band m bands at r₀ r a lo left k z = let e : left ≡ 0 = omega arith in cc (window-nothing a r, k .same)
 
 -- ---- the first taken
 
@@ -120,22 +98,6 @@ pub record Took (left a : ℕ) (r : List ℕ) (q : Rect) (r′ : List ℕ) : Typ
   pub first : q ≡ firstOwed (rectsAt left r a)
   pub rest : r′ ≡ rested left a r
 
--- a band that owes nothing is passed
-pub take-turn : (left a : ℕ) (r : List ℕ) {q : Rect} {t : Bool} → 0 < left → a + 8 * left ≤ length r → ((i : ℕ) → getD r i 0 < 256)
-    → q ≡ rectAt r a → t ≡ isEmpty q → t ≡ true
-    → (firstOwed (rectsAt (left - 1) r (a + 8)) ≡ firstOwed (rectsAt left r a)) × (rested (left - 1) (a + 8) r ≡ rested left a r)
-unfolding rested restOwed firstOwed Bytes
-take-turn zero a r p h b e f g = absurd (omega arith)
-take-turn (suc n) a r {q} p h b e f g =
-    let z : suc n - 1 ≡ n = omega arith in
-    let y : isEmpty (rectAt r a) ≡ true = ap isEmpty (sym e) ∙ sym f ∙ g in
-    let again : withWindow a (rectBytes (rectAt r a)) r ≡ r = window-again a 8 (rectBytes (rectAt r a)) r refl (rect-again r a b (omega arith)) in
-    rw (y, z) (
-      refl,
-      ap (withWindow (a + 8) (rectsBytes (restOwed (rectsAt n r (a + 8))))) (sym again)
-          ∙ window-extend a 8 (rectBytes (rectAt r a)) (rectsBytes (restOwed (rectsAt n r (a + 8)))) r refl (omega arith),
-    )
-
 -- where the loop stands
 pub record Taking (bands at : ℕ) (r₀ r : List ℕ) (a left : ℕ) : Type 0 where
   pub kept : r ≡ r₀
@@ -147,57 +109,34 @@ pub record Taking (bands at : ℕ) (r₀ r : List ℕ) (a left : ℕ) : Type 0 w
 pub take-starts : (bands at : ℕ) (r : List ℕ) → at + 8 * bands ≤ length r → Taking bands at r r at bands
 take-starts bands at r h = record { kept = refl; sized = refl; room = h; first = refl; rest = refl }
 
+-- a band that owes nothing is passed
 pub take-goes : {bands at : ℕ} {r₀ r : List ℕ} {a left : ℕ} {q : Rect} {t : Bool} → Taking bands at r₀ r a left → 0 < left → ((i : ℕ) → getD r₀ i 0 < 256)
     → q ≡ rectAt r a → t ≡ isEmpty q → t ≡ true → Taking bands at r₀ r (a + 8) (left - 1)
-take-goes {r = r} {a} {left} k p b e f g =
-    let t = take-turn left a r p (rw (k .kept) (k .room)) (rw (k .kept) b) e f g in
-    record { kept = k .kept; sized = k .sized; room = omega (arith, k .room); first = t .0 ∙ k .first; rest = t .1 ∙ k .rest }
+unfolding rested restOwed firstOwed Bytes
+take-goes {left = zero} k p b e f g = absurd (omega arith)
+take-goes {r = r} {a} {left = suc n} k p b e f g =
+    let z : suc n - 1 ≡ n = omega arith in
+    let y : isEmpty (rectAt r a) ≡ true = cc in
+    let again = window-again a 8 (rectBytes (rectAt r a)) r refl (rect-again r a (rw (k .kept) b) (rw (k .kept) (omega (arith, k .room)))) in
+    let t = window-extend a 8 (rectBytes (rectAt r a)) (rectsBytes (restOwed (rectsAt n r (a + 8)))) r refl (rw (k .kept) (omega (arith, k .room))) in
+    record { kept = k .kept; sized = k .sized; room = omega (arith, k .room); first = cc (k .first); rest = cc (k .rest) }
 
 -- the first that owes anything
-pub take-here : (left a : ℕ) (r : List ℕ) {q z : Rect} {t : Bool} {r′ : List ℕ} → 0 < left → a + 8 * left ≤ length r → ((i : ℕ) → getD r i 0 < 256)
-    → q ≡ rectAt r a → t ≡ isEmpty q → t ≡ false → z ≡ none → r′ ≡ withWindow a (rectBytes z) r → Took left a r q r′
-unfolding rested restOwed firstOwed Bytes
-take-here zero a r p h b e f g k i = absurd (omega arith)
-take-here (suc n) a r {q} {z} p h b e f g k i =
-    let y : isEmpty (rectAt r a) ≡ false = ap isEmpty (sym e) ∙ sym f ∙ g in
-    record {
-      first = rw y e;
-      rest = rw y
-          (i ∙ ap (λ (x : Rect). withWindow a (rectBytes x) r) k
-          ∙ sym (window-tail a 8 (8 * n) (rectBytes none) (rectsBytes (rectsAt n r (a + 8))) r refl (length-rects (rectsAt n r (a + 8)) ∙ ap (λ (x : ℕ). 8 * x) (length-rectsAt n r (a + 8)))
-          (rects-again n r (a + 8) b (omega arith))));
-    }
-
-pub take-end : (left a : ℕ) (r : List ℕ) {z : Rect} → left ≡ 0 → z ≡ none → Took left a r z r
-unfolding rested restOwed firstOwed
-take-end left a r e k = record { first = rw e k; rest = rw e (sym (window-nothing a r)) }
-
 pub take-finds : {bands at : ℕ} {r₀ r : List ℕ} {a left : ℕ} {q z : Rect} {t : Bool} {r′ : List ℕ} → Taking bands at r₀ r a left → 0 < left → ((i : ℕ) → getD r₀ i 0 < 256)
     → q ≡ rectAt r a → t ≡ isEmpty q → t ≡ false → z ≡ none → r′ ≡ withWindow a (rectBytes z) r → Took bands at r₀ q r′
-take-finds {r = r} {a} {left} k p b e f g h i =
-    let t = take-here left a r p (rw (k .kept) (k .room)) (rw (k .kept) b) e f g h i in
-    record { first = t .first ∙ k .first; rest = t .rest ∙ k .rest }
+unfolding rested restOwed firstOwed Bytes
+take-finds {left = zero} k p b e f g h i = absurd (omega arith)
+take-finds {r = r} {a} {left = suc n} k p b e f g h i =
+    let y : isEmpty (rectAt r a) ≡ false = cc in
+    let m : length (rectsBytes (rectsAt n r (a + 8))) ≡ 8 * n = cc (length-rects (rectsAt n r (a + 8)), length-rectsAt n r (a + 8)) in
+    let t = window-tail a 8 (8 * n) (rectBytes none) (rectsBytes (rectsAt n r (a + 8))) r refl m (rects-again n r (a + 8) (rw (k .kept) b) (rw (k .kept) (omega (arith, k .room)))) in
+    record { first = cc (k .first); rest = cc (k .rest) }
 
 pub take-ends : (bands at : ℕ) (r₀ r : List ℕ) (a left : ℕ) {z : Rect} → Taking bands at r₀ r a left → left ≤ 0 → z ≡ none → Took bands at r₀ z r
-take-ends bands at r₀ r a left k n e =
-    let t = take-end left a r (omega arith) e in
-    record { first = t .first ∙ k .first; rest = t .rest ∙ k .rest }
+unfolding rested restOwed firstOwed
+take-ends bands at r₀ r a left k n e = let z : left ≡ 0 = omega arith in record { first = cc (k .first); rest = cc (window-nothing a r, k .rest) }
 
 -- ---- STATE's test
-
-pub fits-turn : (w band lo left a : ℕ) (r : List ℕ) (ok : Bool) {q : Rect} {t : Bool} → 0 < left → q ≡ rectAt r a → t ≡ fits w lo (lo + band) q
-    → ((ok && t) && bandsFit w band (lo + band) (rectsAt (left - 1) r (a + 8))) ≡ (ok && bandsFit w band lo (rectsAt left r a))
-unfolding bandsFit
-fits-turn w band lo zero a r ok p e f = absurd (omega arith)
-fits-turn w band lo (suc n) a r ok {q} {t} p e f =
-    let z : suc n - 1 ≡ n = omega arith in
-    ap (λ (x : ℕ). (ok && t) && bandsFit w band (lo + band) (rectsAt x r (a + 8))) z
-    ∙ and-assoc ok t (bandsFit w band (lo + band) (rectsAt n r (a + 8)))
-    ∙ ap (λ (x : Bool). ok && (x && bandsFit w band (lo + band) (rectsAt n r (a + 8)))) (f ∙ ap (fits w lo (lo + band)) e)
-
-pub fits-end : (w band lo left a : ℕ) (r : List ℕ) (ok : Bool) → left ≡ 0 → (ok && bandsFit w band lo (rectsAt left r a)) ≡ ok
-unfolding bandsFit
-fits-end w band lo left a r ok e = ap (λ (x : ℕ). ok && bandsFit w band lo (rectsAt x r a)) e ∙ and-true ok
 
 -- where the loop stands
 pub record Testing (w band bands at : ℕ) (r : List ℕ) (ok : Bool) (a lo left : ℕ) : Type 0 where
@@ -210,12 +149,13 @@ test-starts w band bands at r h l = record { room = h; lines = omega arith; same
 
 pub test-goes : {w band bands at : ℕ} {r : List ℕ} {ok : Bool} {a lo left : ℕ} {q : Rect} {t : Bool} → Testing w band bands at r ok a lo left → 0 < left
     → q ≡ rectAt r a → t ≡ fits w lo (lo + band) q → Testing w band bands at r (ok && t) (a + 8) (lo + band) (left - 1)
-test-goes {w} {band} {r = r} {ok} {a} {lo} {left} k p e f = record {
-  room = omega (arith, k .room);
-  lines = lines-left lo band left 65535 p (k .lines);
-  same = fits-turn w band lo left a r ok p e f ∙ k .same;
-}
+unfolding bandsFit
+test-goes {left = zero} k p e f = absurd (omega arith)
+test-goes {w} {band} {r = r} {ok} {a} {lo} {left = suc n} {t = t} k p e f =
+    let z : suc n - 1 ≡ n = omega arith in
+    record { room = omega (arith, k .room); lines = lines-left lo band (suc n) 65535 p (k .lines); same = cc (and-assoc ok t (bandsFit w band (lo + band) (rectsAt n r (a + 8))), k .same) }
 
 pub test-ends : (w band bands at : ℕ) (r : List ℕ) (ok : Bool) (a lo left : ℕ) → Testing w band bands at r ok a lo left → left ≤ 0
     → ok ≡ bandsFit w band 0 (rectsAt bands r at)
-test-ends w band bands at r ok a lo left k z = sym (fits-end w band lo left a r ok (omega arith)) ∙ k .same
+unfolding bandsFit
+test-ends w band bands at r ok a lo left k z = let e : left ≡ 0 = omega arith in cc (and-true ok, k .same)

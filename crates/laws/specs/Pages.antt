@@ -57,22 +57,12 @@ module _ (rows columns : ℕ) where
       (λ f. let z = eqb-false (p .row + 1) rows f in
       record { wide = s .wide; text = s .text; flags = s .flags; row = omega (arith, s .row); room = omega arith }))
 
-  pub newline-scrolls : (p : Page) → newlineOn rows columns p .scrolls ≤ p .scrolls + 1
-  unfolding newlineOn scrollPage nextRow
-  newline-scrolls p =
-      if-cases (λ (q : Page). q .scrolls ≤ p .scrolls + 1) (eqb (p .column) 0) (λ e. omega arith)
-      (λ e. if-cases (λ (q : Page). q .scrolls ≤ p .scrolls + 1) (eqb (p .row + 1) rows) (λ f. omega arith) (λ f. omega arith))
-
   pub end-sheet : (p : Page) → Sheet rows columns 0 p → Sheet rows columns 1 (endRow rows columns p)
   unfolding endRow
   end-sheet p s =
       if-cases (Sheet rows columns 1) (eqb (p .column) columns) (λ e. newline-sheet 0 1 p (omega (arith, s .wide)) s)
       (λ e. let z = eqb-false (p .column) columns e in
       record { wide = s .wide; text = s .text; flags = s .flags; row = s .row; room = omega (arith, s .room) })
-
-  pub end-scrolls : (p : Page) → endRow rows columns p .scrolls ≤ p .scrolls + 1
-  unfolding endRow
-  end-scrolls p = if-cases (λ (q : Page). q .scrolls ≤ p .scrolls + 1) (eqb (p .column) columns) (λ e. newline-scrolls p) (λ e. omega arith)
 
   -- ---- print
 
@@ -103,12 +93,6 @@ module _ (rows columns : ℕ) where
         (λ e. let z = eqb-false (p .column + 1) columns e in
         record { wide = s .wide; text = s .text; flags = s .flags; row = s .row; room = omega (arith, s .room) }))
 
-    pub wrap-scrolls : (b : ℕ) (p : Page) → wrap rows columns v b p .scrolls ≤ p .scrolls + 1
-    unfolding wrap writeCell
-    wrap-scrolls b p =
-        if-cases (λ (q : Page). q .scrolls ≤ p .scrolls + 1) (leb 128 b && eqb (p .column + 1) columns)
-        (λ e. newline-scrolls (writeCell columns v space p)) (λ e. omega arith)
-
     pub byte-sheet : (b : ℕ) (p : Page) → Sheet rows columns 1 p → Sheet rows columns 1 (printByte rows columns v b p)
     unfolding printByte
     byte-sheet b p s = end-sheet (writeCell columns v b (wrap rows columns v b p)) (write-sheet 0 b (wrap rows columns v b p) (wrap-sheet b p s))
@@ -133,10 +117,4 @@ module _ (rows columns : ℕ) where
     print-sheet bs p s =
         let q = printBytes rows columns v bs p in
         let k = bytes-sheet bs p s in
-        record {
-          wide = k .wide;
-          text = length-clear (cellOf columns q) (q .text) ∙ k .text;
-          flags = k .flags;
-          row = k .row;
-          room = k .room;
-        }
+        record { wide = k .wide; text = length-clear (cellOf columns q) (q .text) ∙ k .text; flags = k .flags; row = k .row; room = k .room }

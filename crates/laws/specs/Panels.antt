@@ -12,7 +12,7 @@ use Rattle.model.specs.declared.Rect.{Rect}
 use Rattle.model.specs.declared.glass.Glass.{Glass}
 use Rattle.model.specs.Geometry.{Geometry, width, cells}
 use Rattle.model.specs.Glass.{geometry, IsGlass, Suits}
-use Rattle.model.specs.Memory.{window, withWindow}
+use Rattle.model.specs.Memory.{window}
 use Rattle.model.specs.Bytes.{rectsAt, rectBytes, rectsBytes, fourBytes}
 use Rattle.model.specs.Flags.{flagBytes}
 use Rattle.model.specs.Record.{head, panel, flags, tag, samePart, offset, panelsFrom, size, at, partIn, recordBytes, pendingBytes, Pending, State, decode, encode, bytesOfPending, partBytes, panelOf, nothingPending, withPanel, withPanels}
@@ -62,9 +62,7 @@ unfolding window partBytes
 from-panel g s k z h =
     let a = at g (panel k) in
     let r = encode g s in
-    sym (take-append-drop (pendingBytes g) (drop a r))
-    ∙ ap (λ (x : List ℕ). x ++ drop (pendingBytes g) (drop a r)) (part-encode g s z (panel k) (has-panel g k h))
-    ∙ ap (λ (x : List ℕ). bytesOfPending (panelOf g s k) ++ x) (drop-drop (pendingBytes g) a r)
+    cc (take-append-drop (pendingBytes g) (drop a r), part-encode g s z (panel k) (has-panel g k h), drop-drop (pendingBytes g) a r)
 
 pub length-owing : (g : Geometry) (m : Rect) (p : Pending) → length (owing g m p .owed) ≡ length (p .owed)
 unfolding owing
@@ -81,16 +79,14 @@ mark-panel g m s k l z c h b =
     let t = rectBytes (p .hand) ++ fourBytes (p .sent) in
     let rest = drop (a + pendingBytes g) r in
     let here : drop a r ≡ rectsBytes (p .owed) ++ (t ++ rest) = from-panel g s k z h ∙ append-assoc (rectsBytes (p .owed)) t rest in
-    let there : drop (a + 8 * n) r ≡ t ++ rest =
-    sym (drop-drop (8 * n) a r) ∙ ap (drop (8 * n)) here ∙ drop-at (rectsBytes (p .owed)) (t ++ rest) (8 * n) (length-rects (p .owed) ∙ ap (λ (x : ℕ). 8 * x) (z .owed k)) in
-    let owed : rectsAt n r a ≡ p .owed =
-    rects-at n r a ∙ ap (λ (x : List ℕ). rectsAt n x 0) here ∙ ap (λ (x : ℕ). rectsAt x (rectsBytes (p .owed) ++ (t ++ rest)) 0) (sym (z .owed k)) ∙ rects-back (p .owed) (t ++ rest) b in
+    let long : length (rectsBytes (p .owed)) ≡ 8 * n = cc (length-rects (p .owed), z .owed k) in
+    let there : drop (a + 8 * n) r ≡ t ++ rest = cc (drop-drop (8 * n) a r, drop-at (rectsBytes (p .owed)) (t ++ rest) (8 * n) long) in
+    let owed : rectsAt n r a ≡ p .owed = cc (rects-at n r a, z .owed k, rects-back (p .owed) (t ++ rest) b) in
     let new = joinOwed (width g) (g .band) 0 m (p .owed) in
     let count : length new ≡ n = length-joinOwed (width g) (g .band) 0 m (p .owed) ∙ z .owed k in
     let e : a + 8 * n + 12 ≡ a + pendingBytes g = omega arith in
-    ap (λ (x : List Rect). withWindow a (rectsBytes (joinOwed (width g) (g .band) 0 m x)) r) owed
-    ∙ sym (window-tail a (8 * n) 12 (rectsBytes new) t r (length-rects new ∙ ap (λ (x : ℕ). 8 * x) count) refl (ap (λ (x : ℕ). t ++ drop x r) e ∙ sym there))
-    ∙ put-panel g k (owing g m p) s l z h c count
+    let same = window-tail a (8 * n) 12 (rectsBytes new) t r (length-rects new ∙ ap (λ (x : ℕ). 8 * x) count) refl (cc) in
+    cc (put-panel g k (owing g m p) s l z h c count)
 
 -- ---- and to each of them, panel after panel
 
@@ -130,16 +126,11 @@ module _ (g : Geometry) (m : Rect) (l : IsGlass g) where
   -- a state with the mark joined to what each panel is owed
   pub marks-state : (s : State) → length (s .panels) ≡ g .panels → Sized g s → ((i : ℕ) → 0 ≤ i → i < g .panels → AllShort (panelOf g s i .owed))
       → markFrom g m 0 (g .panels) (encode g s) ≡ encode g (withPanels (map (owing g m) (s .panels)) s)
-  marks-state s c z b =
-      marks-from 0 (g .panels) s (omega arith) c z b
-      ∙ ap (λ (ps : List Pending). encode g (withPanels ps s))
-      (ap (λ (n : ℕ). each (owing g m) (nothingPending g) 0 n (s .panels)) (sym c) ∙ each-map (owing g m) (nothingPending g) [] (s .panels) 0 refl)
+  marks-state s c z b = cc (marks-from 0 (g .panels) s (omega arith) c z b, each-map (owing g m) (nothingPending g) [] (s .panels) 0 refl)
 
   -- the record with the mark joined to what each panel is owed
   pub marks-all : (r : List ℕ) → Passing g r → markFrom g m 0 (g .panels) r ≡ encode g (withPanels (map (owing g m) (decode g r .panels)) (decode g r))
-  marks-all r k =
-      ap (markFrom g m 0 (g .panels)) (sym (encode-decode g r k))
-      ∙ marks-state (decode g r) (count-decode g r) (sized-decode g r (k .sized)) short
+  marks-all r k = cc (encode-decode g r k, marks-state (decode g r) (count-decode g r) (sized-decode g r (k .sized)) short)
     where
       short : (i : ℕ) → 0 ≤ i → i < g .panels → AllShort (panelOf g (decode g r) i .owed)
       short i o h = rw (panel-decoded g r i h) (rects-short (g .bands) (partIn g (panel i) r) 0 (bytes-part g (panel i) r (k .bytes)))
@@ -193,16 +184,7 @@ unfolding markFrom
 mark-goes {v} {m} {r = r} {panels} {k} {a} {r′} z i h n e f =
     let c : panels - k ≡ suc (panels - (k + 1)) = omega arith in
     let g = geometry v in
-    record {
-      counted = i .counted;
-      some = omega arith;
-      sized = n ∙ i .sized;
-      same =
-          ap (λ (x : ℕ). markFrom g m x (panels - (k + 1)) r′) (add-one k)
-          ∙ ap (markFrom g m (suc k) (panels - (k + 1))) (f ∙ (λ x. joined (z .is-width x) (v .band) 0 m (v .bands) (e x) r))
-          ∙ ap (λ (x : ℕ). markFrom g m k x r) (sym c)
-          ∙ i .same;
-    }
+    record { counted = i .counted; some = omega arith; sized = n ∙ i .sized; same = cc (add-one k, z .is-width, i .same) }
 
 pub mark-ends : {v : Glass} {m : Rect} {r₀ r : List ℕ} {panels k : ℕ} → Marking v m r₀ r panels k → panels ≤ k → r ≡ markFrom (geometry v) m 0 (v .panels) r₀
 unfolding markFrom

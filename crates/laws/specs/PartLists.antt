@@ -53,8 +53,7 @@ other p q ps n h =
 pub written-same : (f f′ : RecordPart → List ℕ) (ps : List RecordPart) → ((p : RecordPart) → has p ps ≡ true → f p ≡ f′ p) → written f ps ≡ written f′ ps
 unfolding written has
 written-same f f′ [] e = refl
-written-same f f′ (p ∷ ps) e =
-    λ i. e p (or-left (has p ps) (same-self p)) i ++ written-same f f′ ps (λ q h. e q (or-right (samePart q p) h)) i
+written-same f f′ (p ∷ ps) e = λ i. e p (or-left (has p ps) (same-self p)) i ++ written-same f f′ ps (λ q h. e q (or-right (samePart q p) h)) i
 
 pub all-at : (t : RecordPart → Bool) (ps : List RecordPart) (p : RecordPart) → all t ps ≡ true → has p ps ≡ true → t p ≡ true
 unfolding all has
@@ -97,14 +96,8 @@ window-drop n i k r = ap (take k) (sym (drop-drop i n r))
 put-next : (n i : ℕ) (a b l : List ℕ) → length a ≡ n → withWindow (n + i) b (a ++ l) ≡ a ++ withWindow i b l
 unfolding withWindow
 put-next n i a b l e =
-    ap (λ (m : ℕ). take (m + i) (a ++ l) ++ (b ++ drop (m + i + length b) (a ++ l))) (sym e)
-    ∙ ap (λ (x : List ℕ). x ++ (b ++ drop (length a + i + length b) (a ++ l))) (take-append-add a l i)
-    ∙ ap (λ (m : ℕ). (a ++ take i l) ++ (b ++ drop m (a ++ l))) s
-    ∙ ap (λ (x : List ℕ). (a ++ take i l) ++ (b ++ x)) (drop-append-add a l (i + length b))
-    ∙ append-assoc a (take i l) (b ++ drop (i + length b) l)
-  where
-    s : length a + i + length b ≡ length a + (i + length b)
-    s = omega arith
+    let s : length a + i + length b ≡ length a + (i + length b) = omega arith in
+    cc (take-append-add a l i, drop-append-add a l (i + length b), append-assoc a (take i l) (b ++ drop (i + length b) l))
 
 module _ (n : RecordPart → ℕ) where
   -- the bytes of a part stand at its offset
@@ -127,20 +120,11 @@ module _ (n : RecordPart → ℕ) where
       let a = and-true (not (has p ps)) (distinct ps) d in
       let rest = written f ps in
       by-test (samePart q p)
-      (λ e. rw e (
-      ap (λ (x : RecordPart). withWindow 0 (f′ x) (f p ++ rest)) (same-part q p e)
-      ∙ append-window [] (f′ p) (f p ++ rest) 0 refl
-      ∙ ap (λ (x : List ℕ). f′ p ++ x) (drop-at (f p) rest (length (f′ p)) (s p ∙ sym (ap (λ (x : RecordPart). n x) (same-part q p e)) ∙ sym l ∙ ap (λ (x : RecordPart). length (f′ x)) (same-part q p e)))
-      ∙ ap (λ (x : List ℕ). f′ p ++ x) (written-same f f′ ps (λ x m. k x (differs x p q ps e (not-true (has p ps) (a .0)) m)))))
-      (λ e. rw e (
-      put-next (n p) (offset n q ps) (f p) (f′ q) rest (s p)
-      ∙ (λ i. k p e i ++ part-stored f f′ q ps s l k (rw e at h) (a .1) i)))
-    where
-      differs : (x p q : RecordPart) (ps : List RecordPart) → samePart q p ≡ true → has p ps ≡ false → has x ps ≡ true → samePart q x ≡ false
-      differs x p q ps e m h =
-          by-test (samePart q x)
-          (λ t. clash (has p ps) (ap (λ (y : RecordPart). has y ps) (sym (same-part q p e) ∙ same-part q x t) ∙ h) m)
-          (λ t. t)
+      (λ e. let same = same-part q p e in
+      let long : length (f p) ≡ length (f′ p) = cc (s p) in
+      let others = written-same f f′ ps (λ x m. k x (by-test (samePart q x) (λ t. clash (has p ps) (cc (same-part q x t)) (not-true (has p ps) (a .0))) (λ t. t))) in
+      rw e (cc (append-window [] (f′ p) (f p ++ rest) 0 refl, drop-at (f p) rest (length (f′ p)) long)))
+      (λ e. rw e (cc (put-next (n p) (offset n q ps) (f p) (f′ q) rest (s p), k p e, part-stored f f′ q ps s l k (rw e at h) (a .1))))
 
   -- a record is its parts, one after another
   pub parts-written : (r : List ℕ) (ps : List RecordPart) → distinct ps ≡ true → length r ≡ total n ps

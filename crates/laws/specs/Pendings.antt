@@ -157,8 +157,7 @@ idle-numbers p = go (isEmpty (takeOwed p .hand))
 
 lines-idle : (g : Geometry) (p : Pending) → WellPending g p → linesLeft p ≡ 0 → isEmpty (takeOwed p .hand) ≡ true
 unfolding linesLeft
-lines-idle g p f z =
-    by-test (isEmpty (takeOwed p .hand)) (λ e. e) (λ e. absurd (omega (arith, to-send g p f e, lines-take g p f)))
+lines-idle g p f z = by-test (isEmpty (takeOwed p .hand)) (λ e. e) (λ e. absurd (omega (arith, to-send g p f e, lines-take g p f)))
 
 pub idle-iff : (g : Geometry) (p : Pending) → WellPending g p → (sendNumbers p ≡ 0 ∷ 0 ∷ 0 ∷ 0 ∷ []) ↔ (linesLeft p ≡ 0)
 idle-iff g p f = (λ e. idle-lines g p f (idle-numbers p .0 e), λ z. idle-numbers p .1 (lines-idle g p f z))

@@ -22,7 +22,7 @@ use Rattle.model.specs.Marks.{drawn, drawnOn, within, owes}
 use Rattle.model.specs.Points.{pointOp, pixelRect, pointWrite, pointRect, point, isSet}
 use Rattle.laws.specs.Tests.{if-cases, by-test, by-lt, and-true}
 use Rattle.laws.specs.Pixels.{place-lt}
-use Rattle.laws.specs.Tables.{allBelow, every-at, or-is, and-is, flip-is, see-is}
+use Rattle.laws.specs.Tables.{every-at, or-is, and-is, flip-is, see-is}
 use Rattle.laws.specs.Rects.{fits-passes}
 use Rattle.laws.specs.Marks.{in-inside}
 use Rattle.laws.specs.Writes.{OwesItsMark}
@@ -57,27 +57,19 @@ point-byte Unknown b k hb hk = sym (withBit-own b (7 - k))
 pub plotted : (st x y : ℕ) (d : DrawMode) (s : List ℕ) {m v : ℕ} → Bytes s → m ≡ maskOf x → v ≡ pointByte d (getD s (place st x y) 0) m
     → set s (place st x y) v ≡ writePixel st s (pointWrite x y d)
 unfolding writePixel put bit Bytes
-plotted st x y d s {m} {v} h p q =
-    ap (set s (place st x y)) (q ∙ ap (pointByte d (getD s (place st x y) 0)) p ∙ point-byte d (getD s (place st x y) 0) (x % 8) (h (place st x y)) (omega arith))
+plotted st x y d s {m} {v} h p q = cc (point-byte d (getD s (place st x y) 0) (x % 8) (h (place st x y)) (omega arith))
 
 pub seen-bit : (st x y : ℕ) (s : List ℕ) {m : ℕ} → Bytes s → m ≡ maskOf x
     → not (eqb (bitAnd (getD s (place st x y) 0) m) 0) ≡ bit st s x y
 unfolding bit Bytes
-seen-bit st x y s {m} h p =
-    ap (λ (m : ℕ). not (eqb (bitAnd (getD s (place st x y) 0) m) 0)) p ∙ see-is (getD s (place st x y) 0) (x % 8) (h (place st x y)) (omega arith)
+seen-bit st x y s {m} h p = cc (see-is (getD s (place st x y) 0) (x % 8) (h (place st x y)) (omega arith))
 
 -- the code's table of masks
 abbrev pub masks : List ℕ
 masks = 128 ∷ 64 ∷ 32 ∷ 16 ∷ 8 ∷ 4 ∷ 2 ∷ 1 ∷ []
 
-abbrev mask-rule : ℕ → Bool
-mask-rule k = eqb (getD masks k 0) (128 / 2 ^ k)
-
-mask-all : allBelow 8 mask-rule ≡ true
-mask-all = refl
-
 pub mask-at : (x : ℕ) → getD masks (x % 8) 0 ≡ maskOf x
-mask-at x = eqb-true _ _ (every-at 8 mask-rule mask-all (x % 8) (omega arith))
+mask-at x = eqb-true _ _ (every-at 8 (λ k. eqb (getD masks k 0) (128 / 2 ^ k)) refl (x % 8) (omega arith))
 
 pub on-true : (st h x y : ℕ) → onScreen st h x y ≡ true → (x < 8 * st) × (y < h)
 unfolding onScreen
@@ -103,8 +95,7 @@ lowered-both st h {r} {m} {o} p q = let k : o ≡ lowered (8 * st) h r = q ∙ a
 -- a point's write lies in what it marks
 pub point-within : (st h x y : ℕ) (d : DrawMode) → within (pointRect st h x y) (seen st h (pointWrite x y d ∷ [])) ≡ true
 unfolding within seen pointRect
-point-within st h x y d =
-    by-test (onScreen st h x y) (λ e. rw (e, in-inside (pixelRect x y) x y (omega arith))) (λ e. rw e)
+point-within st h x y d = by-test (onScreen st h x y) (λ e. rw (e, in-inside (pixelRect x y) x y (omega arith))) (λ e. rw e)
 
 pub point-owes : (st h x y : ℕ) (d : DrawMode) → OwesItsMark st h (point st h x y d)
 unfolding point owes

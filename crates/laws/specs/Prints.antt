@@ -27,9 +27,7 @@ module _ (rows columns : ℕ) (v : Bool) where
       → printBytes rows columns v (drop i bs) p ≡ printBytes rows columns v (drop (i + 1) bs) (printByte rows columns v (getD bs i 0) p)
   byte-turn bs i p h e =
       let b = getD bs i 0 in
-      ap (λ (l : List ℕ). printBytes rows columns v l p) (drop-cons bs i 0 h)
-      ∙ alone b (drop (suc i) bs) p (last (and-false (leb 128 b) (ltb (i + 1) (length bs)) e))
-      ∙ ap (λ (k : ℕ). printBytes rows columns v (drop k bs) (printByte rows columns v b p)) (sym (add-one i))
+      cc (drop-cons bs i 0 h, alone b (drop (suc i) bs) p (last (and-false (leb 128 b) (ltb (i + 1) (length bs)) e)), add-one i)
     where
       last : (leb 128 (getD bs i 0) ≡ false) ⊎ (ltb (i + 1) (length bs) ≡ false) → (leb 128 (getD bs i 0) ≡ false) ⊎ (drop (suc i) bs ≡ [])
       last (inl f) = inl f
@@ -42,9 +40,7 @@ module _ (rows columns : ℕ) (v : Bool) where
       let a = and-true (leb 128 (getD bs i 0)) (ltb (i + 1) (length bs)) e in
       let l : i + 1 < length bs = ltb-true (i + 1) (length bs) (a .1) in
       let k : suc (i + 1) ≡ i + 2 = omega arith in
-      ap (λ (x : List ℕ). printBytes rows columns v x p)
-      (drop-cons bs i 0 (omega arith) ∙ ap (λ (n : ℕ). getD bs i 0 ∷ drop n bs) (sym (add-one i)) ∙ ap (λ (x : List ℕ). getD bs i 0 ∷ x) (drop-cons bs (i + 1) 0 l))
-      ∙ rw (a .0) (ap (λ (n : ℕ). printBytes rows columns v (drop n bs) (printPair rows columns v (getD bs i 0) (getD bs (i + 1) 0) p)) k)
+      cc (drop-cons bs i 0 (omega arith), add-one i, drop-cons bs (i + 1) 0 l, a .0)
 
   pub bytes-end : (bs : List ℕ) (i : ℕ) (p : Page) → length bs ≤ i → printBytes rows columns v (drop i bs) p ≡ p
   unfolding printBytes
@@ -69,8 +65,7 @@ pub until-turn : (n i : ℕ) (t : List ℕ) {b : Bool} → i < n → b ≡ cellW
 unfolding clearUntil
 until-turn n i t h e f =
     let k : n - i ≡ suc (n - (i + 1)) = omega arith in
-    ap (λ (j : ℕ). clearUntil (n - (i + 1)) j (set t i 0)) (add-one i)
-    ∙ sym (ap (λ (j : ℕ). clearUntil j i t) k ∙ rw (not-true (eqb (getD t i 0) 0) (sym e ∙ f)))
+    cc (add-one i, not-true (eqb (getD t i 0) 0) (sym e ∙ f))
 
 pub until-end : (n i : ℕ) (t : List ℕ) {b : Bool} → b ≡ cellWritten t i → b ≡ false → clearUntil n i t ≡ t
 unfolding clearUntil

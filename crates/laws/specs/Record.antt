@@ -5,10 +5,9 @@ use mathlib.Core.Bool.{Bool, true, false}
 use Prim.Native.Nat.{ℕ, zero, suc, _+_, _-_, _*_, _<_, _≤_}
 use native.Mathlib.Omega.{arith}
 use native.Mathlib.Nat.{add-zero, zero-add}
-use lib.Dec.{eqb}
 use lib.ListN.{length, getD, drop, length-append, length-replicate, drop-of-length-le}
 use lib.Seq.{drop-drop, drop-at, getD-set-same, getD-set-other, ext-getD}
-use borrow.Author.Tests.{ne-eqb, eq-eqb}
+use borrow.Author.Tests.{ne-eqb}
 use Rattle.model.specs.declared.Rect.{Rect}
 use Rattle.model.specs.declared.Head.{Head}
 use Rattle.model.specs.Geometry.{Geometry, width, height, rows, columns, cells, screenBytes}
@@ -112,15 +111,8 @@ head-again : (c : List ℕ) → Bytes c → length c ≡ 18 → bytesOfHead (hea
 unfolding Bytes
 head-again c b l = exact 18 (bytesOfHead (headOf c)) c (ap (λ (x : List ℕ). x ++ drop 18 c) (head-elements c b) ∙ elements-drop 18 0 c (omega arith)) l
 
-rects-whole : (n : ℕ) (c : List ℕ) → Bytes c → length c ≡ 8 * n → rectsBytes (rectsAt n c 0) ≡ c
-rects-whole n c b l =
-    exact (8 * n) (rectsBytes (rectsAt n c 0)) c
-    (ap (λ (k : ℕ). rectsBytes (rectsAt n c 0) ++ drop k c) (sym (zero-add (8 * n))) ∙ rects-again n c 0 b (omega arith)) l
-
 words-whole : (n : ℕ) (c : List ℕ) → Bytes c → length c ≡ 4 * n → wordsBytes (wordsAt n c 0) ≡ c
-words-whole n c b l =
-    exact (4 * n) (wordsBytes (wordsAt n c 0)) c
-    (ap (λ (k : ℕ). wordsBytes (wordsAt n c 0) ++ drop k c) (sym (zero-add (4 * n))) ∙ words-again n c 0 b (omega arith)) l
+words-whole n c b l = exact (4 * n) (wordsBytes (wordsAt n c 0)) c (cc (zero-add (4 * n), words-again n c 0 b (omega arith))) l
 
 pub pending-again : (g : Geometry) (r : List ℕ) (i : ℕ) → Bytes r → i + pendingBytes g ≤ length r
     → bytesOfPending (pendingOf g r i) ++ drop (i + pendingBytes g) r ≡ drop i r
@@ -128,18 +120,10 @@ pending-again g r i b h =
     let n = g .bands in
     let j = i + 8 * n in
     let e : i + pendingBytes g ≡ j + 8 + 4 = omega arith in
-    append-assoc (rectsBytes (rectsAt n r i)) (rectBytes (rectAt r j) ++ fourBytes (four r (j + 8))) (drop (i + pendingBytes g) r)
-    ∙ ap (λ (l : List ℕ). rectsBytes (rectsAt n r i) ++ l)
-    (append-assoc (rectBytes (rectAt r j)) (fourBytes (four r (j + 8))) (drop (i + pendingBytes g) r)
-    ∙ ap (λ (k : ℕ). rectBytes (rectAt r j) ++ (fourBytes (four r (j + 8)) ++ drop k r)) e
-    ∙ ap (λ (l : List ℕ). rectBytes (rectAt r j) ++ l) (four-again r (j + 8) b (omega arith))
-    ∙ rect-again r j b (omega arith))
-    ∙ rects-again n r i b (omega arith)
+    cc (append-assoc _ _ _, four-again r (j + 8) b (omega arith), rect-again r j b (omega arith), rects-again n r i b (omega arith))
 
 pub pending-whole : (g : Geometry) (c : List ℕ) → Bytes c → length c ≡ pendingBytes g → bytesOfPending (pendingOf g c 0) ≡ c
-pending-whole g c b l =
-    exact (pendingBytes g) (bytesOfPending (pendingOf g c 0)) c
-    (ap (λ (k : ℕ). bytesOfPending (pendingOf g c 0) ++ drop k c) (sym (zero-add (pendingBytes g))) ∙ pending-again g c 0 b (omega arith)) l
+pending-whole g c b l = exact (pendingBytes g) (bytesOfPending (pendingOf g c 0)) c (cc (zero-add (pendingBytes g), pending-again g c 0 b (omega arith))) l
 
 pub getD-listing : {A : Type 0} (f : ℕ → A) (k n i : ℕ) (d : A) → i < n → getD (listing f k n) i d ≡ f (k + i)
 unfolding listing
@@ -229,27 +213,13 @@ sized-decode g r l = record {
 }
 
 pub well-sized : (g : Geometry) (s : State) → WellFormed g s → Sized g s
-well-sized g s f = record {
-  owed = all-owed g s (f .count) (λ k h. f .panels k h .bands);
-  keys = f .words;
-  flags = f .flags;
-}
+well-sized g s f = record { owed = all-owed g s (f .count) (λ k h. f .panels k h .bands); keys = f .words; flags = f .flags }
 
 pub fits-short : (w lo hi : ℕ) (q : Rect) → w < 65536 → hi < 65536 → fits w lo hi q ≡ true → Short q
 fits-short w lo hi q hw hh e =
     either (passes-fits w lo hi q e)
-    (λ z. record {
-      left = rw z (omega arith);
-      top = rw z (omega arith);
-      right = rw z (omega arith);
-      bottom = rw z (omega arith);
-    })
-    (λ p. record {
-      left = omega (arith, p);
-      top = omega (arith, p);
-      right = omega (arith, p);
-      bottom = omega (arith, p);
-    })
+    (λ z. record { left = rw z (omega arith); top = rw z (omega arith); right = rw z (omega arith); bottom = rw z (omega arith) })
+    (λ p. record { left = omega (arith, p); top = omega (arith, p); right = omega (arith, p); bottom = omega (arith, p) })
 
 bands-short : (w band lo : ℕ) (qs : List Rect) → w < 65536 → lo + length qs * band < 65536 → bandsFit w band lo qs ≡ true → AllShort qs
 unfolding bandsFit
@@ -289,17 +259,8 @@ head-tells g h e =
 
 pub head-equal : {a b : Head} → a .graphics ≡ b .graphics → a .text ≡ b .text → a .row ≡ b .row → a .column ≡ b .column
     → a .screen ≡ b .screen → a .print ≡ b .print → a .cursor ≡ b .cursor → a .version ≡ b .version → a .dirty ≡ b .dirty → a ≡ b
-head-equal e1 e2 e3 e4 e5 e6 e7 e8 e9 = λ i. record {
-  graphics = e1 i;
-  text = e2 i;
-  row = e3 i;
-  column = e4 i;
-  screen = e5 i;
-  print = e6 i;
-  cursor = e7 i;
-  version = e8 i;
-  dirty = e9 i;
-}
+head-equal e1 e2 e3 e4 e5 e6 e7 e8 e9 =
+    λ i. record { graphics = e1 i; text = e2 i; row = e3 i; column = e4 i; screen = e5 i; print = e6 i; cursor = e7 i; version = e8 i; dirty = e9 i }
 
 -- each part back: its fields, written and read again
 
@@ -309,26 +270,20 @@ head-back g h e =
     head-equal (two-back (h .graphics) (omega (arith, n))) (two-back (h .text) (omega (arith, n))) refl refl refl refl refl refl
     (rect-back (h .dirty) [] (fits-short 256 0 256 (h .dirty) (omega arith) (omega arith) (n .dirty)))
 
-rects-again-read : (n : ℕ) (qs : List Rect) → length qs ≡ n → AllShort qs → rectsAt n (rectsBytes qs) 0 ≡ qs
-rects-again-read n qs e b =
-    ap (λ (k : ℕ). rectsAt k (rectsBytes qs) 0) (sym e) ∙ ap (λ (l : List ℕ). rectsAt (length qs) l 0) (sym (append-nil (rectsBytes qs)))
-    ∙ rects-back qs [] b
-
 pub pending-back : (g : Geometry) (p : Pending) → IsGlass g → WellPending g p → pendingOf g (bytesOfPending p) 0 ≡ p
 unfolding pendingFits
 pending-back g p k f =
     let n = g .bands in
     let rest = rectBytes (p .hand) ++ fourBytes (p .sent) in
     let t = and-true (bandsFit (width g) (g .band) 0 (p .owed)) (fits (width g) 0 (height g) (p .hand)) (f .passes) in
-    let z : 0 + 8 * n ≡ 8 * n = zero-add (8 * n) in
-    let here : drop (0 + 8 * n) (bytesOfPending p) ≡ rest =
-    ap (λ (i : ℕ). drop i (bytesOfPending p)) z ∙ drop-at (rectsBytes (p .owed)) rest (8 * n) (length-rects (p .owed) ∙ ap (λ (i : ℕ). 8 * i) (f .bands)) in
+    let long : length (rectsBytes (p .owed)) ≡ 8 * n = cc (length-rects (p .owed), f .bands) in
+    let here : drop (0 + 8 * n) (bytesOfPending p) ≡ rest = cc (zero-add (8 * n), drop-at (rectsBytes (p .owed)) rest (8 * n) long) in
     let there : drop (0 + 8 * n + 8) (bytesOfPending p) ≡ fourBytes (p .sent) = sym (drop-drop 8 (0 + 8 * n) (bytesOfPending p)) ∙ ap (drop 8) here in
+    let owed = rects-back (p .owed) rest (bands-short (width g) (g .band) 0 (p .owed) (omega (arith, k)) (rw (f .bands) (omega (arith, k))) (t .0)) in
+    let hand = rect-back (p .hand) (fourBytes (p .sent)) (fits-short (width g) 0 (height g) (p .hand) (omega (arith, k)) (omega (arith, k)) (t .1)) in
     λ i. record {
-      owed = (ap (λ (j : ℕ). rectsAt j (bytesOfPending p) 0) (sym (f .bands))
-          ∙ rects-back (p .owed) rest (bands-short (width g) (g .band) 0 (p .owed) (omega (arith, k)) (rw (f .bands) (omega (arith, k))) (t .0))) i;
-      hand = (rect-from (bytesOfPending p) (0 + 8 * n) ∙ ap (λ (l : List ℕ). rectAt l 0) here
-          ∙ rect-back (p .hand) (fourBytes (p .sent)) (fits-short (width g) 0 (height g) (p .hand) (omega (arith, k)) (omega (arith, k)) (t .1))) i;
+      owed = (ap (λ (j : ℕ). rectsAt j (bytesOfPending p) 0) (sym (f .bands)) ∙ owed) i;
+      hand = (rect-from (bytesOfPending p) (0 + 8 * n) ∙ ap (λ (l : List ℕ). rectAt l 0) here ∙ hand) i;
       sent = (four-from (bytesOfPending p) (0 + 8 * n + 8) ∙ ap (λ (l : List ℕ). four l 0) there ∙ four-back (p .sent) (f .counted)) i;
     }
 
@@ -339,10 +294,7 @@ listing-is f n l d e h =
 
 pub keys-back : (g : Geometry) (s : State) → Sized g s → Words (s .keys) → decode g (encode g s) .keys ≡ s .keys
 unfolding decode partBytes
-keys-back g s z k =
-    ap (λ (c : List ℕ). wordsAt 8 c 0) (part-encode g s z keys (has-keys g))
-    ∙ ap (λ (n : ℕ). wordsAt n (wordsBytes (s .keys)) 0) (sym (z .keys)) ∙ ap (λ (l : List ℕ). wordsAt (length (s .keys)) l 0) (sym (append-nil (wordsBytes (s .keys))))
-    ∙ words-back (s .keys) [] k
+keys-back g s z k = cc (part-encode g s z keys (has-keys g), z .keys, append-nil (wordsBytes (s .keys)), words-back (s .keys) [] k)
 
 pub decode-encode : (g : Geometry) (s : State) → IsGlass g → WellFormed g s → decode g (encode g s) ≡ s
 unfolding decode partBytes
@@ -359,60 +311,41 @@ decode-encode g s k f =
 
 -- ---- a store of one part: the bytes of the state with that part changed, and no other
 
--- t is s but for the part q
-abbrev pub But : Geometry → RecordPart → State → State → Type 0
-But g q s t = (p : RecordPart) → samePart q p ≡ false → partBytes g s p ≡ partBytes g t p
-
-pub put-part : (g : Geometry) (q : RecordPart) (s t : State) → IsGlass g → has q (layout g) ≡ true → Sized g s → length (partBytes g t q) ≡ size g q → But g q s t
-    → withWindow (at g q) (partBytes g t q) (encode g s) ≡ encode g t
-unfolding encode
-put-part g q s t l h z n k = part-stored (size g) (partBytes g s) (partBytes g t) q (layout g) (sizes g s z) n k h (l .apart)
+module _ (g : Geometry) (q : RecordPart) (s t : State) where
+  -- the bytes of the part q of t stored in the bytes of s, where the other parts of the two states are the same
+  pub put-part : IsGlass g → has q (layout g) ≡ true → Sized g s → length (partBytes g t q) ≡ size g q → (samePart q head ≡ false → s .head ≡ t .head)
+      → ((k : ℕ) → samePart q (panel k) ≡ false → panelOf g s k ≡ panelOf g t k) → (samePart q keys ≡ false → s .keys ≡ t .keys)
+      → (samePart q flags ≡ false → s .flags ≡ t .flags) → withWindow (at g q) (partBytes g t q) (encode g s) ≡ encode g t
+  unfolding encode partBytes
+  put-part l h z n a b c d = part-stored (size g) (partBytes g s) (partBytes g t) q (layout g) (sizes g s z) n but h (l .apart)
+    where
+      but : (p : RecordPart) → samePart q p ≡ false → partBytes g s p ≡ partBytes g t p
+      but head e = ap bytesOfHead (a e)
+      but (panel k) e = ap bytesOfPending (b k e)
+      but keys e = ap wordsBytes (c e)
+      but flags e = ap bytesOfFlags (d e)
 
 pub put-head : (g : Geometry) (h : Head) (s : State) → IsGlass g → Sized g s → withWindow 0 (bytesOfHead h) (encode g s) ≡ encode g (withHead h s)
 unfolding partBytes offset
-put-head g h s l z = put-part g head s (withHead h s) l (has-head g) z refl but
-  where
-    but : But g head s (withHead h s)
-    but head e = clash true refl e
-    but (panel k) e = refl
-    but keys e = refl
-    but flags e = refl
+put-head g h s l z = put-part g head s (withHead h s) l (has-head g) z refl (λ e. clash true refl e) (λ k e. refl) (λ e. refl) (λ e. refl)
 
 pub put-keys : (g : Geometry) (ks : List ℕ) (s : State) → IsGlass g → Sized g s → length ks ≡ 8 → withWindow (at g keys) (wordsBytes ks) (encode g s) ≡ encode g (withKeyWords ks s)
 unfolding partBytes
-put-keys g ks s l z n = put-part g keys s (withKeyWords ks s) l (has-keys g) z (length-words ks ∙ ap (λ (k : ℕ). 4 * k) n) but
-  where
-    but : But g keys s (withKeyWords ks s)
-    but head e = refl
-    but (panel k) e = refl
-    but keys e = clash true refl e
-    but flags e = refl
+put-keys g ks s l z n =
+    put-part g keys s (withKeyWords ks s) l (has-keys g) z (length-words ks ∙ ap (λ (k : ℕ). 4 * k) n) (λ e. refl) (λ k e. refl) (λ e. clash true refl e) (λ e. refl)
 
 pub put-flags : (g : Geometry) (fs : List Bool) (s : State) → IsGlass g → Sized g s → length fs ≡ cells g → withWindow (at g flags) (bytesOfFlags fs) (encode g s) ≡ encode g (withFlags fs s)
 unfolding partBytes
-put-flags g fs s l z n = put-part g flags s (withFlags fs s) l (has-flags g) z (length-flags fs ∙ n) but
-  where
-    but : But g flags s (withFlags fs s)
-    but head e = refl
-    but (panel k) e = refl
-    but keys e = refl
-    but flags e = clash true refl e
+put-flags g fs s l z n = put-part g flags s (withFlags fs s) l (has-flags g) z (length-flags fs ∙ n) (λ e. refl) (λ k e. refl) (λ e. refl) (λ e. clash true refl e)
 
 pub put-panel : (g : Geometry) (k : ℕ) (p : Pending) (s : State) → IsGlass g → Sized g s → k < g .panels → length (s .panels) ≡ g .panels → length (p .owed) ≡ g .bands
     → withWindow (at g (panel k)) (bytesOfPending p) (encode g s) ≡ encode g (withPanel k p s)
 unfolding partBytes
 put-panel g k p s l z h c n =
+    let here : panelOf g (withPanel k p s) k ≡ p = getD-set-same (s .panels) k p (nothingPending g) (omega arith) in
     ap (λ (q : Pending). withWindow (at g (panel k)) (bytesOfPending q) (encode g s)) (sym here)
-    ∙ put-part g (panel k) s (withPanel k p s) l (has-panel g k h) z (length-pending g (panelOf g (withPanel k p s) k) (ap (λ (q : Pending). length (q .owed)) here ∙ n)) but
-  where
-    here : panelOf g (withPanel k p s) k ≡ p
-    here = getD-set-same (s .panels) k p (nothingPending g) (omega arith)
-
-    but : But g (panel k) s (withPanel k p s)
-    but head e = refl
-    but (panel i) e = ap bytesOfPending (sym (getD-set-other (s .panels) k i p (nothingPending g) (λ q. absurd (clash (eqb (tag (panel k)) (tag (panel i))) (eq-eqb (tag (panel k)) (tag (panel i)) (omega arith)) e))))
-    but keys e = refl
-    but flags e = refl
+    ∙ put-part g (panel k) s (withPanel k p s) l (has-panel g k h) z (length-pending g (panelOf g (withPanel k p s) k) (rw here n)) (λ e. refl)
+    (λ i e. sym (getD-set-other (s .panels) k i p (nothingPending g) (λ q. omega (arith, tests)))) (λ e. refl) (λ e. refl)
 
 pub sized-panel : (g : Geometry) (k : ℕ) (p : Pending) (s : State) → Sized g s → k < length (s .panels) → length (p .owed) ≡ g .bands → Sized g (withPanel k p s)
 sized-panel g k p s z h n = record {

@@ -3,7 +3,7 @@ use mathlib.Core.Path.{_≡_, refl, sym, ap, ap₂, subst⁻¹, _∙_}
 use mathlib.Core.Bool.{Bool, true, false, not, xor, cond, _&&_, Bool·beq}
 use mathlib.Core.List.{List, [], _∷_, _++_}
 use Prim.Native.Nat.{ℕ, zero, suc, _+_, _-_, _*_, _/_, _≤_, _<_}
-use native.Mathlib.Nat.{mul-le-mul-left}
+use native.Mathlib.Nat.{add-zero, zero-add, suc-add, add-suc, mul-le-mul-left}
 use native.Mathlib.Omega.{arith}
 use lib.Bits.{bitAnd, bitXor, and-lt, xor-lt}
 use lib.ListN.{length, getD, set}
@@ -15,8 +15,8 @@ use Rattle.model.specs.Bytes.{Bytes}
 use Rattle.model.specs.Points.{pointOp, pointWrite}
 use Rattle.model.specs.Lines.{isUnknown, runOp, pixelRun}
 use Rattle.laws.specs.Tests.{clash, by-lt}
-use Rattle.laws.specs.Tables.{allBelow, every-at}
-use Rattle.laws.specs.Bytes.{Masked, same-bool, bitAt-and, bitAt-xor, bitAt-not, bytes-set}
+use Rattle.laws.specs.Tables.{same-bool, every-at}
+use Rattle.laws.specs.Bytes.{Masked, bitAt-and, bitAt-xor, bitAt-not, bytes-set}
 use Rattle.laws.specs.Masks.{Mask, startMask, endMask, start-mask, end-mask, both-masks, whole-mask, point-mask, run-equal, run-masked, run-draw}
 use Rattle.laws.specs.Writes.{draw-append, drawn-append, screen-draw}
 use Rattle.laws.specs.Points.{maskOf, seen-one, seen-none}
@@ -46,13 +46,10 @@ allOrNone false = 0
 unfoldable pub maskByte : DrawMode → ℕ → ℕ → ℕ
 maskByte d b m = bitXor (bitAnd b (255 - bitAnd m (allOrNone (clears d)))) (bitAnd m (allOrNone (flips d)))
 
-alike : (t : Bool) → allBelow 8 (λ k. Bool·beq (bitAt (allOrNone t) k) t) ≡ true
-unfolding bitAt
-alike true = refl
-alike false = refl
-
 alike-bit : (t : Bool) (k : ℕ) → k < 8 → bitAt (allOrNone t) k ≡ t
-alike-bit t k h = same-bool _ _ (every-at 8 (λ k. Bool·beq (bitAt (allOrNone t) k) t) (alike t) k h)
+unfolding bitAt
+alike-bit true k h = every-at 8 (bitAt 255) refl k h
+alike-bit false k h = same-bool _ _ (every-at 8 (λ k. Bool·beq (bitAt 0 k) false) refl k h)
 
 alike-small : (t : Bool) → allOrNone t < 256
 alike-small true = omega arith
@@ -136,8 +133,7 @@ beside-none st h x y d s o = seen-none st h x y d s (sym (off-beside st h x y o)
 -- two points of one line
 pub pair-drawn : (st h x₁ x₂ y : ℕ) (d : DrawMode) (s s₁ e : List ℕ) → s₁ ≡ draw st (seen st h (pointWrite x₁ y d ∷ [])) s
     → e ≡ draw st (seen st h (pointWrite x₂ y d ∷ [])) s₁ → e ≡ draw st (seen st h (pointWrite x₁ y d ∷ pointWrite x₂ y d ∷ [])) s
-pair-drawn st h x₁ x₂ y d s s₁ e k₁ k =
-    k ∙ ap (draw st (seen st h (pointWrite x₂ y d ∷ []))) k₁ ∙ sym (drawn-append st h (pointWrite x₁ y d ∷ []) (pointWrite x₂ y d ∷ []) s)
+pair-drawn st h x₁ x₂ y d s s₁ e k₁ k = cc (drawn-append st h (pointWrite x₁ y d ∷ []) (pointWrite x₂ y d ∷ []) s)
 
 pub pair-below : (st h x₁ x₂ y : ℕ) (d : DrawMode) (s : List ℕ) → h ≤ y → s ≡ draw st (seen st h (pointWrite x₁ y d ∷ pointWrite x₂ y d ∷ [])) s
 pair-below st h x₁ x₂ y d s o = pair-drawn st h x₁ x₂ y d s s s (below x₁) (below x₂)
@@ -148,14 +144,8 @@ pair-below st h x₁ x₂ y d s o = pair-drawn st h x₁ x₂ y d s s s (below x
 -- two runs that meet are one
 pub run-append : (x y n m : ℕ) (d : DrawMode) → pixelRun x y (n + m) d ≡ pixelRun x y n d ++ pixelRun (x + n) y m d
 unfolding pixelRun
-run-append x y zero m d =
-    let e : zero + m ≡ m = omega arith in
-    let f : x + zero ≡ x = omega arith in
-    rw (e, f)
-run-append x y (suc n) m d =
-    let e : suc n + m ≡ suc (n + m) = omega arith in
-    let f : x + suc n ≡ suc x + n = omega arith in
-    rw (e, f) (ap (λ (l : List PixelWrite). record { x = x; y = y; op = runOp d } ∷ l) (run-append (suc x) y n m d))
+run-append x y zero m d = rw (zero-add m, add-zero x)
+run-append x y (suc n) m d = cc (suc-add n m, add-suc x n, suc-add x n, run-append (suc x) y n m d)
 
 pub draw-run-append : (st x y z n m : ℕ) (d : DrawMode) (s : List ℕ) → x + n ≡ z → draw st (pixelRun z y m d) (draw st (pixelRun x y n d) s) ≡ draw st (pixelRun x y (n + m) d) s
 draw-run-append st x y z n m d s e =
@@ -185,14 +175,8 @@ bytes-end k to d s t h q = let l : to - k ≡ zero = omega arith in rw l at q
 
 pub bytes-append : (i n m : ℕ) (d : DrawMode) (s : List ℕ) → maskedBytes s i (n + m) d ≡ maskedBytes (maskedBytes s i n d) (i + n) m d
 unfolding maskedBytes
-bytes-append i zero m d s =
-    let e : zero + m ≡ m = omega arith in
-    let f : i + zero ≡ i = omega arith in
-    rw (e, f)
-bytes-append i (suc n) m d s =
-    let e : suc n + m ≡ suc (n + m) = omega arith in
-    let f : i + suc n ≡ suc i + n = omega arith in
-    rw (e, f) (bytes-append (suc i) n m d (masked s i 255 d))
+bytes-append i zero m d s = rw (zero-add m, add-zero i)
+bytes-append i (suc n) m d s = cc (suc-add n m, add-suc i n, suc-add i n, bytes-append (suc i) n m d (masked s i 255 d))
 
 bytes-masked : (s : List ℕ) (i m : ℕ) (d : DrawMode) → Bytes s → m < 256 → Bytes (masked s i m d)
 unfolding masked Bytes
@@ -207,11 +191,8 @@ bytes-run st h y k (suc n) d s r hs hy hk =
     let e : masked s (st * y + k) 255 d ≡ draw st (pixelRun (8 * k) y 8 d) s = mask-run st h y k (8 * k) (8 * (k + 1)) 255 8 d s r hs hy (omega arith) (whole-mask k) (omega arith) in
     let i : suc (st * y + k) ≡ st * y + suc k = omega arith in
     let l : 8 + 8 * n ≡ 8 * suc n = omega arith in
-    ap (λ (j : ℕ). maskedBytes (masked s (st * y + k) 255 d) j n d) i
-    ∙ bytes-run st h y (suc k) n d (masked s (st * y + k) 255 d) (screen-draw st h (pixelRun (8 * k) y 8 d) r e) (bytes-masked s (st * y + k) 255 d hs (omega arith)) hy (omega arith)
-    ∙ ap (draw st (pixelRun (8 * suc k) y (8 * n) d)) e
-    ∙ draw-run-append st (8 * k) y (8 * suc k) 8 (8 * n) d s (omega arith)
-    ∙ ap (λ (z : ℕ). draw st (pixelRun (8 * k) y z d) s) l
+    let rest = bytes-run st h y (suc k) n d (masked s (st * y + k) 255 d) (screen-draw st h (pixelRun (8 * k) y 8 d) r e) (bytes-masked s (st * y + k) 255 d hs (omega arith)) hy (omega arith) in
+    cc (draw-run-append st (8 * k) y (8 * suc k) 8 (8 * n) d s (omega arith))
 
 pub bytes-kept : (i n : ℕ) (d : DrawMode) (s : List ℕ) → Bytes s → Bytes (maskedBytes s i n d)
 unfolding maskedBytes
@@ -224,8 +205,7 @@ pub one-byte : (st h left right y : ℕ) (d : DrawMode) (s e : List ℕ) {a b : 
     → a ≡ startMask left → b ≡ endMask right → left / 8 ≡ right / 8 → e ≡ masked s (st * y + left / 8) (bitAnd a b) d
     → e ≡ draw st (pixelRun left y (suc (right - left)) d) s
 one-byte st h left right y d s e r hs o p q k w =
-    w ∙ ap₂ (λ (a b : ℕ). masked s (st * y + left / 8) (bitAnd a b) d) p q
-    ∙ mask-run st h y (left / 8) left (right + 1) _ (suc (right - left)) d s r hs (o .2) (omega arith) (both-masks left right k) (omega arith)
+    cc (mask-run st h y (left / 8) left (right + 1) _ (suc (right - left)) d s r hs (o .2) (omega arith) (both-masks left right k) (omega arith))
 
 pub many-bytes : (st h left right y : ℕ) (d : DrawMode) (s s₁ s₂ e : List ℕ) {a b : ℕ} → Screen st h s → Bytes s
     → (left ≤ right) × (right < 8 * st) × (y < h) → a ≡ startMask left → b ≡ endMask right → (left / 8 ≡ right / 8 → ⊥)
@@ -234,24 +214,19 @@ pub many-bytes : (st h left right y : ℕ) (d : DrawMode) (s s₁ s₂ e : List 
     → e ≡ masked s₂ (st * y + right / 8) b d
     → e ≡ draw st (pixelRun left y (suc (right - left)) d) s
 many-bytes st h left right y d s s₁ s₂ e {a} {b} r hs o p q k w₁ w₂ w₃ =
-    let l : left / 8 < right / 8 = omega arith in
     let n = 8 * (left / 8) + 8 - left in
     let m = right / 8 - (left / 8 + 1) in
     let v = suc (right - 8 * (right / 8)) in
-    let f₁ : s₁ ≡ masked s (st * y + left / 8) (startMask left) d = w₁ ∙ ap (λ (a : ℕ). masked s (st * y + left / 8) a d) p in
-    let g₁ : s₁ ≡ draw st (pixelRun left y n d) s
-    = f₁ ∙ mask-run st h y (left / 8) left (8 * (left / 8 + 1)) _ n d s r hs (o .2) (omega arith) (start-mask left) (omega arith) in
+    let f₁ : s₁ ≡ masked s (st * y + left / 8) (startMask left) d = cc in
+    let g₁ : s₁ ≡ draw st (pixelRun left y n d) s =
+    cc (mask-run st h y (left / 8) left (8 * (left / 8 + 1)) _ n d s r hs (o .2) (omega arith) (start-mask left) (omega arith)) in
     let hs₁ : Bytes s₁ = subst⁻¹ Bytes f₁ (bytes-masked s (st * y + left / 8) (startMask left) d hs (start-mask left .small)) in
     let i : st * y + left / 8 + 1 ≡ st * y + (left / 8 + 1) = omega arith in
     let j : st * y + right / 8 - (st * y + left / 8 + 1) ≡ m = omega arith in
-    let f₂ : s₂ ≡ maskedBytes s₁ (st * y + (left / 8 + 1)) m d = w₂ ∙ (λ u. maskedBytes s₁ (i u) (j u) d) in
-    let g₂ : s₂ ≡ draw st (pixelRun left y (n + 8 * m) d) s
-    = f₂ ∙ bytes-run st h y (left / 8 + 1) m d s₁ (screen-draw st h (pixelRun left y n d) r g₁) hs₁ (o .2) (omega arith)
-    ∙ ap (draw st (pixelRun (8 * (left / 8 + 1)) y (8 * m) d)) g₁ ∙ draw-run-append st left y (8 * (left / 8 + 1)) n (8 * m) d s (omega arith) in
+    let f₂ : s₂ ≡ maskedBytes s₁ (st * y + (left / 8 + 1)) m d = cc in
+    let g₂ : s₂ ≡ draw st (pixelRun left y (n + 8 * m) d) s =
+    cc (bytes-run st h y (left / 8 + 1) m d s₁ (screen-draw st h (pixelRun left y n d) r g₁) hs₁ (o .2) (omega arith), draw-run-append st left y (8 * (left / 8 + 1)) n (8 * m) d s (omega arith)) in
     let hs₂ : Bytes s₂ = subst⁻¹ Bytes f₂ (bytes-kept (st * y + (left / 8 + 1)) m d s₁ hs₁) in
     let t : (n + 8 * m) + v ≡ suc (right - left) = omega arith in
-    w₃ ∙ ap (λ (b : ℕ). masked s₂ (st * y + right / 8) b d) q
-    ∙ mask-run st h y (right / 8) (8 * (right / 8)) (right + 1) _ v d s₂ (screen-draw st h (pixelRun left y (n + 8 * m) d) r g₂) hs₂ (o .2) (omega arith) (end-mask right) (omega arith)
-    ∙ ap (draw st (pixelRun (8 * (right / 8)) y v d)) g₂
-    ∙ draw-run-append st left y (8 * (right / 8)) (n + 8 * m) v d s (omega arith)
-    ∙ ap (λ (z : ℕ). draw st (pixelRun left y z d) s) t
+    let last = mask-run st h y (right / 8) (8 * (right / 8)) (right + 1) _ v d s₂ (screen-draw st h (pixelRun left y (n + 8 * m) d) r g₂) hs₂ (o .2) (omega arith) (end-mask right) (omega arith) in
+    cc (draw-run-append st left y (8 * (right / 8)) (n + 8 * m) v d s (omega arith))

@@ -24,14 +24,8 @@ scroll-turn n i d l h e =
     let k : i < length s = simp length-drop (omega arith) in
     let m : length (take i s) ≡ i = length-take-le i s (omega arith) in
     let c : n + i ≡ i + n = omega arith in
-    let v : getD l (i + n) 0 ≡ getD s i 0 =
-    ap (λ (x : List ℕ). getD x (i + n) 0) e
-    ∙ ap (λ (x : ℕ). getD (take i s ++ drop i d) (x + n) 0) (sym m)
-    ∙ getD-append-add (take i s) (drop i d) n 0
-    ∙ getD-drop i d n 0
-    ∙ ap (λ (x : ℕ). getD d x 0) (sym c)
-    ∙ sym (getD-drop n d i 0) in
-    ap (λ (x : List ℕ). set x i (getD l (i + n) 0)) e ∙ ap (λ (x : ℕ). set (take i s ++ drop i d) i x) v ∙ copy-turn s d i k (omega arith)
+    let v : getD l (i + n) 0 ≡ getD s i 0 = cc (getD-append-add (take i s) (drop i d) n 0, getD-drop i d n 0, getD-drop n d i 0) in
+    cc (copy-turn s d i k (omega arith))
 
 -- all are moved, and zeros are put over the last n
 pub scroll-end : (n i : ℕ) (d l : List ℕ) → n ≤ length d → i ≡ length d - n → l ≡ scrolling n i d → withWindow i (zeros n) l ≡ scrolled n 0 d
@@ -39,10 +33,8 @@ unfolding scrolled zeros
 scroll-end n i d l h k e =
     let s = drop n d in
     let m : length s ≡ i = simp length-drop (omega arith) in
-    ap (withWindow i (zeros n)) (e ∙ ap (λ (x : List ℕ). x ++ drop i d) (take-all i s (omega arith)))
-    ∙ append-window s (zeros n) (drop i d) i m
-    ∙ ap (λ (x : List ℕ). s ++ (zeros n ++ x)) (drop-of-length-le (drop i d) {i = length (zeros n)} (rw (length-zeros n) (simp length-drop (omega arith))))
-    ∙ ap (λ (x : List ℕ). s ++ x) (append-nil (zeros n))
+    let gone = drop-of-length-le (drop i d) {i = length (zeros n)} (rw (length-zeros n) (simp length-drop (omega arith))) in
+    cc (take-all i s (omega arith), append-window s (zeros n) (drop i d) i m, append-nil (zeros n))
 
 pub length-scrolled : {A : Type 0} (n : ℕ) (a : A) (l : List A) → n ≤ length l → length (scrolled n a l) ≡ length l
 unfolding scrolled
@@ -61,11 +53,9 @@ unfolding scrolledTimes scrolled
 times-once zero k s h = rw zero-mul (sym (append-nil s))
 times-once (suc n) k s h =
     let e : k + n * k ≡ suc n * k = omega arith in
-    times-once n k (scrolled k 0 s) (rw (length-scrolled k 0 s (omega arith)) (omega arith))
-    ∙ ap (λ (x : List ℕ). x ++ replicate (n * k) 0) (drop-append-le (n * k) (drop k s) (replicate k 0) (simp length-drop (omega arith)) ∙ ap (λ (x : List ℕ). x ++ replicate k 0) (drop-drop (n * k) k s))
-    ∙ append-assoc (drop (k + n * k) s) (replicate k 0) (replicate (n * k) 0)
-    ∙ ap (λ (x : List ℕ). drop (k + n * k) s ++ x) (replicate-append-replicate k (n * k) 0)
-    ∙ ap (λ (x : ℕ). drop x s ++ replicate x 0) e
+    let rest = times-once n k (scrolled k 0 s) (rw (length-scrolled k 0 s (omega arith)) (omega arith)) in
+    let past = drop-append-le (n * k) (drop k s) (replicate k 0) (simp length-drop (omega arith)) in
+    cc (drop-drop (n * k) k s, append-assoc (drop (k + n * k) s) (replicate k 0) (replicate (n * k) 0), replicate-append-replicate {A = ℕ} k (n * k) 0)
 
 drop-zeros : (k m : ℕ) → drop k (zeros m) ≡ zeros (m - k)
 unfolding zeros
@@ -103,9 +93,4 @@ times-most n m k s h p =
     (λ l. let e : n ≡ m + (n - m) = omega arith in
     let f : m ≡ min n m = omega arith in
     let g : k ≤ m * k = rw (mul-comm m k) (le-mul-of-pos-right k p) in
-    ap (λ (x : ℕ). scrolledTimes x k s) e
-    ∙ times-add m (n - m) k s
-    ∙ ap (scrolledTimes (n - m) k) (times-once m k s (rw h (omega arith)) ∙ all-gone (m * k) s h)
-    ∙ blank-times (n - m) k (m * k) g
-    ∙ sym (all-gone (m * k) s h)
-    ∙ ap (λ (x : ℕ). scrolled (x * k) 0 s) f)
+    cc (times-add m (n - m) k s, times-once m k s (rw h (omega arith)), all-gone (m * k) s h, blank-times (n - m) k (m * k) g))

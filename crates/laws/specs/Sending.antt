@@ -13,7 +13,7 @@ use Rattle.model.specs.Glass.{geometry}
 use Rattle.model.specs.Memory.{withWindow}
 use Rattle.model.specs.Rects.{none, isEmpty}
 use Rattle.model.specs.Bytes.{rectAt, rectsAt, rectBytes, rectsBytes, four, fourBytes, Bytes}
-use Rattle.model.specs.Record.{panel, at, partIn, Pending, decode, encode, pendingOf, panelOf, nothingPending, withPanel, withPanels}
+use Rattle.model.specs.Record.{panel, at, Pending, decode, encode, pendingOf, panelOf, nothingPending, withPanel, withPanels}
 use Rattle.model.specs.Sends.{firstOwed, restOwed, takeOwed, nextLine, lineSent, sendPending}
 use Rattle.laws.specs.Tests.{by-test, either, clash}
 use Rattle.laws.specs.Rects.{Proper}
@@ -91,10 +91,7 @@ three : (a n : ℕ) (x y z d : List ℕ) → length x ≡ 8 * n → length y ≡
     → withWindow (a + 8 * n + 8) z (withWindow (a + 8 * n) y (withWindow a x d)) ≡ withWindow a (x ++ (y ++ z)) d
 three a n x y z d e f h =
     let l : a + 8 * n + 8 ≡ a + (8 * n + 8) = omega arith in
-    ap (withWindow (a + 8 * n + 8) z) (window-extend a (8 * n) x y d e h)
-    ∙ ap (λ (k : ℕ). withWindow k z (withWindow a (x ++ y) d)) l
-    ∙ window-extend a (8 * n + 8) (x ++ y) z d (omega (arith, length-append x y)) h
-    ∙ ap (λ (u : List ℕ). withWindow a u d) (append-assoc x y z)
+    cc (window-extend a (8 * n) x y d e h, window-extend a (8 * n + 8) (x ++ y) z d (omega (arith, length-append x y)) h, append-assoc x y z)
 
 -- ---- as the code goes, with the glass by value
 
@@ -103,12 +100,16 @@ module _ {v : Glass} {r : List ℕ} (k : ℕ) (w : Known v r) (h : k < v .panels
   pub panel-here : panelOf (geometry v) (decode (geometry v) r) k ≡ pendingOf (geometry v) r (at (geometry v) (panel k))
   panel-here = panel-decoded (geometry v) r k h ∙ pending-part (geometry v) r k
 
+  pub line-sent : {a : ℕ} {q : Rect} {r′ : List ℕ} → a ≡ at (geometry v) (panel k)
+      → InHand (geometry v) a r q r′ → q ≡ takeOwed (panelOf (geometry v) (decode (geometry v) r) k) .hand
+  line-sent e i = cc (i .hand, panel-here)
+
   -- what is in hand lies on the screen, so that a line can follow its top
   pub line-follows : {a : ℕ} {q : Rect} {r′ : List ℕ} → a ≡ at (geometry v) (panel k) → InHand (geometry v) a r q r′ → q .top < 65535
-  line-follows {a} e i =
+  line-follows e i =
       let g = geometry v in
       let p = panelOf g (decode g r) k in
-      rw (i .hand ∙ ap (λ (x : ℕ). takeOwed (pendingOf g r x) .hand) e ∙ ap (λ (x : Pending). takeOwed x .hand) (sym panel-here))
+      rw (line-sent e i)
       (either (hand-fits g (takeOwed p) (well-take g p (well-formed g r (w .passing) .panels k h))) (λ z. rw z (omega arith)) (λ z. omega (arith, z, w .suits .glass .high)))
 
   -- idle: the record stays
@@ -121,16 +122,11 @@ module _ {v : Glass} {r : List ℕ} (k : ℕ) (w : Known v r) (h : k < v .panels
       let p = panelOf g s k in
       let c = at g (panel k) in
       let room = panel-room v k (w .suits) h in
-      let hand : q ≡ takeOwed p .hand = i .hand ∙ ap (λ (x : ℕ). takeOwed (pendingOf g r x) .hand) e ∙ ap (λ (x : Pending). takeOwed x .hand) (sym panel-here) in
-      let none : isEmpty (takeOwed p .hand) ≡ true = ap isEmpty (sym hand) ∙ sym f ∙ y in
-      let n : length (rectsBytes (rectsAt (g .bands) r c)) ≡ 8 * g .bands = length-rects (rectsAt (g .bands) r c) ∙ ap (λ (x : ℕ). 8 * x) (length-rectsAt (g .bands) r c) in
-      i .owed ∙ ap (λ (x : ℕ). withWindow x (rectsBytes (takeOwed (pendingOf g r x) .owed)) r) e
-      ∙ ap (λ (x : Pending). withWindow c (rectsBytes (takeOwed x .owed)) r) (sym panel-here)
-      ∙ ap (λ (x : List Rect). withWindow c (rectsBytes x) r) (take-none p none ∙ ap (λ (x : Pending). x .owed) panel-here)
-      ∙ window-again c (8 * g .bands) (rectsBytes (rectsAt (g .bands) r c)) r n (rects-again (g .bands) r c (w .passing .bytes) (omega (arith, w .passing .sized)))
-      ∙ sym (encode-decode g r (w .passing))
-      ∙ ap (λ (l : List Pending). encode g (withPanels l s)) (sym (set-getD (s .panels) k (nothingPending g)))
-      ∙ ap (λ (x : Pending). encode g (withPanel k x s)) (sym (send-idle p none))
+      let none : isEmpty (takeOwed p .hand) ≡ true = cc (line-sent e i) in
+      let n : length (rectsBytes (rectsAt (g .bands) r c)) ≡ 8 * g .bands = cc (length-rects (rectsAt (g .bands) r c), length-rectsAt (g .bands) r c) in
+      let same = window-again c (8 * g .bands) (rectsBytes (rectsAt (g .bands) r c)) r n (rects-again (g .bands) r c (w .passing .bytes) (omega (arith, w .passing .sized))) in
+      let kept = ap (λ (l : List Pending). encode g (withPanels l s)) (set-getD (s .panels) k (nothingPending g)) in
+      cc (i .owed, panel-here, take-none p none, encode-decode g r (w .passing), send-idle p none)
 
   -- a line sent
   pub sends : {a : ℕ} {q n : Rect} {c : ℕ} {r′ s t : List ℕ} {u : Bool} → a ≡ at (geometry v) (panel k) → InHand (geometry v) a r q r′ → u ≡ isEmpty q → u ≡ false
@@ -143,30 +139,17 @@ module _ {v : Glass} {r : List ℕ} (k : ℕ) (w : Known v r) (h : k < v .panels
       let p = panelOf g st k in
       let d = at g (panel k) in
       let room = panel-room v k (w .suits) h in
-      let hand : q ≡ takeOwed p .hand = i .hand ∙ ap (λ (x : ℕ). takeOwed (pendingOf g r x) .hand) e ∙ ap (λ (x : Pending). takeOwed x .hand) (sym panel-here) in
-      let some : isEmpty (takeOwed p .hand) ≡ false = ap isEmpty (sym hand) ∙ sym f ∙ y in
+      let some : isEmpty (takeOwed p .hand) ≡ false = cc (line-sent e i) in
       let owed = takeOwed p .owed in
-      let count : length owed ≡ g .bands = length-taken p ∙ ap (λ (x : Pending). length (x .owed)) panel-here ∙ length-rectsAt (g .bands) r d in
-      let sent : c ≡ min (p .sent + 1) 4294967295 = j ∙ ap (λ (x : ℕ). min (four r (x + 8 * v .bands + 8) + 1) 4294967295) e ∙ ap (λ (x : Pending). min (x .sent + 1) 4294967295) (sym panel-here) in
-      let first : _ ≡ withWindow d (rectsBytes owed) r = i .owed ∙ ap (λ (x : ℕ). withWindow x (rectsBytes (takeOwed (pendingOf g r x) .owed)) r) e
-      ∙ ap (λ (x : Pending). withWindow d (rectsBytes (takeOwed x .owed)) r) (sym panel-here) in
-      t ∙ ap (withWindow (a + 8 * v .bands + 8) (fourBytes c)) (s ∙ ap (withWindow (a + 8 * v .bands) (rectBytes n)) first)
-      ∙ ap (λ (x : ℕ). withWindow (x + 8 * v .bands + 8) (fourBytes c) (withWindow (x + 8 * v .bands) (rectBytes n) (withWindow d (rectsBytes owed) r))) e
-      ∙ three d (v .bands) (rectsBytes owed) (rectBytes n) (fourBytes c) r (length-rects owed ∙ ap (λ (x : ℕ). 8 * x) count) refl (omega (arith, w .passing .sized))
-      ∙ ap (withWindow d (rectsBytes owed ++ (rectBytes n ++ fourBytes c))) (sym (encode-decode g r (w .passing)))
-      ∙ put-panel g k (record { owed = owed; hand = n; sent = c }) st (w .suits .glass) (sized-decode g r (w .passing .sized)) h (count-decode g r) count
-      ∙ (λ x. encode g (withPanel k (record { owed = owed; hand = (m ∙ ap nextLine hand) x; sent = sent x }) st))
-      ∙ ap (λ (x : Pending). encode g (withPanel k x st)) (send-line p some)
+      let count : length owed ≡ g .bands = cc (length-taken p, panel-here, length-rectsAt (g .bands) r d) in
+      let one = three d (v .bands) (rectsBytes owed) (rectBytes n) (fourBytes c) r (length-rects owed ∙ ap (λ (x : ℕ). 8 * x) count) refl (omega (arith, w .passing .sized)) in
+      let put = put-panel g k (record { owed = owed; hand = n; sent = c }) st (w .suits .glass) (sized-decode g r (w .passing .sized)) h (count-decode g r) count in
+      cc (i .owed, panel-here, line-sent e i, encode-decode g r (w .passing), send-line p some)
 
 -- the rectangle whose top line is sent, and the record
 pub record SentOn (v : Glass) (k : ℕ) (r : List ℕ) (q : Rect) (r′ : List ℕ) : Type 0 where
   pub line : q ≡ takeOwed (panelOf (geometry v) (decode (geometry v) r) k) .hand
   pub left : r′ ≡ encode (geometry v) (withPanel k (sendPending (panelOf (geometry v) (decode (geometry v) r) k)) (decode (geometry v) r))
-
-pub line-sent : {v : Glass} {r : List ℕ} (k : ℕ) → Known v r → k < v .panels → {a : ℕ} {q : Rect} {r′ : List ℕ} → a ≡ at (geometry v) (panel k)
-    → InHand (geometry v) a r q r′ → q ≡ takeOwed (panelOf (geometry v) (decode (geometry v) r) k) .hand
-line-sent {v} {r} k w h e i =
-    i .hand ∙ ap (λ (x : ℕ). takeOwed (pendingOf (geometry v) r x) .hand) e ∙ ap (λ (x : Pending). takeOwed x .hand) (sym (panel-here k w h))
 
 -- the line that is sent lies on the screen
 pub sent-proper : {v : Glass} {k : ℕ} {r : List ℕ} {q : Rect} {r′ : List ℕ} {t : Bool} → Known v r → k < v .panels → SentOn v k r q r′ → t ≡ isEmpty q → t ≡ false

@@ -70,9 +70,7 @@ module _ (p : Slope) (r : Rect) (x1 : ℕ) (at : ℕ → ℕ) (d : DrawMode)
   pub slope-box : (y1 : ℕ) → 0 < p .distMax → y1 ≡ at 0 → within r (slope p (suc (p .distMax)) x1 y1 0 0 d) ≡ true
   slope-box y1 o e =
       let q : x1 ≡ x1 + 0 = omega arith in
-      (λ i. within r (slope p (suc (p .distMax)) (q i) (e i) 0 0 d))
-      ∙ slope-within (suc (p .distMax)) 0 0 0 0 0 (omega arith)
-      (record { below = o; paid = omega arith }) (record { below = o; paid = omega arith })
+      cc (slope-within (suc (p .distMax)) 0 0 0 0 0 (omega arith) (record { below = o; paid = omega arith }) (record { below = o; paid = omega arith }))
 
 -- u steps of 255 are u steps back
 back : (y u : ℕ) → u ≤ y → y < 256 → (y + 255 * u) % 256 ≡ y - u

@@ -1,5 +1,5 @@
 -- Horizontals and fills draw Unknown as Xor: what is made of them is the same drawing in either mode.
-use mathlib.Core.Path.{_≡_, refl, ap, ap₂, _∙_}
+use mathlib.Core.Path.{_≡_, refl, ap, ap₂}
 use mathlib.Core.Bool.{true, false}
 use mathlib.Core.List.{List, _∷_, _++_}
 use Prim.Native.Nat.{ℕ, zero, suc}
@@ -50,12 +50,8 @@ solid-known Unknown k = absurd (clash true refl k)
 
 module _ (st h : ℕ) {k : DrawMode} (d : DrawMode) (s e : List ℕ) (same : k ≡ solid d) where
   pub horizontal-in : (left right y : ℕ) → e ≡ draw st (seen st h (horizontal st h left right y k)) s → e ≡ draw st (seen st h (horizontal st h left right y d)) s
-  horizontal-in left right y w =
-      w ∙ ap (λ (m : DrawMode). draw st (seen st h (horizontal st h left right y m)) s) same
-      ∙ ap (λ (l : List PixelWrite). draw st (seen st h l) s) (horizontal-solid st h left right y d)
+  horizontal-in left right y w = cc (horizontal-solid st h left right y d)
 
   pub filled-in : (left top right bottom : ℕ) → e ≡ draw st (seen st h (filledBox st h left top right bottom k)) s
       → e ≡ draw st (seen st h (filledBox st h left top right bottom d)) s
-  filled-in left top right bottom w =
-      w ∙ ap (λ (m : DrawMode). draw st (seen st h (filledBox st h left top right bottom m)) s) same
-      ∙ ap (λ (l : List PixelWrite). draw st (seen st h l) s) (filled-solid st h left top right bottom d)
+  filled-in left top right bottom w = cc (filled-solid st h left top right bottom d)

@@ -16,20 +16,9 @@ use Rattle.model.specs.Memory.{window}
 use Rattle.model.specs.Rects.{fits}
 use Rattle.model.specs.Bytes.{rectAt, rectsAt}
 use Rattle.model.specs.Flags.{flagBytes, flagsFit}
-use Rattle.model.specs.Record.{RecordPart, head, panel, keys, flags, recordBytes, samePart, has, all, layout, at, partIn, headOf, pendingOf, windows, headFits, bandsFit, pendingFits, partFits, valid}
-use Rattle.laws.specs.Tests.{by-eq, and-true}
-use Rattle.laws.specs.PartLists.{all-of, all-at}
-use Rattle.laws.specs.Record.{has-head, has-panel, panel-has, has-flags, part-in, length-part}
+use Rattle.model.specs.Record.{panelsFrom, panel, flags, recordBytes, all, at, partIn, headOf, pendingOf, windows, headFits, bandsFit, pendingFits, partFits, valid}
+use Rattle.laws.specs.Record.{has-flags, part-in, length-part}
 use Rattle.laws.specs.Windows.{head-part, pending-part}
-
--- two tests that pass together are one
-pub same-truth : (s t : Bool) → (s ≡ true → t ≡ true) → (t ≡ true → s ≡ true) → s ≡ t
-same-truth true t f g = sym (f refl)
-same-truth false true f g = g refl
-same-truth false false f g = refl
-
-and-yes : (s t : Bool) → s ≡ true → t ≡ true → (s && t) ≡ true
-and-yes s t e f = λ i. e i && f i
 
 and-last : (s : Bool) → (s && true) ≡ s
 and-last true = refl
@@ -41,52 +30,30 @@ unfoldable pub panelsFit : Geometry → List ℕ → ℕ → ℕ → Bool
 panelsFit g r k zero = true
 panelsFit g r k (suc n) = pendingFits g (pendingOf g r (at g (panel k))) && panelsFit g r (suc k) n
 
-panels-each : (g : Geometry) (r : List ℕ) (k n i : ℕ) → panelsFit g r k n ≡ true → k ≤ i → i < k + n → pendingFits g (pendingOf g r (at g (panel i))) ≡ true
-unfolding panelsFit
-panels-each g r k zero i e l u = absurd (omega arith)
-panels-each g r k (suc n) i e l u =
-    let p = and-true (pendingFits g (pendingOf g r (at g (panel k)))) (panelsFit g r (suc k) n) e in
-    by-eq i k
-    (λ z. ap (λ (j : ℕ). pendingFits g (pendingOf g r (at g (panel j)))) z ∙ p .0)
-    (λ z. panels-each g r (suc k) n i (p .1) (omega arith) (omega arith))
-
-each-panels : (g : Geometry) (r : List ℕ) (k n : ℕ) → ((i : ℕ) → k ≤ i → i < k + n → pendingFits g (pendingOf g r (at g (panel i))) ≡ true) → panelsFit g r k n ≡ true
-unfolding panelsFit
-each-panels g r k zero f = refl
-each-panels g r k (suc n) f =
-    and-yes (pendingFits g (pendingOf g r (at g (panel k)))) (panelsFit g r (suc k) n) (f k (omega arith) (omega arith)) (each-panels g r (suc k) n (λ i l u. f i (omega arith) (omega arith)))
+panels-all : (g : Geometry) (r : List ℕ) (k n : ℕ) → panelsFit g r k n ≡ all (λ p. partFits g p (partIn g p r)) (panelsFrom k n)
+unfolding panelsFit all partFits
+panels-all g r k zero = refl
+panels-all g r k (suc n) = λ i. pendingFits g (sym (pending-part g r k) i) && panels-all g r (suc k) n i
 
 -- ---- the whole
 
+-- the flags' test stands before those of the other panels
+flags-first : (a b c d : Bool) → ((a && (b && d)) && c) ≡ (a && (b && (c && d)))
+flags-first false b c d = refl
+flags-first true false c d = refl
+flags-first true true true d = and-last d
+flags-first true true false true = refl
+flags-first true true false false = refl
+
 pub valid-is : (g : Geometry) (r : List ℕ) {a b c : Bool} → IsGlass g → a ≡ headFits g (headOf r) → b ≡ panelsFit g r 0 (g .panels)
     → c ≡ flagsFit (cells g) (partIn g flags r) → ((a && b) && c) ≡ valid g r
-unfolding valid partFits
-valid-is g r {a} {b} {c} l fa fb fc = same-truth ((a && b) && c) (valid g r) there back
-  where
-    there : ((a && b) && c) ≡ true → all (λ p. partFits g p (partIn g p r)) (layout g) ≡ true
-    there h = all-of (λ p. partFits g p (partIn g p r)) (layout g) each
-      where
-        two : ((a && b) ≡ true) × (c ≡ true)
-        two = and-true (a && b) c h
-
-        one : (a ≡ true) × (b ≡ true)
-        one = and-true a b (two .0)
-
-        each : (p : RecordPart) → has p (layout g) ≡ true → partFits g p (partIn g p r) ≡ true
-        each head m = ap (headFits g) (head-part g r) ∙ sym fa ∙ one .0
-        each (panel k) m = ap (pendingFits g) (pending-part g r k) ∙ panels-each g r 0 (g .panels) k (sym fb ∙ one .1) (omega arith) (let u = panel-has g k (l .one) m in omega arith)
-        each keys m = refl
-        each flags m = sym fc ∙ two .1
-
-    back : all (λ p. partFits g p (partIn g p r)) (layout g) ≡ true → ((a && b) && c) ≡ true
-    back h =
-        and-yes _ c (and-yes a b
-        (fa ∙ ap (headFits g) (sym (head-part g r)) ∙ at-part head (has-head g))
-        (fb ∙ each-panels g r 0 (g .panels) (λ i o u. ap (pendingFits g) (sym (pending-part g r i)) ∙ at-part (panel i) (has-panel g i (omega arith)))))
-        (fc ∙ at-part flags (has-flags g))
-      where
-        at-part : (p : RecordPart) → has p (layout g) ≡ true → partFits g p (partIn g p r) ≡ true
-        at-part p m = all-at (λ q. partFits g q (partIn g q r)) (layout g) p h m
+unfolding valid partFits all panelsFit
+valid-is g r {a} {b} {c} l fa fb fc =
+    let n = g .panels - 1 in
+    let some : g .panels ≡ suc n = omega (arith, l .one) in
+    let first = pendingFits g (pendingOf g r (at g (panel 0))) in
+    let two : b ≡ (first && panelsFit g r 1 n) = cc in
+    cc (flags-first a first c (panelsFit g r 1 n), head-part g r, pending-part g r 0, panels-all g r 1 n)
 
 -- ---- as the code goes, with the glass by value
 
@@ -106,10 +73,7 @@ head-is v h z e f =
 pub pending-is : (v : Glass) (r : List ℕ) (k a : ℕ) {b t : Bool} {q : Rect} → Suits v → a ≡ at (geometry v) (panel k) → b ≡ bandsFit (v .width) (v .band) 0 (rectsAt (v .bands) r a)
     → q ≡ rectAt r (a + 8 * v .bands) → t ≡ fits (v .width) 0 (v .height) q → (b && t) ≡ pendingFits (geometry v) (pendingOf (geometry v) r (at (geometry v) (panel k)))
 unfolding pendingFits
-pending-is v r k a z e f g h =
-    λ i. (f ∙ (λ j. bandsFit (z .is-width j) (v .band) 0 (rectsAt (v .bands) r (e j)))) i
-    && (h ∙ ap (fits (v .width) 0 (v .height)) (g ∙ ap (λ (x : ℕ). rectAt r (x + 8 * v .bands)) e)
-    ∙ (λ j. fits (z .is-width j) 0 (z .is-height j) (rectAt r (at (geometry v) (panel k) + 8 * v .bands)))) i
+pending-is v r k a z e f g h = cc (z .is-width, z .is-height)
 
 -- where the loop over panels stands
 pub record Fitting (v : Glass) (r : List ℕ) (panels : ℕ) (ok : Bool) (k : ℕ) : Type 0 where
@@ -127,16 +91,7 @@ fit-goes {v} {r} {panels} {ok} {k} {t} i h e =
     let c : panels - k ≡ suc (panels - (k + 1)) = omega arith in
     let n = panels - (k + 1) in
     let g = geometry v in
-    record {
-      counted = i .counted;
-      some = omega arith;
-      same =
-          ap (λ (x : ℕ). (ok && t) && panelsFit g r x n) (add-one k)
-          ∙ and-assoc ok t (panelsFit g r (suc k) n)
-          ∙ ap (λ (x : Bool). ok && (x && panelsFit g r (suc k) n)) e
-          ∙ ap (λ (x : ℕ). ok && panelsFit g r k x) (sym c)
-          ∙ i .same;
-    }
+    record { counted = i .counted; some = omega arith; same = cc (add-one k, and-assoc ok t (panelsFit g r (suc k) n), i .same) }
 
 pub fit-ends : {v : Glass} {r : List ℕ} {panels : ℕ} {ok : Bool} {k : ℕ} → Fitting v r panels ok k → panels ≤ k → ok ≡ panelsFit (geometry v) r 0 (v .panels)
 unfolding panelsFit

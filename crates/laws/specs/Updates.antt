@@ -14,7 +14,7 @@ use Rattle.model.specs.Geometry.{Geometry, width, cells}
 use Rattle.model.specs.Glass.{geometry, canvas, Suits}
 use Rattle.model.specs.Memory.{withWindow}
 use Rattle.model.specs.Flags.{bytesOfFlags}
-use Rattle.model.specs.Record.{head, keys, flags, recordBytes, offset, partIn, Pending, State, decode, encode, bytesOfHead, panelOf, nothingPending, headFits, partFits, withHead, withPanels, withFlags, WellFormed}
+use Rattle.model.specs.Record.{head, keys, flags, recordBytes, offset, Pending, State, decode, encode, bytesOfHead, panelOf, nothingPending, headFits, partFits, withHead, withPanels, withFlags, WellFormed}
 use Rattle.model.specs.Rects.{none, isEmpty, join}
 use Rattle.model.specs.Marks.{whole, owing, withDirty, updateDirty, marked}
 use Rattle.model.specs.Open.{clearHead, clearFlags, resetState}
@@ -129,8 +129,7 @@ module _ {v : Glass} {r : List ℕ} (k : Known v r) {c : List ℕ}
   cleared : c ≡ bytesOfFlags (clearFlags (geometry v))
   cleared =
       let g = geometry v in
-      e ∙ ap (λ (n : ℕ). bytesOfFlags (replicate n false))
-      (ap length (flags-part v r (k .suits)) ∙ length-part g flags r (has-flags g) (k .passing .sized))
+      cc (flags-part v r (k .suits), length-part g flags r (has-flags g) (k .passing .sized))
 
   pub cleared-known : Known v (putMid (v .flags) (v .others - v .flags) r c)
   cleared-known = flags-known k (clearFlags (geometry v)) (length-no-flags (cells (geometry v))) cleared

@@ -56,11 +56,7 @@ pending-part g r k =
     let m = pendingBytes g in
     let e : a + (0 + 8 * g .bands) ≡ a + 8 * g .bands = omega arith in
     let f : a + (0 + 8 * g .bands + 8) ≡ a + 8 * g .bands + 8 = omega arith in
-    λ i. record {
-      owed = rects-part (g .bands) a m r (omega arith) i;
-      hand = (rect-window a m r (0 + 8 * g .bands) (omega arith) ∙ ap (rectAt r) e) i;
-      sent = (four-window a m r (0 + 8 * g .bands + 8) (omega arith) ∙ ap (four r) f) i;
-    }
+    cc (rects-part (g .bands) a m r (omega arith), rect-window a m r (0 + 8 * g .bands) (omega arith), four-window a m r (0 + 8 * g .bands + 8) (omega arith))
 
 pub head-part : (g : Geometry) (r : List ℕ) → headOf (partIn g head r) ≡ headOf r
 unfolding offset
