@@ -38,9 +38,6 @@ pub head-in : (g : Geometry) → 18 ≤ recordBytes g
 unfolding offset
 head-in g = let p = part-in g head (has-head g) in omega arith
 
-pub head-room : (v : Glass) (r : List ℕ) → Known v r → 18 ≤ length r
-head-room v r k = rw (k .passing .sized) (head-in (geometry v))
-
 -- the keys lie in the record
 pub keys-room : (v : Glass) → Suits v → v .keys + 32 ≤ recordBytes (geometry v)
 keys-room v z = let k = part-in (geometry v) keys (has-keys (geometry v)) in omega (arith, z .is-keys)
@@ -52,14 +49,6 @@ screen-small v z e = rw e (omega (arith, z .glass .cursor), omega (arith, z .is-
 
 pub whole-of : (v : Glass) {k : Canvas} → k ≡ canvas v → whole (k .stride) (k .height) ≡ whole (v .stride) (v .height)
 whole-of v e = ap (λ (x : Canvas). whole (x .stride) (x .height)) e
-
--- ---- another head
-
-pub sets-head : {v : Glass} {r : List ℕ} (n : Head) {s : List ℕ} → Known v r → s ≡ withWindow 0 (bytesOfHead n) r
-    → s ≡ encode (geometry v) (withHead n (decode (geometry v) r))
-sets-head {v} {r} n k e =
-    let g = geometry v in
-    e ∙ ap (withWindow 0 (bytesOfHead n)) (sym (encode-decode g r (k .passing))) ∙ put-head g n (decode g r) (k .suits .glass) (sized-decode g r (k .passing .sized))
 
 -- ---- what is marked, with another head
 
@@ -80,11 +69,6 @@ marks-head {v} {r} n d o {m} k f i j =
     j ∙ ap (withWindow 0 (bytesOfHead m)) (f ∙ marks-all g o (k .suits .glass) r (k .passing))
     ∙ put-head g m (withPanels (map (owing g o) (s .panels)) s) (k .suits .glass) (sized-marked g o s (sized-decode g r (k .passing .sized)) (count-decode g r))
     ∙ ap (λ (x : Head). encode g (withHead x (withPanels (map (owing g o) (s .panels)) s))) i
-
--- with the head that stands there
-pub marks-record : {v : Glass} {r : List ℕ} {h : Head} (d o : Rect) {t : List ℕ} → Known v r → h ≡ decode (geometry v) r .head
-    → t ≡ encode (geometry v) (marked (geometry v) d o (withHead h (decode (geometry v) r))) → t ≡ encode (geometry v) (marked (geometry v) d o (decode (geometry v) r))
-marks-record {v} {r} d o k e f = let g = geometry v in f ∙ ap (λ (x : Head). encode g (marked g d o (withHead x (decode g r)))) e
 
 -- an empty mark changes nothing
 pub unmarked : (g : Geometry) (r : List ℕ) → Passing g r → encode g (marked g none none (decode g r)) ≡ r

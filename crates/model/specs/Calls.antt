@@ -95,7 +95,7 @@ sentNumbers s = s .sent ∷ s .line ∷ s .left ∷ s .right ∷ []
 
 -- ---- what a call is lent
 
--- the record, to be written anew; the record alone; record and memory; with them the fonts, whose extra list is tested; with them the panel
+-- record and memory, whatever they hold; the record alone; record and memory; these and the fonts, whose extra list is tested; these and the panel
 pub data Lending : Type 0 where
   to-open : Lending
   record-only : Lending

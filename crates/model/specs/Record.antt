@@ -1,5 +1,5 @@
 -- The record: a list of parts, in the order in which they stand. Each part has its size, its reader, its writer and its STATE test; where a part begins, the
--- record's length, `decode`, `encode` and `valid` follow from the list. No other file knows an offset.
+-- record's length, `decode`, `encode` and `valid` follow from the list. No other file has an offset as a number.
 use mathlib.Core.Bool.{Bool, true, false, cond, _&&_, _||_, not}
 use mathlib.Core.List.{List, [], _∷_, _++_}
 use Prim.Native.Nat.{ℕ, zero, suc, _+_, _-_, _*_, _<_}

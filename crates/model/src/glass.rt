@@ -50,7 +50,7 @@ pub const GLYPH_HEIGHT: u8 = 16;
 
 pub const GLYPH_LINES: usize = 16;
 
-// Where a call has such an array of its own: the bytes of the text, and what a host lends.
+// Lengths of arrays: the text that a flush keeps, and the record and panel of a program that lends them.
 pub const TEXT_BYTES: usize = 100;
 
 pub const RECORD_BYTES: usize = 170;

@@ -87,7 +87,7 @@ pub enum CellKind {
     Code,
 }
 
-// What is shown at a spot: which of its byte and the next one, and how.
+// A spot, its byte and the next one, and how they are shown.
 pub struct Shown {
     pub spot: Spot,
     pub lead: u8,

@@ -22,12 +22,12 @@ use Rattle.laws.specs.Pixels.{length-draw}
 use Rattle.laws.specs.Memory.{length-withWindow, window-same}
 use Rattle.laws.specs.Marks.{AgreeOutside, owes-agrees, seen-on}
 use Rattle.order.specs.Formed.{head-formed}
-use Rattle.order.specs.Step.{Lendable, Step, old, screenIn, known, rewritten-step, screen-in, screen-long}
+use Rattle.order.specs.Step.{Lendable, Step, old, screenHeld, known, rewritten-step, screen-in, screen-long}
 
 module _ (g : Geometry) (k : ℕ) (there : k < g .panels) (l : Lent) (q : Lendable g l) where
   -- a new screen is written to memory, and the head that f makes; the screen agrees with the old one outside what is owed
   pub painted-step : (f : Head → Head) (dirty owed : Rect) (new : List ℕ) → headFits g (f (old g l .head)) ≡ true → f (old g l .head) .graphics ≡ old g l .head .graphics
-      → Fits 256 0 256 dirty → length new ≡ screenBytes g → AgreeOutside (g .stride) (height g) owed (screenIn g l) new
+      → Fits 256 0 256 dirty → length new ≡ screenBytes g → AgreeOutside (g .stride) (height g) owed (screenHeld g l) new
       → Step g k l (marks owed) (lent (encode g (marked g dirty owed (withHead (f (old g l .head)) (old g l)))) (withScreen (old g l .head .graphics) new (l .memory)) (l .panel))
   painted-step f dirty owed new h b d long a =
       let s = old g l in
@@ -43,9 +43,9 @@ module _ (g : Geometry) (k : ℕ) (there : k < g .panels) (l : Lent) (q : Lendab
   unfolding drawingWith drawnOn
   drawing-with f d h b e =
       let ws = seen (g .stride) (height g) (d .writes) in
-      painted-step f (d .dirty) (owes (g .stride) (height g) (d .owed) ws) (draw (g .stride) ws (screenIn g l)) h b (passes-fits 256 0 256 (d .dirty) e)
-      (length-draw (g .stride) ws (screenIn g l) ∙ screen-long g (q .passing .glass) (old g l .head) (known g l q .head) (l .memory) (q .memory))
-      (owes-agrees (g .stride) (height g) (d .owed) ws (screenIn g l) (seen-on (g .stride) (height g) (d .writes)))
+      painted-step f (d .dirty) (owes (g .stride) (height g) (d .owed) ws) (draw (g .stride) ws (screenHeld g l)) h b (passes-fits 256 0 256 (d .dirty) e)
+      (length-draw (g .stride) ws (screenHeld g l) ∙ screen-long g (q .passing .glass) (old g l .head) (known g l q .head) (l .memory) (q .memory))
+      (owes-agrees (g .stride) (height g) (d .owed) ws (screenHeld g l) (seen-on (g .stride) (height g) (d .writes)))
 
   pub drawing-step : (d : Drawing) → fits 256 0 256 (d .dirty) ≡ true → Step g k l (draws g d) (drawing g d l)
   drawing-step d e = drawing-with (λ h. h) d (known g l q .head) refl e

@@ -28,9 +28,9 @@ use Rattle.laws.specs.Pendings.{well-open}
 use Rattle.order.specs.Formed.{bases-fit, head-formed, owing-formed}
 use Rattle.order.specs.Step.{Lendable, Step, old, known, stored, marks-step}
 
-pub length-clear : (keys : List ℕ) → length (clearMemory keys) ≡ memoryBytes
+pub length-clear-memory : (keys : List ℕ) → length (clearMemory keys) ≡ memoryBytes
 unfolding clearMemory
-length-clear keys =
+length-clear-memory keys =
     length-withKeys keys 256 (set (zeros memoryBytes) 65535 64) ∙ length-set (zeros memoryBytes) 65535 64 ∙ length-zeros memoryBytes
 
 clear-fits : (g : Geometry) → IsGlass g → (graphics text version : ℕ) → windows g graphics text ≡ true → leb version 1 ≡ true
@@ -57,7 +57,7 @@ pub open-step : (g : Geometry) (k : ℕ) → k < g .panels → IsGlass g → (gr
     → length keys ≡ 8 → Words keys → length (l .panel) ≡ screenBytes g → Step g k l opens (lent (encode g (openState g graphics text version keys)) (clearMemory keys) (l .panel))
 unfolding openState affected
 open-step g k there z graphics text version keys l a b n ws p =
-    stored g k z l opens (openState g graphics text version keys) (clearMemory keys) (l .panel) (open-formed g z graphics text version keys a b n ws) (length-clear keys) p
+    stored g k z l opens (openState g graphics text version keys) (clearMemory keys) (l .panel) (open-formed g z graphics text version keys a b n ws) (length-clear-memory keys) p
     (record { pending = getD-replicate (g .panels) k (openPending g) (nothingPending g) there; panel = refl; screen = whole-agrees (g .stride) (height g) _ _ })
 
 pub reset-step : (g : Geometry) (k : ℕ) → k < g .panels → (l : Lent) → Lendable g l
@@ -74,4 +74,4 @@ reset-step g k there l q =
     (head-formed g owed (owing-formed g s w m) (clearHead (h .graphics) (h .text) (h .version))
     (clear-fits g (q .passing .glass) (h .graphics) (h .text) (h .version) (bases-fit g h (w .head)) (le-leb (h .version) 1 (head-tells g h (w .head) .version))))
     (length-no-flags (cells g)))
-    (length-clear (s .keys)) refl refl (whole-agrees (g .stride) (height g) _ _)
+    (length-clear-memory (s .keys)) refl refl (whole-agrees (g .stride) (height g) _ _)

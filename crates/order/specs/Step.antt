@@ -33,8 +33,8 @@ pub record Lendable (g : Geometry) (l : Lent) : Type 0 where
 abbrev pub old : Geometry → Lent → State
 old g l = decode g (l .rec)
 
-abbrev pub screenIn : Geometry → Lent → List ℕ
-screenIn g l = screenOf g (old g l .head .graphics) (l .memory)
+abbrev pub screenHeld : Geometry → Lent → List ℕ
+screenHeld g l = screenOf g (old g l .head .graphics) (l .memory)
 
 -- the state of panel k, where the panel that is lent is that one
 abbrev pub viewOf : Geometry → ℕ → State → List ℕ → List ℕ → PanelState
@@ -70,7 +70,7 @@ module _ (g : Geometry) (k : ℕ) where
   -- a mark is owed to each panel, and pixels change in it alone
   pub marks-step : k < g .panels → (l : Lent) (q : Lendable g l) (r : Rect) (s : State) (m : List ℕ) → WellFormed g s → length m ≡ memoryBytes
       → s .head .graphics ≡ old g l .head .graphics → s .panels ≡ map (owing g r) (old g l .panels)
-      → AgreeOutside (g .stride) (height g) r (screenIn g l) (screenOf g (old g l .head .graphics) m) → Step g k l (marks r) (lent (encode g s) m (l .panel))
+      → AgreeOutside (g .stride) (height g) r (screenHeld g l) (screenOf g (old g l .head .graphics) m) → Step g k l (marks r) (lent (encode g s) m (l .panel))
   unfolding affected
   marks-step there l q r s m w hm b e a =
       stored (q .passing .glass) l (marks r) s m (l .panel) w hm (q .panel)
@@ -83,7 +83,7 @@ module _ (g : Geometry) (k : ℕ) where
   -- another state and memory, marked: pixels change in what is owed alone
   pub rewritten-step : k < g .panels → (l : Lent) → Lendable g l → (dirty owed : Rect) (s : State) (m : List ℕ) → WellFormed g s → length m ≡ memoryBytes
       → s .head .graphics ≡ old g l .head .graphics → s .panels ≡ old g l .panels → Fits 256 0 256 dirty
-      → AgreeOutside (g .stride) (height g) owed (screenIn g l) (screenOf g (old g l .head .graphics) m)
+      → AgreeOutside (g .stride) (height g) owed (screenHeld g l) (screenOf g (old g l .head .graphics) m)
       → Step g k l (marks owed) (lent (encode g (marked g dirty owed s)) m (l .panel))
   unfolding marked updateDirty
   rewritten-step there l q dirty owed s m w hm b e f a =

@@ -30,7 +30,7 @@ use Rattle.laws.specs.Marks.{AgreeOutside, whole-agrees}
 use Rattle.laws.specs.Pages.{Sheet}
 use Rattle.laws.specs.Texts.{row-room, page-sheet as sheet-of}
 use Rattle.order.specs.Formed.{bases-fit, row-fits, column-fits, screen-fits, head-formed}
-use Rattle.order.specs.Step.{Lendable, Step, old, screenIn, known, rewritten-step, screen-in, text-in}
+use Rattle.order.specs.Step.{Lendable, Step, old, screenHeld, known, rewritten-step, screen-in, text-in}
 use Rattle.order.specs.Draws.{whole-fits}
 
 module _ (g : Geometry) (l : Lent) (q : Lendable g l) where
@@ -62,7 +62,7 @@ module _ (g : Geometry) (l : Lent) (q : Lendable g l) where
       (λ e. inl (leb-true (s .head .graphics + screenBytes g) (s .head .text) e))
       (λ e. inr (leb-true (s .head .text + cells g) (s .head .graphics) e))
 
-  screen-stays : (t : List ℕ) → length t ≡ cells g → screenOf g (s .head .graphics) (withText (s .head .text) t (l .memory)) ≡ screenIn g l
+  screen-stays : (t : List ℕ) → length t ≡ cells g → screenOf g (s .head .graphics) (withText (s .head .text) t (l .memory)) ≡ screenHeld g l
   screen-stays t n = window-other (s .head .text) t (l .memory) (s .head .graphics) (screenBytes g) (rw n text-room) (rw n apart)
 
   -- a place on the page
@@ -104,7 +104,7 @@ module _ (g : Geometry) (l : Lent) (q : Lendable g l) where
 
   -- a screen that scrolls is owed whole, another stays
   scroll-agrees : (n : ℕ) (t : List ℕ) → length t ≡ cells g
-      → AgreeOutside (g .stride) (height g) (scrollMark (g .stride) (height g) n) (screenIn g l)
+      → AgreeOutside (g .stride) (height g) (scrollMark (g .stride) (height g) n) (screenHeld g l)
       (screenOf g (s .head .graphics) (scrolledMemory g (s .head .graphics) n (withText (s .head .text) t (l .memory))))
   unfolding scrollMark scrolledMemory scrolledTimes
   scroll-agrees n t e =

@@ -23,7 +23,7 @@ use Rattle.laws.specs.States.{well-formed}
 use Rattle.order.specs.Formed.{marked-formed}
 use Rattle.order.specs.Step.{screen-in, screen-long}
 use Rattle.pictures.specs.Picture.{Unmarked, Drew, withMarks, graphicsIn, screenIn}
-use Rattle.pictures.specs.Writes.{pictured, changed}
+use Rattle.pictures.specs.Writes.{pictured, pictured-changed}
 
 -- what a drawing owes on the screen
 abbrev pub owedBy : Drawing → Rect
@@ -102,7 +102,7 @@ module _ (l : Lent) (u : Unmarked l) where
         numbers = refl;
         dirty = ap (λ (z : State). z .head .dirty) (left-state d dirty owed f e o);
         owed = ap (λ (z : State). panelOf base z 0 .owed) (left-state d dirty owed f e o);
-        pixels = rw screen (changed (seen 20 80 (d .writes)) ps (screenIn l) long p);
+        pixels = rw screen (pictured-changed (seen 20 80 (d .writes)) ps (screenIn l) long p);
         rec = left-rec d dirty owed f e o;
         memory = ap (λ (z : List ℕ). withScreen (graphicsIn l) z (l .memory)) (sym screen);
         panel = refl;

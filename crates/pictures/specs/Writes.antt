@@ -148,9 +148,9 @@ each ws (p ∷ ps) s n o k e =
     let q = and-true (alike (made ws (p .x) (p .y)) (p .op)) (eachMade ws ps) e in
     (draw-made 20 80 ws s (p .x) (p .y) n o (k .0 .0) ∙ alike-same (made ws (p .x) (p .y)) (p .op) (q .0) (bit 20 s (p .x) (p .y)), each ws ps s n o (k .1) (q .1))
 
-pub changed : (ws ps : List PixelWrite) (s : List ℕ) → length s ≡ 1600 → pictured ws ps ≡ true → Changed ps s (draw 20 ws s)
+pub pictured-changed : (ws ps : List PixelWrite) (s : List ℕ) → length s ≡ 1600 → pictured ws ps ≡ true → Changed ps s (draw 20 ws s)
 unfolding pictured
-changed ws ps s n e =
+pictured-changed ws ps s n e =
     let p = and-true (allOn ws && allOn ps) (eachMade ws ps && othersKept ws ps ws) e in
     let q = and-true (allOn ws) (allOn ps) (p .0) in
     let r = and-true (eachMade ws ps) (othersKept ws ps ws) (p .1) in
