@@ -12,7 +12,7 @@ use Rattle.model.specs.declared.Head.{Head}
 use Rattle.model.specs.declared.Marks.{Marks}
 use Rattle.model.specs.declared.glass.Glass.{Glass}
 use Rattle.model.specs.Geometry.{Geometry, height, rows, columns, cells, screenBytes}
-use Rattle.model.specs.Glass.{geometry, canvas}
+use Rattle.model.specs.Glass.{geometry, canvas, Suits}
 use Rattle.model.specs.Memory.{window, withWindow}
 use Rattle.model.specs.Flags.{flagBytes, flagsIn}
 use Rattle.model.specs.Record.{flags, decode, encode, withHead}
@@ -21,7 +21,7 @@ use Rattle.model.specs.Glyphs.{Fonts, fontsFit, paint}
 use Rattle.model.specs.Flush.{textStores, flushStores, clearedInText, flushed}
 use Rattle.model.specs.Calls.{flush, lent, answered, done}
 use Rattle.laws.specs.Tests.{if-cases}
-use Rattle.laws.specs.Parts.{part-back}
+use Rattle.laws.specs.Parts.{part-window, part-back}
 use Rattle.laws.specs.Loops.{length-zeros}
 use Rattle.laws.specs.Glyphs.{length-paint}
 use Rattle.laws.specs.StateTest.{flags-part}
@@ -38,12 +38,11 @@ use Rattle.accepted.proofs.Drawing.{screenPart, textPart, flagsPart, sc
 pub glyphs-tested : (g : Geometry) (r m : List ℕ) (f : Fonts) → fontsFit (flushStores g f (decode g r) m) ≡ glyphsFit g m (decode g r .head) f
 glyphs-tested g r m f = let h = decode g r .head in text-fits (columns g) (rows g) (window (h .text) (cells g) m) (decode g r .flags) (h .version) f
 
-module _ {v : Glass} {r : List ℕ} {h : Head} {m : List ℕ} (w : Given v r h m) where
-  pub glyphs-are : (f : Fonts) {x : List ℕ} → x ≡ textPart v h m → textFits (v .columns) (v .rows) x (h .version) f ≡ glyphsFit (geometry v) m h f
-  glyphs-are f e =
-      let z = w .known .suits in
-      λ i. textFits (z .is-columns i) (z .is-rows i) ((e ∙ text-is w) i) (h .version) f
+pub glyphs-are : {v : Glass} (h : Head) (m : List ℕ) (f : Fonts) {x : List ℕ} → Suits v → x ≡ textPart v h m → textFits (v .columns) (v .rows) x (h .version) f ≡ glyphsFit (geometry v) m h f
+glyphs-are {v} h m f z e =
+    λ i. textFits (z .is-columns i) (z .is-rows i) ((e ∙ part-window (h .text) (v .cells) m ∙ ap (λ (n : ℕ). window (h .text) n m) (z .is-cells)) i) (h .version) f
 
+module _ {v : Glass} {r : List ℕ} {h : Head} {m : List ℕ} (w : Given v r h m) where
   -- as many flags as cells
   pub flags-counted : length (flagsPart v r) ≡ flagBytes (v .rows * v .columns)
   flags-counted = let z = w .known .suits in flags-length w ∙ (λ i. flagBytes (sym (z .is-rows) i * sym (z .is-columns) i))

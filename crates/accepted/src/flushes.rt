@@ -10,8 +10,9 @@ use record::update;
 ghost use mathlib.Core.Bool.{true};
 ghost use mathlib.Core.List.{[]};
 ghost use mathlib.Core.Path.{_≡_};
-ghost use Prim.Native.Nat.{_≤_};
-ghost use Rattle.model.specs.Glass.{geometry};
+ghost use Prim.Native.Nat.{_+_, _≤_};
+ghost use lib.ListN.{length};
+ghost use Rattle.model.specs.Glass.{geometry, Suits};
 ghost use Rattle.model.specs.Glyphs.{fonts};
 ghost use Rattle.model.specs.Calls as calls;
 ghost use Rattle.model.specs.Calls.{lent, answered, done};
@@ -20,7 +21,6 @@ ghost use Rattle.accepted.specs.Texts.{glyphsFit, textBytes};
 
 // GLYPH: every byte that the flush would paint is in its font.
 pub fn glyphs_fit(
-    rec: &[u8],
     memory: &[u8],
     glass: Glass,
     h: Head,
@@ -31,7 +31,8 @@ pub fn glyphs_fit(
     list: &[u8],
     extra: &[u8],
 ) -> bool
-    requires { ⌜ Given glass (now rec) h (now memory) ⌝ }
+    requires { ⌜ Suits glass ⌝ }
+    requires { ⌜ h .text + glass .cells ≤ length (now memory) ⌝ }
     ensures { λ r. ⌜ r ≡ glyphsFit (geometry glass) (now (memory .entry)) h (fonts (now (ascii8 .entry)) (now (ascii16 .entry)) (now (gb .entry)) (now (emoji .entry)) (now (list .entry)) (now (extra .entry))) ⌝ }
 {
     let from = h.text as usize;

@@ -32,7 +32,6 @@ pub extern "C" fn caption_flush<'a>(
     let h = e.head;
     let glass = glass_of(rec.len());
     if !flushes::glyphs_fit(
-        rec,
         memory,
         glass,
         h,

@@ -61,7 +61,7 @@ part-flush-screen-end-2 : tie.Need-part-flush-screen-end-2
 part-flush-screen-end-2 c = let k = c .before .before .before .before .before .before .before .before .before .before .before .before .before .before .before .before .before .before .before .before .pre .0 .known in omega (arith, flags-room _ (k .suits), k .passing .sized)
 
 flush-screen-requires : tie.Need-flush-screen-requires
-flush-screen-requires c κs = let s = c .before .before .before .before .before .before .before .before .before .before .before .before .before .before .before .before .before .before .before .before .before in let w = s .pre .0 in (text-screen w, (glyphs-are w _ (kept _ _ (text-length w) (c .before .before .before .before .before .before .before .put-bytes .ensures)) ∙ s .pre .1 .1, flags-counted w))
+flush-screen-requires c κs = let s = c .before .before .before .before .before .before .before .before .before .before .before .before .before .before .before .before .before .before .before .before .before in let w = s .pre .0 in (text-screen w, (glyphs-are (s .args .h) _ _ (w .known .suits) (kept _ _ (text-length w) (c .before .before .before .before .before .before .before .put-bytes .ensures)) ∙ s .pre .1 .1, flags-counted w))
 
 canvas-of-requires : tie.Need-canvas-of-requires
 canvas-of-requires c κs = search needs

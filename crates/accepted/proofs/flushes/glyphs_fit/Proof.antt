@@ -1,5 +1,4 @@
 use mathlib.Core.Path.{refl, _∙_}
-use Rattle.accepted.proofs.Drawing.{text-room}
 use Rattle.accepted.proofs.Flushing.{glyphs-are}
 use borrow.Author.Needs.{needs}
 use Rattle.accepted.proofs.flushes.glyphs_fit.Statement.{statement}
@@ -18,13 +17,13 @@ part-text-start : tie.Need-part-text-start
 part-text-start c = search needs
 
 part-text-end : tie.Need-part-text-end
-part-text-end c = text-room (c .before .before .before .before .before .before .before .before .before .before .pre)
+part-text-end c = c .before .before .before .before .before .before .before .before .before .pre .1
 
 text-fits-requires : tie.Need-text-fits-requires
 text-fits-requires c κs = search needs
 
 returns : tie.Need-returns
-returns c = c .text-fits .ensures ∙ glyphs-are (c .before .before .before .before .before .before .before .before .before .before .before .before .pre) _ refl
+returns c = let s = c .before .before .before .before .before .before .before .before .before .before .before in c .text-fits .ensures ∙ glyphs-are (s .args .h) _ _ (s .pre .0) refl
 
 pub glyphs-fit-spec : {M : Type 1} → statement M
 glyphs-fit-spec =
