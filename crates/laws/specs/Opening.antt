@@ -19,8 +19,8 @@ use Rattle.model.specs.Open.{clearHead, clearFlags, openPending, openState}
 use Rattle.laws.specs.ListLaws.{getD-replicate, getD-in, map-replicate}
 use Rattle.laws.specs.Flags.{no-flags, length-no-flags}
 use Rattle.laws.specs.Layout.{AllShort}
-use Rattle.laws.specs.PartLists.{written-same, length-written}
-use Rattle.laws.specs.Record.{Sized, all-owed, sizes, keys-back, put-head, put-keys}
+use Rattle.laws.specs.PartLists.{written-same}
+use Rattle.laws.specs.Record.{Sized, all-owed, keys-back, put-head, put-keys}
 use Rattle.laws.specs.Panels.{markFrom, marks-state, length-owing}
 
 -- ---- zeros
@@ -111,12 +111,6 @@ open-sized g graphics text version ks n =
       keys = n;
       flags = length-no-flags (cells g);
     }
-
-pub open-length : (g : Geometry) (graphics text version : ℕ) (ks : List ℕ) → length ks ≡ 8 → length (encode g (openState g graphics text version ks)) ≡ recordBytes g
-unfolding encode
-open-length g graphics text version ks n =
-    let s = openState g graphics text version ks in
-    length-written (size g) (partBytes g s) (layout g) (sizes g s (open-sized g graphics text version ks n))
 
 pub open-keys : (g : Geometry) (graphics text version : ℕ) (ks : List ℕ) → length ks ≡ 8 → Words ks → decode g (encode g (openState g graphics text version ks)) .keys ≡ ks
 unfolding openState
