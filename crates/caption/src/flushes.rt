@@ -31,17 +31,7 @@ pub extern "C" fn caption_flush<'a>(
     }
     let h = e.head;
     let glass = glass_of(rec.len());
-    if !flushes::glyphs_fit(
-        memory,
-        glass,
-        h,
-        ascii8,
-        ascii16,
-        gb,
-        emoji,
-        list,
-        extra,
-    ) {
+    if !flushes::glyphs_fit(memory, glass, h, ascii8, ascii16, gb, emoji, list, extra) {
         return refusal::GLYPH;
     }
     flushes::flush(
