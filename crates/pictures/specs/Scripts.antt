@@ -36,7 +36,7 @@ use Rattle.laws.specs.Loops.{length-zeros}
 use Rattle.laws.specs.Counts.{none-differ}
 use Rattle.laws.specs.Pendings.{well-send}
 use Rattle.order.specs.Formed.{marked-formed, panel-formed}
-use Rattle.order.specs.Opens.{length-clear, open-formed}
+use Rattle.order.specs.Opens.{length-clear-memory, open-formed}
 use Rattle.pictures.specs.Picture.{rect}
 use Rattle.pictures.specs.Differing.{one-differs}
 
@@ -234,8 +234,8 @@ module _ (m : List ℕ) (hm : length m ≡ 65536) (e : screenOf base 4096 m ≡ 
 
 pub point-send : scriptText (bytesOf "(point (3 0) or)\n(send)\n") ≡ bytesOf "(done)\n(sent 0 0 160)\n(end 0 79)\n"
 unfolding scriptText printed spaced spelled said opened openedState
-point-send = ap (λ (xs : List ScriptLine). runLines xs opened) point-then-send ∙ point-first (clearMemory noKeys) (length-clear noKeys) cleared-screen
+point-send = ap (λ (xs : List ScriptLine). runLines xs opened) point-then-send ∙ point-first (clearMemory noKeys) (length-clear-memory noKeys) cleared-screen
 
 pub send-point : scriptText (bytesOf "(send)\n(point (3 0) or)\n") ≡ bytesOf "(sent 0 0 160)\n(done)\n(end 1 80)\n"
 unfolding scriptText printed spaced spelled said opened openedState
-send-point = ap (λ (xs : List ScriptLine). runLines xs opened) send-then-point ∙ send-first (clearMemory noKeys) (length-clear noKeys) cleared-screen
+send-point = ap (λ (xs : List ScriptLine). runLines xs opened) send-then-point ∙ send-first (clearMemory noKeys) (length-clear-memory noKeys) cleared-screen
