@@ -1,4 +1,4 @@
--- The GLYPH test of a flush, as code makes it over the text's window of memory, and the array that a flush keeps the text in.
+-- The GLYPH test of a flush, as code makes it over the text's window of memory.
 use mathlib.Core.Bool.{Bool}
 use mathlib.Core.List.{List}
 use Prim.Native.Nat.{ℕ}
@@ -7,10 +7,6 @@ use Rattle.model.specs.Geometry.{Geometry, rows, columns, cells}
 use Rattle.model.specs.Memory.{window}
 use Rattle.model.specs.Glyphs.{Fonts}
 use Rattle.flush.specs.Fits.{textFits}
-
--- as many bytes as the text of the largest glass has
-abbrev pub textBytes : ℕ
-textBytes = 100
 
 abbrev pub glyphsFit : Geometry → List ℕ → Head → Fonts → Bool
 glyphsFit g m h f = textFits (columns g) (rows g) (window (h .text) (cells g) m) (h .version) f

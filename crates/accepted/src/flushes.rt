@@ -12,12 +12,12 @@ ghost use mathlib.Core.List.{[]};
 ghost use mathlib.Core.Path.{_≡_};
 ghost use Prim.Native.Nat.{_+_, _≤_};
 ghost use lib.ListN.{length};
-ghost use Rattle.model.specs.Glass.{geometry, Suits};
+ghost use Rattle.model.specs.Glass.{geometry, Suits, textBytes};
 ghost use Rattle.model.specs.Glyphs.{fonts};
 ghost use Rattle.model.specs.Calls as calls;
 ghost use Rattle.model.specs.Calls.{lent, answered, done};
 ghost use Rattle.accepted.specs.Given.{Given};
-ghost use Rattle.accepted.specs.Texts.{glyphsFit, textBytes};
+ghost use Rattle.accepted.specs.Texts.{glyphsFit};
 
 // GLYPH: every byte that the flush would paint is in its font.
 pub fn glyphs_fit(

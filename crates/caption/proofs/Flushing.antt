@@ -10,7 +10,7 @@ use lib.ListN.{length}
 use Rattle.model.specs.declared.Head.{Head}
 use Rattle.model.specs.declared.glass.Glass.{Glass}
 use Rattle.model.specs.Geometry.{Geometry, cells}
-use Rattle.model.specs.Glass.{geometry, glassOf}
+use Rattle.model.specs.Glass.{geometry, glassOf, textBytes}
 use Rattle.model.specs.Record.{decode}
 use Rattle.model.specs.Glyphs.{Fonts, fontsFit}
 use Rattle.model.specs.Flush.{flushStores}
@@ -18,7 +18,7 @@ use Rattle.laws.specs.Tests.{and-true}
 use Rattle.record.specs.declared.entry.Entry.{Entry}
 use Rattle.record.specs.Entry.{Chosen, Entered}
 use Rattle.accepted.specs.Given.{Given}
-use Rattle.accepted.specs.Texts.{glyphsFit, textBytes}
+use Rattle.accepted.specs.Texts.{glyphsFit}
 use Rattle.accepted.proofs.Flushing.{glyphs-tested}
 use Rattle.caption.proofs.Calls.{knows, loads}
 

@@ -15,7 +15,7 @@ use Rattle.model.specs.Glass.{geometry, IsGlass, Suits}
 use Rattle.model.specs.Memory.{window}
 use Rattle.model.specs.Bytes.{rectsAt, rectBytes, rectsBytes, fourBytes}
 use Rattle.model.specs.Flags.{flagBytes}
-use Rattle.model.specs.Record.{head, panel, flags, tag, samePart, offset, panelsFrom, size, at, partIn, recordBytes, pendingBytes, Pending, State, decode, encode, bytesOfPending, partBytes, panelOf, nothingPending, withPanel, withPanels}
+use Rattle.model.specs.Record.{headBytes, head, panel, flags, tag, samePart, offset, panelsFrom, size, at, partIn, recordBytes, pendingBytes, Pending, State, decode, encode, bytesOfPending, partBytes, panelOf, nothingPending, withPanel, withPanels}
 use Rattle.model.specs.Marks.{joinOwed, owing}
 use Rattle.laws.specs.Tests.{by-eq}
 use Rattle.laws.specs.Layout.{AllShort, rects-at, rects-back, length-rects, rects-short}
@@ -40,7 +40,7 @@ offset-from g i k (suc n) l u =
     ne-same e = ne-eqb (tag (panel i)) (tag (panel k)) (λ p. e (omega arith))
 
 -- the first right after the head
-pub first-at : (g : Geometry) → at g (panel 0) ≡ 18
+pub first-at : (g : Geometry) → at g (panel 0) ≡ headBytes
 unfolding offset
 first-at g = refl
 
@@ -142,7 +142,7 @@ pub record Known (v : Glass) (r : List ℕ) : Type 0 where
   pub suits : Suits v
   pub passing : Passing (geometry v) r
 
-pub is-first-at : (v : Glass) (k : ℕ) → k ≡ 0 → 18 ≡ at (geometry v) (panel k)
+pub is-first-at : (v : Glass) (k : ℕ) → k ≡ 0 → headBytes ≡ at (geometry v) (panel k)
 is-first-at v k e = sym (first-at (geometry v)) ∙ ap (λ (i : ℕ). at (geometry v) (panel i)) (sym e)
 
 pub is-others-at : (v : Glass) (k : ℕ) → Suits v → k < v .panels → (k ≡ 0 → ⊥) → v .others + (k - 1) * v .pending ≡ at (geometry v) (panel k)

@@ -15,7 +15,7 @@ use Rattle.model.specs.Memory.{window, withWindow}
 use Rattle.model.specs.Rects.{none, fits}
 use Rattle.model.specs.Bytes.{four, rectAt, rectsAt, wordsAt, rectBytes, rectsBytes, wordsBytes, fourBytes, Bytes, Words}
 use Rattle.model.specs.Flags.{flagsIn, bytesOfFlags}
-use Rattle.model.specs.Record.{RecordPart, head, panel, keys, flags, tag, samePart, has, written, total, offset, panelsFrom, layout, size, at, partIn, recordBytes, pendingBytes, Pending, State, decode, encode, listing, headOf, pendingOf, bytesOfHead, bytesOfPending, partBytes, panelOf, nothingPending, bandsFit, windows, windowTests, headTests, headFits, pendingFits, partFits, valid, withHead, withPanel, withKeyWords, withFlags, WellPending, WellFormed}
+use Rattle.model.specs.Record.{headBytes, RecordPart, head, panel, keys, flags, tag, samePart, has, written, total, offset, panelsFrom, layout, size, at, partIn, recordBytes, pendingBytes, Pending, State, decode, encode, listing, headOf, pendingOf, bytesOfHead, bytesOfPending, partBytes, panelOf, nothingPending, bandsFit, windows, windowTests, headTests, headFits, pendingFits, partFits, valid, withHead, withPanel, withKeyWords, withFlags, WellPending, WellFormed}
 use Rattle.model.specs.Glass.{IsGlass}
 use Rattle.laws.specs.Tests.{tests, by-test, by-lt, by-eq, clash, and-true, all-true, either, or-right}
 use Rattle.laws.specs.Rects.{passes-fits}
@@ -104,12 +104,12 @@ bytes-part g q r b = bytes-take (size g q) (drop (at g q) r) (bytes-drop (at g q
 exact : (n : ℕ) (a c : List ℕ) → a ++ drop n c ≡ c → length c ≡ n → a ≡ c
 exact n a c e l = sym (append-nil a) ∙ ap (λ (x : List ℕ). a ++ x) (sym (drop-of-length-le c {i = n} (omega arith))) ∙ e
 
-head-elements : (c : List ℕ) → ((i : ℕ) → getD c i 0 < 256) → bytesOfHead (headOf c) ≡ elements 18 0 c
+head-elements : (c : List ℕ) → ((i : ℕ) → getD c i 0 < 256) → bytesOfHead (headOf c) ≡ elements headBytes 0 c
 head-elements c b = simp (low, high, b)
 
-head-again : (c : List ℕ) → Bytes c → length c ≡ 18 → bytesOfHead (headOf c) ≡ c
+head-again : (c : List ℕ) → Bytes c → length c ≡ headBytes → bytesOfHead (headOf c) ≡ c
 unfolding Bytes
-head-again c b l = exact 18 (bytesOfHead (headOf c)) c (ap (λ (x : List ℕ). x ++ drop 18 c) (head-elements c b) ∙ elements-drop 18 0 c (omega arith)) l
+head-again c b l = exact headBytes (bytesOfHead (headOf c)) c (ap (λ (x : List ℕ). x ++ drop headBytes c) (head-elements c b) ∙ elements-drop headBytes 0 c (omega arith)) l
 
 words-whole : (n : ℕ) (c : List ℕ) → Bytes c → length c ≡ 4 * n → wordsBytes (wordsAt n c 0) ≡ c
 words-whole n c b l = exact (4 * n) (wordsBytes (wordsAt n c 0)) c (cc (zero-add (4 * n), words-again n c 0 b (omega arith))) l

@@ -14,7 +14,7 @@ use Rattle.model.specs.Geometry.{Geometry, width, cells}
 use Rattle.model.specs.Glass.{geometry, canvas, Suits}
 use Rattle.model.specs.Memory.{withWindow}
 use Rattle.model.specs.Flags.{bytesOfFlags}
-use Rattle.model.specs.Record.{head, keys, flags, recordBytes, offset, Pending, State, decode, encode, bytesOfHead, panelOf, nothingPending, headFits, partFits, withHead, withPanels, withFlags, WellFormed}
+use Rattle.model.specs.Record.{headBytes, head, keys, flags, recordBytes, offset, Pending, State, decode, encode, bytesOfHead, panelOf, nothingPending, headFits, partFits, withHead, withPanels, withFlags, WellFormed}
 use Rattle.model.specs.Rects.{none, isEmpty, join}
 use Rattle.model.specs.Marks.{whole, owing, withDirty, updateDirty, marked}
 use Rattle.model.specs.Open.{clearHead, clearFlags, resetState}
@@ -34,7 +34,7 @@ unfolding decode partFits
 head-numbers v r h k e = let g = geometry v in head-tells g h (ap (headFits g) e ∙ part-passes g r (k .passing) head (has-head g))
 
 -- the head lies in the record
-pub head-in : (g : Geometry) → 18 ≤ recordBytes g
+pub head-in : (g : Geometry) → headBytes ≤ recordBytes g
 unfolding offset
 head-in g = let p = part-in g head (has-head g) in omega arith
 

@@ -9,7 +9,7 @@ use lib.Seq.{getD-take, getD-drop}
 use Rattle.model.specs.Geometry.{Geometry}
 use Rattle.model.specs.Memory.{window}
 use Rattle.model.specs.Bytes.{two, four, rectAt, rectsAt, wordsAt}
-use Rattle.model.specs.Record.{head, panel, keys, offset, at, partIn, pendingBytes, headOf, pendingOf, keysOf}
+use Rattle.model.specs.Record.{headBytes, head, panel, keys, offset, at, partIn, pendingBytes, headOf, pendingOf, keysOf}
 use Rattle.laws.specs.Rects.{rect-equal}
 use Rattle.laws.specs.Record.{head-equal}
 
@@ -61,6 +61,6 @@ pending-part g r k =
 pub head-part : (g : Geometry) (r : List ℕ) → headOf (partIn g head r) ≡ headOf r
 unfolding offset
 head-part g r =
-    head-equal (two-window 0 18 r 0 (omega arith)) (two-window 0 18 r 2 (omega arith))
-    (getD-window 0 18 r 4 (omega arith)) (getD-window 0 18 r 5 (omega arith)) (getD-window 0 18 r 6 (omega arith)) (getD-window 0 18 r 7 (omega arith))
-    (getD-window 0 18 r 8 (omega arith)) (getD-window 0 18 r 9 (omega arith)) (rect-window 0 18 r 10 (omega arith))
+    head-equal (two-window 0 headBytes r 0 (omega arith)) (two-window 0 headBytes r 2 (omega arith))
+    (getD-window 0 headBytes r 4 (omega arith)) (getD-window 0 headBytes r 5 (omega arith)) (getD-window 0 headBytes r 6 (omega arith)) (getD-window 0 headBytes r 7 (omega arith))
+    (getD-window 0 headBytes r 8 (omega arith)) (getD-window 0 headBytes r 9 (omega arith)) (rect-window 0 headBytes r 10 (omega arith))

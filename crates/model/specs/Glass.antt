@@ -12,6 +12,10 @@ use Rattle.model.specs.Record.{keys, flags, distinct, layout, at, pendin
 abbrev pub glassOf : ℕ → Geometry
 glassOf n = base
 
+-- the cells of the largest glass: a flush keeps its text in an array of them
+abbrev pub textBytes : ℕ
+textBytes = cells base
+
 -- What the calls ask of a geometry: there is a panel, and no part of the record stands twice; coordinates are bytes, also those of a full cursor at the last
 -- column; there are two text columns and a text row, and text rows fill the screen; screen, text and record are shorter than memory.
 pub record IsGlass (g : Geometry) : Type 0 where

@@ -49,11 +49,14 @@ layout g = head ∷ panel 0 ∷ keys ∷ flags ∷ panelsFrom 1 (g .panels - 1)
 
 -- ---- sizes
 
+abbrev pub headBytes : ℕ
+headBytes = 18
+
 abbrev pub pendingBytes : Geometry → ℕ
 pendingBytes g = 8 * g .bands + 12
 
 abbrev pub size : Geometry → RecordPart → ℕ
-size g head = 18
+size g head = headBytes
 size g (panel k) = pendingBytes g
 size g keys = 32
 size g flags = flagBytes (cells g)

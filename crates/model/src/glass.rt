@@ -45,6 +45,9 @@ pub const SMALL: Glass = Glass {
     others: 170,
 };
 
+// The head of the record, the same for every glass: the first panel's part follows it.
+pub const HEAD_BYTES: usize = 18;
+
 // The lines of a glyph, as a coordinate and as a count.
 pub const GLYPH_HEIGHT: u8 = 16;
 

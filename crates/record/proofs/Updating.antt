@@ -10,7 +10,7 @@ use Rattle.model.specs.Geometry.{Geometry}
 use Rattle.model.specs.Glass.{geometry, canvas, glassOf, Suits}
 use Rattle.model.specs.Marks.{whole}
 use Rattle.model.specs.Memory.{withWindow}
-use Rattle.model.specs.Record.{State, decode, encode, bytesOfHead, withHead}
+use Rattle.model.specs.Record.{headBytes, State, decode, encode, bytesOfHead, withHead}
 use Rattle.laws.specs.Record.{Passing, put-head, encode-decode, sized-decode}
 use Rattle.laws.specs.Panels.{Known}
 use Rattle.laws.specs.Updates.{head-in, whole-of}
@@ -44,7 +44,7 @@ module _ {v : Glass} (r : List ℕ) {s : List ℕ} (f : Geometry → State → S
 
 -- ---- another head
 
-pub head-there : {r : List ℕ} → Passing (glassOf (length r)) r → 18 ≤ length r
+pub head-there : {r : List ℕ} → Passing (glassOf (length r)) r → headBytes ≤ length r
 head-there {r} p = rw (p .sized) (head-in (glassOf (length r)))
 
 pub sets-head : {r : List ℕ} (n : Head) {s : List ℕ} → Passing (glassOf (length r)) r → s ≡ withWindow 0 (bytesOfHead n) r → s ≡ updated (λ g s. withHead n s) r

@@ -2,12 +2,13 @@
 use marks::rect;
 use model::Head;
 use model::Rect;
+use model::glass::HEAD_BYTES;
 ghost use mathlib.Core.Path.{_≡_};
 ghost use Prim.Native.Nat.{_+_, _*_, _≤_};
 ghost use lib.ListN.{length};
 ghost use Rattle.model.specs.Memory.{withWindow};
 ghost use Rattle.model.specs.Bytes.{rectAt, rectBytes, wordsBytes};
-ghost use Rattle.model.specs.Record.{headOf, bytesOfHead};
+ghost use Rattle.model.specs.Record.{headBytes, headOf, bytesOfHead};
 ghost use Rattle.model.specs.Open.{clearHead};
 
 pub fn load_rect(bytes: &[u8], at: usize) -> Rect
@@ -23,7 +24,7 @@ pub fn load_rect(bytes: &[u8], at: usize) -> Rect
 }
 
 pub fn load_head(rec: &[u8]) -> Head
-    requires { ⌜ 18 ≤ length (now rec) ⌝ }
+    requires { ⌜ headBytes ≤ length (now rec) ⌝ }
     ensures { λ r. ⌜ r ≡ headOf (now (rec .entry)) ⌝ }
 {
     Head {
@@ -56,7 +57,7 @@ pub fn clear_head(graphics: u16, text: u16, version: u8) -> Head
     }
 }
 
-fn head_bytes(h: Head) -> [u8; 18]
+fn head_bytes(h: Head) -> [u8; HEAD_BYTES]
     ensures { λ r. ⌜ r ≡ bytesOfHead h ⌝ }
 {
     [
@@ -105,7 +106,7 @@ pub fn store_rect(bytes: &mut [u8], at: usize, q: Rect)
 }
 
 pub fn store_head(rec: &mut [u8], h: Head)
-    requires { ⌜ 18 ≤ length (now rec) ⌝ }
+    requires { ⌜ headBytes ≤ length (now rec) ⌝ }
     ensures { λ _. ⌜ now (rec .exit) ≡ withWindow 0 (bytesOfHead h) (now (rec .entry)) ⌝ }
 {
     let bytes = head_bytes(h);

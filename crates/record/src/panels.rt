@@ -2,6 +2,7 @@
 use crate::owed;
 use model::Rect;
 use model::glass::Glass;
+use model::glass::HEAD_BYTES;
 ghost use mathlib.Core.Path.{_≡_};
 ghost use Prim.Native.Nat.{_<_};
 ghost use lib.ListN.{length};
@@ -16,7 +17,7 @@ pub fn panel_at(glass: Glass, k: usize) -> usize
     ensures { λ r. ⌜ r ≡ at (geometry glass) (panel k) ⌝ }
 {
     if k == 0 {
-        return 18;
+        return HEAD_BYTES;
     }
     glass.others + (k - 1) * glass.pending
 }
