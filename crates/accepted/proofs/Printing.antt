@@ -24,7 +24,7 @@ use Rattle.model.specs.Calls.{print, newline, lent, answered, withPage, done}
 use Rattle.laws.specs.Memory.{length-withWindow}
 use Rattle.laws.specs.Parts.{part-back}
 use Rattle.laws.specs.Scrolls.{length-times}
-use Rattle.laws.specs.Flags.{flags-read}
+use Rattle.laws.specs.Flags.{HasFlags, flags-read}
 use Rattle.laws.specs.Record.{has-flags, part-passes}
 use Rattle.laws.specs.StateTest.{flags-room, flags-part}
 use Rattle.laws.specs.Updates.{flags-known, flags-state}
@@ -34,7 +34,7 @@ use Rattle.laws.specs.States.{well-formed}
 use Rattle.record.specs.Update.{updated}
 use Rattle.record.proofs.Updating.{still-chosen, updated-for}
 use Rattle.text.specs.declared.page.Place.{Place}
-use Rattle.text.specs.Written.{page, HasFlags, Ready, Written}
+use Rattle.text.specs.Written.{page, Ready, Written}
 use Rattle.accepted.specs.Given.{Given}
 use Rattle.accepted.specs.Pages.{placeOf, PageStored}
 use Rattle.accepted.proofs.Drawing.{screenPart, textPart, flagsPart, text-room, screen-length, text-length, flags-length, screen-is, text-is}

@@ -1,14 +1,8 @@
 // Clipping, axis by axis: a bitmap may start before the screen and end after it.
 ghost use mathlib.Core.Path.{_≡_};
-ghost use Prim.Native.Nat.{_-_, _<_, min};
+ghost use Prim.Native.Nat.{_-_, _<_};
 ghost use Rattle.model.specs.Bitmaps.{visible};
 use model::Visible;
-
-fn least(a: usize, b: usize) -> usize
-    ensures { λ r. ⌜ r ≡ min a b ⌝ }
-{
-    if a < b { a } else { b }
-}
 
 // What is left of n places when the first k are gone.
 fn beyond(n: usize, k: usize) -> usize
@@ -27,13 +21,13 @@ pub fn visible(z: i32, n: usize, size: usize) -> Visible
         return Visible {
             skip: before,
             from: 0,
-            to: least(beyond(n, before), size),
+            to: slices::least(beyond(n, before), size),
         };
     }
     let first = z as usize;
     Visible {
         skip: 0,
         from: first,
-        to: least(first + n, size),
+        to: slices::least(first + n, size),
     }
 }

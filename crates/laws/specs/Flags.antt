@@ -18,6 +18,11 @@ use Rattle.laws.specs.Tests.{and-true}
 use Rattle.laws.specs.ListLaws.{map-replicate}
 use Rattle.laws.specs.Layout.{bytes-cons, bytes-nil}
 
+-- the bytes c hold the flags of n cells
+pub record HasFlags (n : ℕ) (c : List ℕ) : Type 0 where
+  pub sized : length c ≡ flagBytes n
+  pub fit : flagsFit n c ≡ true
+
 -- ---- there and back
 
 flag-again : (f : ℕ) → f ≤ 1 → flagByte (flagOf f) ≡ f
@@ -76,6 +81,9 @@ no-flags (suc n) = ap (λ (l : List ℕ). 0 ∷ l) (no-flags n)
 pub length-no-flags : (n : ℕ) → length (replicate n false) ≡ n
 length-no-flags n = length-replicate n false
 
+pub flags-of : (fs : List Bool) → HasFlags (length fs) (bytesOfFlags fs)
+flags-of fs = record { sized = length-flags fs; fit = flags-fit fs }
+
 -- ---- one read
 
 pub flag-read : (n : ℕ) (c : List ℕ) (i : ℕ) → length c ≡ flagBytes n → eqb (getD c i 0) 1 ≡ flagAt (flagsIn n c) i
@@ -85,7 +93,20 @@ flag-read n c i e = sym (List·getD-map flagOf c i 0) ∙ ap (λ (l : List ℕ).
 pub flag-past : (n : ℕ) (c : List ℕ) (i : ℕ) → length c ≡ flagBytes n → n ≤ i → false ≡ flagAt (flagsIn n c) i
 flag-past n c i e h = sym (List·getD-eq-default (flagsIn n c) false (rw (length-flagsIn n c e) h))
 
--- ---- one written, and all scrolled
+-- ---- one written, and all scrolled: what the code does to the bytes, and what that means for the flags
+
+-- for how many flags there is room
+abbrev pub flagRoom : List ℕ → ℕ
+flagRoom c = length c
+
+unfoldable pub withFlag : ℕ → Bool → List ℕ → List ℕ
+withFlag i v c = set c i (flagByte v)
+
+unfoldable pub flagsScrolled : ℕ → List ℕ → List ℕ
+flagsScrolled n c = scrolled n 0 c
+
+pub flag-room : {n : ℕ} {c : List ℕ} → HasFlags n c → n ≤ flagRoom c
+flag-room h = omega arith
 
 map-set : {A B : Type 0} (f : A → B) (l : List A) (i : ℕ) (a : A) → map f (set l i a) ≡ set (map f l) i (f a)
 map-set f [] i a = refl
@@ -101,24 +122,24 @@ map-scrolled : {A B : Type 0} (f : A → B) (n : ℕ) (a : A) (l : List A) → m
 unfolding scrolled
 map-scrolled f n a l = map-append f (drop n l) (replicate n a) ∙ (λ i. map-drop f n l i ++ map-replicate f n a i)
 
-module _ (n : ℕ) (c : List ℕ) (l : length c ≡ flagBytes n) (e : flagsFit n c ≡ true) where
-  pub flag-written : (i : ℕ) (v : Bool) {b : ℕ} → b ≡ flagByte v → set c i b ≡ bytesOfFlags (set (flagsIn n c) i v)
-  unfolding bytesOfFlags
-  flag-written i v q = ap (set c i) q ∙ ap (λ (x : List ℕ). set x i (flagByte v)) (sym (flags-read n c l e)) ∙ sym (map-set flagByte (flagsIn n c) i v)
+module _ (n : ℕ) (c : List ℕ) (h : HasFlags n c) where
+  pub flag-written : (i : ℕ) (v : Bool) → withFlag i v c ≡ bytesOfFlags (set (flagsIn n c) i v)
+  unfolding withFlag bytesOfFlags
+  flag-written i v = cc (flags-read n c (h .sized) (h .fit), map-set flagByte (flagsIn n c) i v)
 
-  pub flags-scrolled : (k : ℕ) {m : List ℕ} → m ≡ scrolled k 0 c → m ≡ bytesOfFlags (scrolled k false (flagsIn n c))
-  unfolding bytesOfFlags
-  flags-scrolled k q = q ∙ ap (scrolled k 0) (sym (flags-read n c l e)) ∙ sym (map-scrolled flagByte k false (flagsIn n c))
+  pub flags-scrolled : (k : ℕ) → flagsScrolled k c ≡ bytesOfFlags (scrolled k false (flagsIn n c))
+  unfolding flagsScrolled bytesOfFlags
+  flags-scrolled k = cc (flags-read n c (h .sized) (h .fit), map-scrolled flagByte k false (flagsIn n c))
 
 -- ---- the test, byte after byte
 
-pub flags-turn : (ok : Bool) (c : List ℕ) (i : ℕ) → i < length c
-    → ((ok && leb (getD c i 0) 1) && flagsFit (length c - (i + 1)) (drop (i + 1) c)) ≡ (ok && flagsFit (length c - i) (drop i c))
+pub flags-turn : (ok : Bool) (n : ℕ) (c : List ℕ) (i : ℕ) → length c ≡ flagBytes n → i < n
+    → ((ok && leb (getD c i 0) 1) && flagsFit (n - (i + 1)) (drop (i + 1) c)) ≡ (ok && flagsFit (n - i) (drop i c))
 unfolding flagsFit
-flags-turn ok c i h =
-    let k : length c - i ≡ suc (length c - suc i) = omega arith in
-    cc (add-one i, and-assoc ok _ _, drop-cons c i 0 h)
+flags-turn ok n c i l h =
+    let k : n - i ≡ suc (n - suc i) = omega arith in
+    cc (add-one i, and-assoc ok _ _, drop-cons c i 0 (omega arith))
 
-pub flags-end : (ok : Bool) (c : List ℕ) (i : ℕ) → length c ≤ i → (ok && flagsFit (length c - i) (drop i c)) ≡ ok
+pub flags-end : (ok : Bool) (n : ℕ) (c : List ℕ) (i : ℕ) → n ≤ i → (ok && flagsFit (n - i) (drop i c)) ≡ ok
 unfolding flagsFit
-flags-end ok c i h = let z : length c - i ≡ 0 = omega arith in ap (λ (j : ℕ). ok && flagsFit j (drop i c)) z ∙ and-last ok
+flags-end ok n c i h = let z : n - i ≡ 0 = omega arith in ap (λ (j : ℕ). ok && flagsFit j (drop i c)) z ∙ and-last ok

@@ -110,9 +110,9 @@ flags-part v r z =
     let n : v .others - v .flags ≡ flagBytes (cells (geometry v)) = omega (arith, z .is-others, z .is-flags) in
     λ i. take (n i) (drop (z .is-flags i) r)
 
-pub is-valid : (v : Glass) (r : List ℕ) {h : Head} {a b c : Bool} → Suits v → length r ≡ recordBytes (geometry v) → h ≡ headOf r → a ≡ headFits (geometry v) h → b ≡ panelsFit (geometry v) r 0 (v .panels)
-    → c ≡ flagsFit (length (take (v .others - v .flags) (drop (v .flags) r))) (take (v .others - v .flags) (drop (v .flags) r)) → ((a && b) && c) ≡ valid (geometry v) r
-is-valid v r z l h a b c =
-    let g = geometry v in
-    let p = flags-part v r z in
-    valid-is g r (z .glass) (a ∙ ap (headFits g) h) b (c ∙ (λ i. flagsFit (length (p i)) (p i)) ∙ ap (λ (n : ℕ). flagsFit n (partIn g flags r)) (length-part g flags r (has-flags g) l))
+pub flags-sized : (v : Glass) (r : List ℕ) → Suits v → length r ≡ recordBytes (geometry v) → length (take (v .others - v .flags) (drop (v .flags) r)) ≡ flagBytes (v .cells)
+flags-sized v r z l = cc (flags-part v r z, length-part (geometry v) flags r (has-flags (geometry v)) l, z .is-cells)
+
+pub is-valid : (v : Glass) (r : List ℕ) {h : Head} {a b c : Bool} → Suits v → h ≡ headOf r → a ≡ headFits (geometry v) h → b ≡ panelsFit (geometry v) r 0 (v .panels)
+    → c ≡ flagsFit (v .cells) (take (v .others - v .flags) (drop (v .flags) r)) → ((a && b) && c) ≡ valid (geometry v) r
+is-valid v r z h a b c = valid-is (geometry v) r (z .glass) (a ∙ ap (headFits (geometry v)) h) b (c ∙ (λ i. flagsFit (z .is-cells i) (flags-part v r z i)))

@@ -5,14 +5,14 @@ use mathlib.Core.List.{List, map}
 use Prim.Native.Nat.{ℕ, _+_, _-_, _<_, _≤_}
 use native.Mathlib.Omega.{arith}
 use borrow.Rule.Slice.PartMut.{putMid}
-use lib.ListN.{length, take, drop, replicate, length-map}
+use lib.ListN.{length, take, drop, length-map}
 use Rattle.model.specs.declared.Rect.{Rect}
 use Rattle.model.specs.declared.Head.{Head}
 use Rattle.model.specs.declared.Canvas.{Canvas}
 use Rattle.model.specs.declared.glass.Glass.{Glass}
 use Rattle.model.specs.Geometry.{Geometry, width, cells}
 use Rattle.model.specs.Glass.{geometry, canvas, Suits}
-use Rattle.model.specs.Memory.{withWindow}
+use Rattle.model.specs.Memory.{zeros, withWindow}
 use Rattle.model.specs.Flags.{bytesOfFlags}
 use Rattle.model.specs.Record.{headBytes, head, keys, flags, recordBytes, offset, Pending, State, decode, encode, bytesOfHead, panelOf, nothingPending, headFits, partFits, withHead, withPanels, withFlags, WellFormed}
 use Rattle.model.specs.Rects.{none, isEmpty, join}
@@ -22,7 +22,7 @@ use Rattle.laws.specs.ListLaws.{getD-map, map-same}
 use Rattle.laws.specs.Rects.{join-none}
 use Rattle.laws.specs.Bands.{joinOwed-none}
 use Rattle.laws.specs.Parts.{part-back}
-use Rattle.laws.specs.Flags.{length-flags, length-no-flags}
+use Rattle.laws.specs.Flags.{length-flags, no-flags, length-no-flags}
 use Rattle.laws.specs.Record.{Passing, Sized, Numbers, head-tells, part-passes, has-head, has-keys, has-flags, length-part, put-head, put-flags, all-owed, part-in, encode-decode, decode-encode, sized-decode, count-decode}
 use Rattle.laws.specs.States.{well-formed, encode-passing}
 use Rattle.laws.specs.StateTest.{flags-part}
@@ -109,11 +109,11 @@ module _ {v : Glass} {r : List ℕ} (k : Known v r) (fs : List Bool) (n : length
 
 -- the flags' part was lent and cleared
 module _ {v : Glass} {r : List ℕ} (k : Known v r) {c : List ℕ}
-    (e : c ≡ bytesOfFlags (replicate (length (take (v .others - v .flags) (drop (v .flags) r))) false)) where
+    (e : c ≡ zeros (length (take (v .others - v .flags) (drop (v .flags) r)))) where
   cleared : c ≡ bytesOfFlags (clearFlags (geometry v))
   cleared =
       let g = geometry v in
-      cc (flags-part v r (k .suits), length-part g flags r (has-flags g) (k .passing .sized))
+      cc (flags-part v r (k .suits), length-part g flags r (has-flags g) (k .passing .sized), no-flags (cells g))
 
   pub cleared-known : Known v (putMid (v .flags) (v .others - v .flags) r c)
   cleared-known = flags-known k (clearFlags (geometry v)) (length-no-flags (cells (geometry v))) cleared

@@ -73,5 +73,5 @@ pub fn is_valid(rec: &[u8], glass: Glass, h: Head) -> bool
 {
     let from = glass.flags;
     let to = glass.others;
-    head_fits(glass, h) & panels_fit(rec, glass) & flags::flags_fit(&rec[from..to])
+    head_fits(glass, h) & panels_fit(rec, glass) & flags::flags_fit(&rec[from..to], glass.cells)
 }

@@ -8,13 +8,13 @@ use native.Mathlib.Omega.{arith}
 use lib.Dec.{leb, eqb}
 use lib.ListN.{length, set, length-set}
 use borrow.Author.Tests.{eq-eqb, ne-eqb}
-use Rattle.model.specs.Flags.{flagBytes, flagsIn, bytesOfFlags, flagsFit}
+use Rattle.model.specs.Flags.{flagsIn, bytesOfFlags}
 use Rattle.model.specs.Print.{scrolled, scrollPage, nextRow, newlineOn, writeCell, wrap, endRow, printByte, printPair}
-use Rattle.laws.specs.Flags.{flags-written, length-flags, length-flagsIn, flags-fit}
+use Rattle.laws.specs.Flags.{HasFlags, flagRoom, withFlag, flagsScrolled, flags-of, flags-written, length-flagsIn, flag-room, flag-written, flags-scrolled}
 use Rattle.laws.specs.Scrolls.{length-scrolled}
 use Rattle.laws.specs.Pages.{cell-in, write-sheet, wrap-sheet, wrap-pair}
 use Rattle.text.specs.declared.page.Place.{Place}
-use Rattle.text.specs.Written.{page, HasFlags, Cell, Ready, Written}
+use Rattle.text.specs.Written.{page, Cell, Ready, Written}
 
 -- flags written as the bytes of a page's, one for each of its n cells
 module _ (n : ℕ) (fs : List Bool) {g : List ℕ} (e : g ≡ bytesOfFlags fs) (l : length fs ≡ n) where
@@ -22,22 +22,10 @@ module _ (n : ℕ) (fs : List Bool) {g : List ℕ} (e : g ≡ bytesOfFlags fs) (
   flags-back = ap (flagsIn n) e ∙ flags-written n fs l
 
   flags-left : HasFlags n g
-  flags-left = record {
-    sized = ap length e ∙ length-flags fs ∙ ap flagBytes l;
-    fit = (λ i. flagsFit (sym l i) (e i)) ∙ flags-fit fs;
-  }
+  flags-left = rw e (rw l at (flags-of fs))
 
--- ---- what the calls ask: crate flags counts the flags by their bytes
-
-module _ (t f : List ℕ) (h : HasFlags (length t) f) where
-  same-flags : flagsIn (length f) f ≡ flagsIn (length t) f
-  same-flags = ap (λ (n : ℕ). flagsIn n f) (h .sized)
-
-  pub flags-pass : flagsFit (length f) f ≡ true
-  flags-pass = ap (λ (n : ℕ). flagsFit n f) (h .sized) ∙ h .fit
-
-pub cell-in-flags : (columns : ℕ) (t f : List ℕ) (p : Place) → Cell columns t f p → p .row * columns + p .column < length f
-cell-in-flags columns t f p k = rw (k .flags .sized) (k .text)
+pub cell-in-flags : (columns : ℕ) (t f : List ℕ) (p : Place) → Cell columns t f p → p .row * columns + p .column < flagRoom f
+cell-in-flags columns t f p k = omega (arith, k .text, flag-room (k .flags))
 
 module _ (rows columns : ℕ) (t f : List ℕ) (p : Place) where
   -- a row of cells lies in the text, and in the flags
@@ -46,8 +34,8 @@ module _ (rows columns : ℕ) (t f : List ℕ) (p : Place) where
       let k : 1 * columns ≤ rows * columns = mul-le-mul-right {m = 1} {n = rows} columns (omega (arith, r .sheet .row)) in
       rw (r .sheet .text) (rw one-mul at k)
 
-  pub row-in-flags : {n : ℕ} → Ready rows columns n t f p → columns ≤ length f
-  row-in-flags r = rw (r .flags .sized) (row-in-text r)
+  pub row-in-flags : {n : ℕ} → Ready rows columns n t f p → columns ≤ flagRoom f
+  row-in-flags r = omega (arith, row-in-text r, flag-room (r .flags))
 
   pub has-cell : {n : ℕ} → Ready rows columns (suc n) t f p → Cell columns t f p
   has-cell {n} r = record { text = omega (arith, cell-in rows columns n (page t f p) (r .sheet), r .sheet .text); flags = r .flags }
@@ -59,7 +47,7 @@ module _ (rows columns : ℕ) (t f : List ℕ) (p : Place) where
   newline-none r z = record { page = rw (eq-eqb (p .column) 0 z); flags = r .flags; scrolls = omega arith }
 
   pub newline-scrolls : {n : ℕ} {s g : List ℕ} → Ready rows columns n t f p → (p .column ≡ 0 → ⊥) → p .row + 1 ≡ rows
-      → s ≡ scrolled columns 0 t → g ≡ bytesOfFlags (scrolled columns false (flagsIn (length f) f))
+      → s ≡ scrolled columns 0 t → g ≡ flagsScrolled columns f
       → Written (newlineOn rows columns (page t f p)) (p .scrolls + 1) s g (record { row = p .row; column = 0; scrolls = p .scrolls + 1 })
   unfolding newlineOn scrollPage
   newline-scrolls {s = s} r z l d e =
@@ -67,7 +55,7 @@ module _ (rows columns : ℕ) (t f : List ℕ) (p : Place) where
       let m = length-flagsIn (length t) f (r .flags .sized) in
       let k : length fs ≡ length s = length-scrolled columns false (flagsIn (length t) f) (rw m (row-in-text r)) ∙ m
       ∙ sym (length-scrolled columns 0 t (row-in-text r)) ∙ sym (ap length d) in
-      let q = e ∙ ap (λ (x : List Bool). bytesOfFlags (scrolled columns false x)) (same-flags t f (r .flags)) in
+      let q = e ∙ flags-scrolled (length t) f (r .flags) columns in
       record {
         page = rw (ne-eqb (p .column) 0 z, eq-eqb (p .row + 1) rows l)
             (λ i. record { text = d i; flags = flags-back (length s) fs q k i; row = p .row; column = 0; scrolls = p .scrolls + 1 });
@@ -93,14 +81,14 @@ module _ (rows columns : ℕ) (t f : List ℕ) (p : Place) where
   -- ---- a cell
 
   module _ (v : Bool) (b : ℕ) where
-    pub cell-written : {g : List ℕ} → Cell columns t f p → g ≡ bytesOfFlags (set (flagsIn (length f) f) (p .row * columns + p .column) v)
+    pub cell-written : {g : List ℕ} → Cell columns t f p → g ≡ withFlag (p .row * columns + p .column) v f
         → Written (writeCell columns v b (page t f p)) (p .scrolls) (set t (p .row * columns + p .column) b) g (record { row = p .row; column = p .column + 1; scrolls = p .scrolls })
     unfolding writeCell
     cell-written c e =
         let i = p .row * columns + p .column in
         let fs = set (flagsIn (length t) f) i v in
         let k : length fs ≡ length (set t i b) = length-set (flagsIn (length t) f) i v ∙ length-flagsIn (length t) f (c .flags .sized) ∙ sym (length-set t i b) in
-        let q = e ∙ ap (λ (x : List Bool). bytesOfFlags (set x i v)) (same-flags t f (c .flags)) in
+        let q = e ∙ flag-written (length t) f (c .flags) i v in
         record {
           page = λ j. record { text = set t i b; flags = flags-back (length (set t i b)) fs q k j; row = p .row; column = p .column + 1; scrolls = p .scrolls };
           flags = flags-left (length (set t i b)) fs q k;

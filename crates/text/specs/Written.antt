@@ -1,21 +1,16 @@
 -- The page that lent text and flags hold with a place in it, and what printing asks of it and leaves.
 use mathlib.Core.Path.{_≡_}
-use mathlib.Core.Bool.{true}
 use mathlib.Core.List.{List}
 use Prim.Native.Nat.{ℕ, _+_, _*_, _<_, _≤_}
 use lib.ListN.{length}
-use Rattle.model.specs.Flags.{flagBytes, flagsIn, flagsFit}
+use Rattle.model.specs.Flags.{flagsIn}
 use Rattle.model.specs.Print.{Page}
+use Rattle.laws.specs.Flags.{HasFlags}
 use Rattle.laws.specs.Pages.{Sheet}
 use Rattle.text.specs.declared.page.Place.{Place}
 
 abbrev pub page : List ℕ → List ℕ → Place → Page
 page t f p = record { text = t; flags = flagsIn (length t) f; row = p .row; column = p .column; scrolls = p .scrolls }
-
--- the bytes f hold the flags of n cells
-pub record HasFlags (n : ℕ) (f : List ℕ) : Type 0 where
-  pub sized : length f ≡ flagBytes n
-  pub fit : flagsFit n f ≡ true
 
 -- the next cell lies in the text
 pub record Cell (columns : ℕ) (t f : List ℕ) (p : Place) : Type 0 where

@@ -1,4 +1,4 @@
-use Rattle.laws.specs.Flags.{flags-scrolled}
+use Rattle.laws.specs.Flags.{flagsScrolled}
 use borrow.Author.Needs.{needs}
 use Rattle.flags.proofs.scroll_flags.Statement.{statement}
 use Rattle.flags.proofs.scroll_flags.Tie as tie
@@ -10,7 +10,8 @@ same-length : tie.Need-same-length
 same-length c = search needs
 
 returns : tie.Need-returns
-returns c = search flags-scrolled
+unfolding flagsScrolled
+returns c = search needs
 
 pub scroll-flags-spec : {M : Type 1} → statement M
 scroll-flags-spec = tie.close (tie.spec scroll-requires same-length returns)

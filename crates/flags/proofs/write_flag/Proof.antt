@@ -1,4 +1,5 @@
-use Rattle.laws.specs.Flags.{flag-written}
+use mathlib.Core.Path.{refl}
+use Rattle.laws.specs.Flags.{withFlag}
 use borrow.Author.Needs.{needs}
 use Rattle.flags.proofs.write_flag.Statement.{statement}
 use Rattle.flags.proofs.write_flag.Tie as tie
@@ -13,7 +14,8 @@ same-length : tie.Need-same-length
 same-length c = search needs
 
 returns : tie.Need-returns
-returns c = search flag-written
+unfolding withFlag
+returns c = rw (c .flag-byte .ensures) refl
 
 pub write-flag-spec : {M : Type 1} → statement M
 write-flag-spec = tie.close (tie.spec flag-byte-requires slice-write-flags same-length returns)

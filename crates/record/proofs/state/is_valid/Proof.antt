@@ -1,5 +1,5 @@
 use native.Mathlib.Omega.{arith}
-use Rattle.laws.specs.StateTest.{flags-room, is-valid}
+use Rattle.laws.specs.StateTest.{flags-room, flags-sized, is-valid}
 use borrow.Author.Needs.{needs}
 use Rattle.record.proofs.state.is_valid.Statement.{statement}
 use Rattle.record.proofs.state.is_valid.Tie as tie
@@ -20,10 +20,10 @@ part-flags-fit-end : tie.Need-part-flags-fit-end
 part-flags-fit-end c = let s = c .before .before .before in omega (arith, flags-room (s .args .glass) (s .pre .0), s .pre .1 .0)
 
 flags-fit-requires : tie.Need-flags-fit-requires
-flags-fit-requires c κs = search needs
+flags-fit-requires c κs = let s = c .before .before .before .before in flags-sized (s .args .glass) (s .args .rec .now) (s .pre .0) (s .pre .1 .0)
 
 returns : tie.Need-returns
-returns c = let s = c .before .before .before .before .before in is-valid (s .args .glass) (s .args .rec .now) (s .pre .0) (s .pre .1 .0) (s .pre .1 .1) (c .before .before .before .head-fits .ensures) (c .before .before .panels-fit .ensures) (c .flags-fit .ensures)
+returns c = let s = c .before .before .before .before .before in is-valid (s .args .glass) (s .args .rec .now) (s .pre .0) (s .pre .1 .1) (c .before .before .before .head-fits .ensures) (c .before .before .panels-fit .ensures) (c .flags-fit .ensures)
 
 pub is-valid-spec : {M : Type 1} → statement M
 is-valid-spec =

@@ -1,6 +1,5 @@
 -- The three arms are the definition's. A row of cells lies in text and flags, so both can scroll by it.
-use native.Mathlib.Omega.{arith}
-use Rattle.text.proofs.Writing.{flags-pass, row-in-text, row-in-flags, newline-none, newline-scrolls, newline-next}
+use Rattle.text.proofs.Writing.{row-in-text, row-in-flags, newline-none, newline-scrolls, newline-next}
 use borrow.Author.Needs.{needs}
 use Rattle.text.proofs.page.newline.Statement.{statement}
 use Rattle.text.proofs.page.newline.Tie as tie
@@ -15,7 +14,7 @@ scroll-requires : tie.Need-scroll-requires
 scroll-requires c κs = search row-in-text
 
 scroll-flags-requires : tie.Need-scroll-flags-requires
-scroll-flags-requires c κs = (omega (arith, row-in-flags), search flags-pass)
+scroll-flags-requires c κs = search row-in-flags
 
 add-t16 : tie.Need-add-t16
 add-t16 c = search needs

@@ -1,4 +1,4 @@
-use Rattle.text.proofs.Writing.{flags-pass, cell-in-flags, cell-written}
+use Rattle.text.proofs.Writing.{cell-in-flags, cell-written}
 use borrow.Author.Needs.{needs}
 use Rattle.text.proofs.page.write_cell.Statement.{statement}
 use Rattle.text.proofs.page.write_cell.Tie as tie
@@ -13,7 +13,7 @@ slice-write-text : tie.Need-slice-write-text
 slice-write-text c = search needs
 
 write-flag-requires : tie.Need-write-flag-requires
-write-flag-requires c κs = (search cell-in-flags, search flags-pass)
+write-flag-requires c κs = search cell-in-flags
 
 add-t8 : tie.Need-add-t8
 add-t8 c = search needs
