@@ -10,79 +10,43 @@ use Rattle.model.specs.Record.{State, withHead, withFlags}
 use Rattle.model.specs.Marks.{whole, marked}
 use Rattle.model.specs.Open.{clearFlags}
 
-unfoldable pub withRow : ℕ → Head → Head
-withRow n h = record {
+-- a head with other row, column, screen mode, print mode and cursor
+abbrev pub withTextState : ℕ → ℕ → ℕ → ℕ → ℕ → Head → Head
+withTextState row column screen print cursor h = record {
   graphics = h .graphics;
   text = h .text;
-  row = n;
-  column = h .column;
-  screen = h .screen;
-  print = h .print;
-  cursor = h .cursor;
+  row = row;
+  column = column;
+  screen = screen;
+  print = print;
+  cursor = cursor;
   version = h .version;
   dirty = h .dirty;
 }
 
+unfoldable pub withRow : ℕ → Head → Head
+withRow n h = withTextState n (h .column) (h .screen) (h .print) (h .cursor) h
+
 unfoldable pub withColumn : ℕ → Head → Head
-withColumn n h = record {
-  graphics = h .graphics;
-  text = h .text;
-  row = h .row;
-  column = n;
-  screen = h .screen;
-  print = h .print;
-  cursor = h .cursor;
-  version = h .version;
-  dirty = h .dirty;
-}
+withColumn n h = withTextState (h .row) n (h .screen) (h .print) (h .cursor) h
 
 -- print modes: 0 Normal, 1 Inverse, 2 Flash. Setting Flash while Inverse gives Normal.
 unfoldable pub printMode : ℕ → ℕ → ℕ
 printMode old new = cond (eqb old 1 && eqb new 2) 0 new
 
 unfoldable pub withPrintMode : ℕ → Head → Head
-withPrintMode n h = record {
-  graphics = h .graphics;
-  text = h .text;
-  row = h .row;
-  column = h .column;
-  screen = h .screen;
-  print = printMode (h .print) n;
-  cursor = h .cursor;
-  version = h .version;
-  dirty = h .dirty;
-}
+withPrintMode n h = withTextState (h .row) (h .column) (h .screen) (printMode (h .print) n) (h .cursor) h
 
 abbrev pub atPlace : ℕ → ℕ → Head → Head
 atPlace row column h = withColumn column (withRow row h)
 
 -- screen modes: 0 Text, 1 Graph
 unfoldable pub withScreenMode : ℕ → Head → Head
-withScreenMode n h = record {
-  graphics = h .graphics;
-  text = h .text;
-  row = h .row;
-  column = h .column;
-  screen = n;
-  print = h .print;
-  cursor = h .cursor;
-  version = h .version;
-  dirty = h .dirty;
-}
+withScreenMode n h = withTextState (h .row) (h .column) n (h .print) (h .cursor) h
 
 -- the cursor: 0 none, 1 half, 2 full
 unfoldable pub withCursor : ℕ → Head → Head
-withCursor n h = record {
-  graphics = h .graphics;
-  text = h .text;
-  row = h .row;
-  column = h .column;
-  screen = h .screen;
-  print = h .print;
-  cursor = n;
-  version = h .version;
-  dirty = h .dirty;
-}
+withCursor n h = withTextState (h .row) (h .column) (h .screen) (h .print) n h
 
 -- ---- `cls`, with the screen mode n: it keeps print mode and cursor
 
