@@ -1,10 +1,6 @@
 pub mod Drawing
 pub mod Sending
 pub mod Opening
-pub mod Flushing
 pub mod Kept
 pub mod Painting
 pub mod Poking
-pub mod Clearing
-pub mod Blinking
-pub mod Printing

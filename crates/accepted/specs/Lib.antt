@@ -1,5 +1,3 @@
 pub mod Given
 pub mod Opened
 pub mod NoLine
-pub mod Texts
-pub mod Pages

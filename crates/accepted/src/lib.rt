@@ -1,12 +1,8 @@
-// What each accepted call does to the lent bytes, proved equal to `done` of the definitions.
+// What each accepted call does to the lent bytes, proved equal to `done` of the definitions. Text, cursor and flush stand in crate accepted_text.
 pub mod bitmaps;
-pub mod clear;
-pub mod cursor;
 pub mod ellipses;
-pub mod flushes;
 pub mod lines;
 pub mod open;
 pub mod points;
 pub mod poke;
-pub mod print;
 pub mod sends;

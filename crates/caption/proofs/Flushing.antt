@@ -18,8 +18,8 @@ use Rattle.laws.specs.Tests.{and-true}
 use Rattle.record.specs.declared.entry.Entry.{Entry}
 use Rattle.record.specs.Entry.{Chosen, Entered}
 use Rattle.accepted.specs.Given.{Given}
-use Rattle.accepted.specs.Texts.{glyphsFit}
-use Rattle.accepted.proofs.Flushing.{glyphs-tested}
+use Rattle.accepted_text.specs.Texts.{glyphsFit}
+use Rattle.accepted_text.proofs.Flushing.{glyphs-tested}
 use Rattle.caption.proofs.Calls.{knows, loads}
 
 module _ {r : List ℕ} (m list : List ℕ) {e : Entry} {v : Glass} (k : Chosen (length r) v) (n : Entered (eqb (length m) 65536 && eqb (length list % 6) 0) r e) (z : e .code ≡ 0) where

@@ -1,5 +1,5 @@
 // `caption_cls` and `caption_set_screen_mode`.
-use accepted::clear;
+use accepted_text::clear;
 use model::glass::MEMORY_BYTES;
 use model::refusal;
 use record::entry;

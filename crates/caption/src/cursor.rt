@@ -1,5 +1,5 @@
 // `caption_blink_cursor` and `caption_clear_cursor`.
-use accepted::cursor;
+use accepted_text::cursor;
 use model::glass::MEMORY_BYTES;
 use record::entry;
 use record::glass::glass_of;

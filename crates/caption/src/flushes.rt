@@ -1,5 +1,5 @@
 // `caption_flush`.
-use accepted::flushes;
+use accepted_text::flushes;
 use model::glass::MEMORY_BYTES;
 use model::refusal;
 use record::entry;

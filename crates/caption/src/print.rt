@@ -1,5 +1,5 @@
 // `caption_print` and `caption_newline`.
-use accepted::print;
+use accepted_text::print;
 use model::glass::MEMORY_BYTES;
 use record::entry;
 use record::glass::glass_of;

@@ -1,0 +1,4 @@
+pub mod Flushing
+pub mod Clearing
+pub mod Blinking
+pub mod Printing

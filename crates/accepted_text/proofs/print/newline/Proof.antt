@@ -1,0 +1,85 @@
+use native.Mathlib.Omega.{arith}
+use Rattle.model.specs.Print.{newlineOn}
+use Rattle.accepted.proofs.Drawing.{text-room}
+use Rattle.accepted_text.proofs.Printing.{flags-end, ready, few-scrolls, newline-keeps, place-in, given-after, page-stored, newline-left}
+use borrow.Author.Needs.{needs}
+use Rattle.accepted_text.proofs.print.newline.Statement.{statement}
+use Rattle.accepted_text.proofs.print.newline.Tie as tie
+
+cast-text : tie.Need-cast-text
+cast-text c = search needs
+
+add-end : tie.Need-add-end
+add-end c = search needs
+
+place-of-requires : tie.Need-place-of-requires
+place-of-requires c κs = search needs
+
+sub-newline : tie.Need-sub-newline
+sub-newline c = search needs
+
+part-newline-start : tie.Need-part-newline-start
+part-newline-start c = search needs
+
+part-newline-end : tie.Need-part-newline-end
+part-newline-end c = text-room (c .before .before .before .before .before .pre)
+
+sub-newline-2 : tie.Need-sub-newline-2
+sub-newline-2 c = search needs
+
+part-newline-start-2 : tie.Need-part-newline-start-2
+part-newline-start-2 c = search needs
+
+part-newline-end-2 : tie.Need-part-newline-end-2
+part-newline-end-2 c = flags-end (c .before .before .before .before .before .before .pre)
+
+newline-requires : tie.Need-newline-requires
+newline-requires c κs = let w = c .before .before .before .before .before .before .before .pre in let e = c .before .before .place-of .ensures in (ready w e 0 (omega arith), few-scrolls w e)
+
+store-page-requires : tie.Need-store-page-requires
+store-page-requires c κs =
+    let newline = c .before .before .before .before .before .before in
+    let place-of = newline .before .before .before in
+    let k = place-of .before .before .before .before .before in
+    let v = k .args .glass in
+    let f = newlineOn (v .rows) (v .columns) in
+    let w = k .pre in
+    let e = place-of .place-of .ensures in
+    let u = newline .newline .ensures in
+    (given-after w e f (newline-keeps w) u, place-in w e f (newline-keeps w) u)
+
+same-length : tie.Need-same-length
+same-length c = search needs
+
+same-length-2 : tie.Need-same-length-2
+same-length-2 c = search needs
+
+returns : tie.Need-returns
+returns c =
+    let store-page = c .before .before .before .before in
+    let newline = store-page .before .before .before .before .before .before .before in
+    let place-of = newline .before .before .before in
+    let k = place-of .before .before .before .before .before in
+    let v = k .args .glass in
+    let f = newlineOn (v .rows) (v .columns) in
+    let w = k .pre in
+    newline-left w (page-stored w (place-of .place-of .ensures) f (newline-keeps w) (newline .newline .ensures) (store-page .store-page .ensures))
+
+pub newline-spec : {M : Type 1} → statement M
+newline-spec =
+    tie.close
+    (tie.spec
+    cast-text
+    add-end
+    place-of-requires
+    sub-newline
+    part-newline-start
+    part-newline-end
+    sub-newline-2
+    part-newline-start-2
+    part-newline-end-2
+    newline-requires
+    store-page-requires
+    same-length
+    same-length-2
+    returns)
