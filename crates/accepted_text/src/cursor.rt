@@ -72,7 +72,7 @@ fn invert_cursor(canvas: Canvas, screen: &mut [u8], row: u8, column: u8, cursor:
     let right = left + (8 * cursor - 1);
     let bottom = top + (GLYPH_HEIGHT - 1);
     let mode = DrawMode::Xor;
-    draw::draw_box(canvas, screen, left, top, right, bottom, true, mode)
+    draw::draw_filled_box(canvas, screen, left, top, right, bottom, mode)
 }
 
 // In Graph nothing.

@@ -1,5 +1,6 @@
 // `draw_box`, filled and as an outline.
 ghost use mathlib.Core.Path.{_≡_};
+ghost use mathlib.Core.Bool.{true};
 ghost use Prim.Native.Nat.{_≤_, _<_};
 ghost use Rattle.model.specs.Pixels.{Screen, draw, seen};
 ghost use Rattle.model.specs.Marks.{drawn, drawnOn};
@@ -114,6 +115,27 @@ fn draw_outline(
     draw_ver_line(canvas, screen, right, top, bottom, mode);
 }
 
+pub fn draw_filled_box(
+    canvas: Canvas,
+    screen: &mut [u8],
+    x1: u8,
+    y1: u8,
+    x2: u8,
+    y2: u8,
+    mode: DrawMode,
+) -> Marks
+    requires { ⌜ Screen (canvas .stride) (canvas .height) (now screen) ⌝ }
+    ensures { λ r. ⌜ drawn r (now (screen .exit)) ≡ drawnOn (canvas .stride) (canvas .height) (box (canvas .stride) (canvas .height) x1 y1 x2 y2 true mode) (now (screen .entry)) ⌝ }
+{
+    let left = least(x1, x2);
+    let top = least(y1, y2);
+    let right = greatest(x1, x2);
+    let bottom = greatest(y1, y2);
+    let op = raster_op(mode);
+    fill_box(canvas, screen, left, top, right, bottom, op);
+    lowered_marks(canvas, left, top, right, bottom)
+}
+
 pub fn draw_box(
     canvas: Canvas,
     screen: &mut [u8],
@@ -127,15 +149,13 @@ pub fn draw_box(
     requires { ⌜ Screen (canvas .stride) (canvas .height) (now screen) ⌝ }
     ensures { λ r. ⌜ drawn r (now (screen .exit)) ≡ drawnOn (canvas .stride) (canvas .height) (box (canvas .stride) (canvas .height) x1 y1 x2 y2 fill mode) (now (screen .entry)) ⌝ }
 {
+    if fill {
+        return draw_filled_box(canvas, screen, x1, y1, x2, y2, mode);
+    }
     let left = least(x1, x2);
     let top = least(y1, y2);
     let right = greatest(x1, x2);
     let bottom = greatest(y1, y2);
-    if fill {
-        let op = raster_op(mode);
-        fill_box(canvas, screen, left, top, right, bottom, op);
-        return lowered_marks(canvas, left, top, right, bottom);
-    }
     draw_outline(canvas, screen, left, top, right, bottom, mode);
     lowered_marks(canvas, left, top, right, bottom)
 }

@@ -6,6 +6,7 @@ mod line;
 mod slope;
 
 pub use boxes::draw_box;
+pub use boxes::draw_filled_box;
 pub use ellipse::draw_ellipse;
 pub use ellipse::radii_fit;
 pub use line::draw_line;

@@ -1,7 +1,16 @@
-use Rattle.laws.specs.Boxes.{box-filled, box-outlined}
+use Rattle.laws.specs.Boxes.{box-outlined}
 use borrow.Author.Needs.{needs}
 use Rattle.draw.proofs.boxes.draw_box.Statement.{statement}
 use Rattle.draw.proofs.boxes.draw_box.Tie as tie
+
+draw-filled-box-requires : tie.Need-draw-filled-box-requires
+draw-filled-box-requires c κs = search needs
+
+same-length : tie.Need-same-length
+same-length c = search needs
+
+returns : tie.Need-returns
+returns c = rw (c .before .before .before .before .if1 .taken) (c .before .before .draw-filled-box .ensures)
 
 least-requires : tie.Need-least-requires
 least-requires c κs = search needs
@@ -15,26 +24,11 @@ greatest-requires c κs = search needs
 greatest-requires-2 : tie.Need-greatest-requires-2
 greatest-requires-2 c κs = search needs
 
-raster-op-requires : tie.Need-raster-op-requires
-raster-op-requires c κs = search needs
-
-fill-box-requires : tie.Need-fill-box-requires
-fill-box-requires c κs = search needs
-
-lowered-marks-requires : tie.Need-lowered-marks-requires
-lowered-marks-requires c κs = search needs
-
-same-length : tie.Need-same-length
-same-length c = search needs
-
-returns : tie.Need-returns
-returns c = search box-filled
-
 draw-outline-requires : tie.Need-draw-outline-requires
 draw-outline-requires c κs = search needs
 
-lowered-marks-requires-2 : tie.Need-lowered-marks-requires-2
-lowered-marks-requires-2 c κs = search needs
+lowered-marks-requires : tie.Need-lowered-marks-requires
+lowered-marks-requires c κs = search needs
 
 same-length-2 : tie.Need-same-length-2
 same-length-2 c = search needs
@@ -46,16 +40,14 @@ pub draw-box-spec : {M : Type 1} → statement M
 draw-box-spec =
     tie.close
     (tie.spec
+    draw-filled-box-requires
+    same-length
+    returns
     least-requires
     least-requires-2
     greatest-requires
     greatest-requires-2
-    raster-op-requires
-    fill-box-requires
-    lowered-marks-requires
-    same-length
-    returns
     draw-outline-requires
-    lowered-marks-requires-2
+    lowered-marks-requires
     same-length-2
     returns-2)
