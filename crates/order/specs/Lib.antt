@@ -1,6 +1,5 @@
 -- PanelState and Held speak of one panel and of effects on it, over any geometry; Formed to EachCall of the calls, a file for each family;
 -- Accepted and Order of their lists. Theorem is what a reader wants.
-pub mod PanelState
 pub mod Held
 pub mod Formed
 pub mod Step

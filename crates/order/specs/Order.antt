@@ -17,8 +17,7 @@ use Rattle.model.specs.Lists.{accepted, Typed, Item, here, after, run, opens, e
 use Rattle.laws.specs.Tests.{either}
 use Rattle.laws.specs.Calls.{own-decide, outcome-done}
 use Rattle.laws.specs.Pendings.{lines-send, idle-iff, lines-bound}
-use Rattle.order.specs.PanelState.{PanelState}
-use Rattle.order.specs.Held.{Held, held-open, held-after, none-left}
+use Rattle.order.specs.Held.{PanelState, Held, held-open, held-after, none-left}
 use Rattle.order.specs.Step.{Lendable, Step, view}
 use Rattle.order.specs.EachCall.{opening-step, item-step}
 use Rattle.order.specs.Accepted.{acceptedCall, acceptedCalls, leftBy, left-run, after-accepted, effect-accepted, sent-item, none-sent}

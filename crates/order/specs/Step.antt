@@ -20,7 +20,7 @@ use Rattle.laws.specs.Record.{Passing, head-tells, decode-encode}
 use Rattle.laws.specs.States.{well-formed, encode-passing}
 use Rattle.laws.specs.Memory.{length-window}
 use Rattle.laws.specs.Marks.{AgreeOutside}
-use Rattle.order.specs.PanelState.{PanelState, Follows}
+use Rattle.order.specs.Held.{PanelState, Follows}
 use Rattle.order.specs.Formed.{marked-formed}
 
 -- lent bytes as an accepted call leaves them: the record passes, memory and panel have their lengths
