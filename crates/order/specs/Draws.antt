@@ -1,55 +1,153 @@
--- Drawings, whatever their shape: what is drawn lies in what is owed.
+-- Calls that change pixels: drawings, whatever their shape, the cursor's blink, `flush` and `write_byte`. What they change lies in what is owed.
 use mathlib.Core.Path.{_≡_, refl, _∙_}
-use mathlib.Core.Logic.{inr}
-use mathlib.Core.Bool.{true}
+use mathlib.Core.Logic.{inl, inr}
+use mathlib.Core.Bool.{true, cond}
 use mathlib.Core.List.{List}
-use Prim.Native.Nat.{ℕ, _+_, _≤_, _<_}
+use Prim.Native.Nat.{ℕ, _+_, _-_, _*_, _/_, _%_, _≤_, _<_}
+use native.Mathlib.Nat.{mod-lt, div-lt-iff-lt-mul, mul-comm}
 use native.Mathlib.Omega.{arith}
-use lib.ListN.{length}
+use lib.Dec.{leb, ltb, eqb}
+use lib.ListN.{length, length-set}
+use borrow.Author.Tests.{le-leb, leb-true, leb-false, ltb-true, ltb-false}
 use Rattle.model.specs.declared.Rect.{Rect}
 use Rattle.model.specs.declared.Head.{Head}
+use Rattle.model.specs.declared.DrawMode.the-variants.{Xor}
 use Rattle.model.specs.Geometry.{Geometry, height, screenBytes}
 use Rattle.model.specs.Glass.{IsGlass}
 use Rattle.model.specs.Rects.{fits}
-use Rattle.model.specs.Memory.{withScreen}
+use Rattle.model.specs.Memory.{screenOf, withScreen}
 use Rattle.model.specs.Pixels.{draw, seen}
-use Rattle.model.specs.Record.{encode, headFits, withHead}
+use Rattle.model.specs.Record.{State, encode, headFits, withHead}
 use Rattle.model.specs.Marks.{Drawing, whole, owes, drawnOn, marked}
-use Rattle.model.specs.Calls.{Lent, lent, drawingWith, drawing}
-use Rattle.model.specs.Lists.{marks, draws}
+use Rattle.model.specs.Text.{withCursor}
+use Rattle.model.specs.Cursor.{blinkOf, blinkNext, cursorBox, underCursor, blinkHead, blinkDrawing}
+use Rattle.model.specs.Glyphs.{Fonts}
+use Rattle.model.specs.Flush.{flushStores, clearedInText, flushed}
+use Rattle.model.specs.Poke.{ignored, poked, inScreen, pokeMark}
+use Rattle.model.specs.Calls.{Lent, lent, drawingWith, drawing, blinked, cursorCleared}
+use Rattle.model.specs.Lists.{nothing, marks, draws, blinks}
+use Rattle.laws.specs.Tests.{tests, if-cases, by-test, and-true, and-false, either}
 use Rattle.laws.specs.Rects.{Fits, passes-fits}
 use Rattle.laws.specs.Pixels.{length-draw}
-use Rattle.laws.specs.Memory.{length-withWindow, window-same}
-use Rattle.laws.specs.Marks.{AgreeOutside, owes-agrees, seen-on}
-use Rattle.order.specs.Formed.{head-formed}
-use Rattle.order.specs.Step.{Lendable, Step, old, screenHeld, known, rewritten-step, screen-in, screen-long}
+use Rattle.laws.specs.Memory.{length-withWindow, window-same, window-set-in, window-set-out}
+use Rattle.laws.specs.Loops.{length-zeros}
+use Rattle.laws.specs.Marks.{AgreeOutside, whole-agrees, owes-agrees, seen-on, poke-agrees}
+use Rattle.laws.specs.Record.{head-tells}
+use Rattle.laws.specs.Cursors.{blink-fits, next-most}
+use Rattle.laws.specs.Boxes.{box-fits}
+use Rattle.laws.specs.Glyphs.{length-paint}
+use Rattle.order.specs.Step.{Lendable, Step, old, screenHeld, known, still-fits, head-formed, same-step, changed-step, rewritten-step, screen-in, screen-long}
+
+-- the whole screen as a dirty rectangle
+pub whole-fits : (g : Geometry) → IsGlass g → Fits 256 0 256 (whole (g .stride) (height g))
+whole-fits g z = inr (omega (arith, z .columns, z .row, z .cursor, z .high))
+
+-- ---- a poked byte: where it is one of the screen, it lies in the eight pixels that are owed; any other changes no pixel
+
+module _ (g : Geometry) (keys : List ℕ) (graphics a : ℕ) where
+  poked-agrees : (v : ℕ) (m : List ℕ) → AgreeOutside (g .stride) (height g) (pokeMark g keys graphics a) (screenOf g graphics m) (screenOf g graphics (poked keys a v m))
+  unfolding poked pokeMark inScreen
+  poked-agrees v m =
+      by-test (ignored keys a) (λ i. rw i (λ x y hx hy n. refl))
+      (λ i. by-test (inScreen g graphics a)
+      (λ e. let p = and-true (leb graphics a) (ltb a (graphics + screenBytes g)) e in
+      rw (i, e, window-set-in graphics (screenBytes g) m a v (leb-true graphics a (p .0)) (ltb-true a (graphics + screenBytes g) (p .1)))
+      (poke-agrees (g .stride) (height g) (screenOf g graphics m) (a - graphics) v))
+      (λ e. let o = either (and-false (leb graphics a) (ltb a (graphics + screenBytes g)) e)
+      (λ n. inl (leb-false graphics a n)) (λ n. inr (ltb-false a (graphics + screenBytes g) n)) in
+      rw (i, e, window-set-out graphics (screenBytes g) m a v o) (λ x y hx hy n. refl)))
+
+  mark-fits : IsGlass g → Fits 256 0 256 (pokeMark g keys graphics a)
+  unfolding pokeMark inScreen
+  mark-fits z =
+      let wide : 0 < g .stride = omega (arith, z .columns) in
+      if-cases (Fits 256 0 256) (ignored keys a) (λ i. inl refl)
+      (λ i. if-cases (Fits 256 0 256) (inScreen g graphics a)
+      (λ e. let p = and-true (leb graphics a) (ltb a (graphics + screenBytes g)) e in
+      let column : (a - graphics) % g .stride < g .stride = mod-lt (a - graphics) wide in
+      let line : (a - graphics) / g .stride < height g = div-lt-iff-lt-mul {k = g .stride} wide .1 (rw (mul-comm (height g) (g .stride)) (omega (arith, tests))) in
+      inr (omega (arith, z .cursor, z .high)))
+      (λ e. inl refl))
 
 module _ (g : Geometry) (k : ℕ) (there : k < g .panels) (l : Lent) (q : Lendable g l) where
-  -- a new screen is written to memory, and the head that f makes; the screen agrees with the old one outside what is owed
-  pub painted-step : (f : Head → Head) (dirty owed : Rect) (new : List ℕ) → headFits g (f (old g l .head)) ≡ true → f (old g l .head) .graphics ≡ old g l .head .graphics
+  abbrev s : State
+  s = old g l
+
+  fit : headFits g (s .head) ≡ true
+  fit = known g l q .head
+
+  pub poke-step : (a v : ℕ) → let m = pokeMark g (s .keys) (s .head .graphics) a in
+      Step g k l (marks m) (lent (encode g (marked g m m s)) (poked (s .keys) a v (l .memory)) (l .panel))
+  unfolding poked
+  poke-step a v =
+      let m = pokeMark g (s .keys) (s .head .graphics) a in
+      rewritten-step g k there l q m m s (poked (s .keys) a v (l .memory)) (known g l q)
+      (if-cases (λ (n : List ℕ). length n ≡ length (l .memory)) (ignored (s .keys) a) (λ e. refl) (λ e. length-set (l .memory) a v) ∙ q .memory) refl refl
+      (mark-fits g (s .keys) (s .head .graphics) a (q .passing .glass)) (poked-agrees g (s .keys) (s .head .graphics) a v (l .memory))
+
+  -- ---- a new screen is written to memory, and the head that f makes; the screen agrees with the old one outside what is owed
+
+  long : length (screenHeld g l) ≡ screenBytes g
+  long = screen-long g (q .passing .glass) (s .head) fit (l .memory) (q .memory)
+
+  painted-step : (f : Head → Head) (dirty owed : Rect) (new : List ℕ) → headFits g (f (s .head)) ≡ true → f (s .head) .graphics ≡ s .head .graphics
       → Fits 256 0 256 dirty → length new ≡ screenBytes g → AgreeOutside (g .stride) (height g) owed (screenHeld g l) new
-      → Step g k l (marks owed) (lent (encode g (marked g dirty owed (withHead (f (old g l .head)) (old g l)))) (withScreen (old g l .head .graphics) new (l .memory)) (l .panel))
-  painted-step f dirty owed new h b d long a =
-      let s = old g l in
-      let w = known g l q in
-      let in-memory : s .head .graphics + screenBytes g ≤ length (l .memory) = rw (q .memory) (screen-in g (q .passing .glass) (s .head) (w .head)) in
+      → Step g k l (marks owed) (lent (encode g (marked g dirty owed (withHead (f (s .head)) s))) (withScreen (s .head .graphics) new (l .memory)) (l .panel))
+  painted-step f dirty owed new h b d n a =
+      let in-memory : s .head .graphics + screenBytes g ≤ length (l .memory) = rw (q .memory) (screen-in g (q .passing .glass) (s .head) fit) in
       rewritten-step g k there l q dirty owed (withHead (f (s .head)) s) (withScreen (s .head .graphics) new (l .memory))
-      (head-formed g s w (f (s .head)) h) (length-withWindow (s .head .graphics) new (l .memory) (rw long in-memory) ∙ q .memory) b refl d
-      (rw (window-same (s .head .graphics) (screenBytes g) new (l .memory) long in-memory) a)
+      (head-formed g s (known g l q) (f (s .head)) h) (length-withWindow (s .head .graphics) new (l .memory) (rw n in-memory) ∙ q .memory) b refl d
+      (rw (window-same (s .head .graphics) (screenBytes g) new (l .memory) n in-memory) a)
+
+  -- flush: the screen changes anywhere, and the whole of it is owed
+  pub flush-step : (f : Fonts) → let m = whole (g .stride) (height g) in
+      Step g k l (marks m) (lent (encode g (marked g m m s)) (withScreen (s .head .graphics) (flushed g f s (l .memory)) (l .memory)) (l .panel))
+  unfolding flushed
+  flush-step f =
+      let m = whole (g .stride) (height g) in
+      painted-step (λ h. h) m m (flushed g f s (l .memory)) fit refl (whole-fits g (q .passing .glass))
+      (length-paint (flushStores g f s (l .memory)) (clearedInText (s .head .screen) (screenHeld g l) (screenBytes g))
+      ∙ if-cases (λ (n : List ℕ). length n ≡ screenBytes g) (eqb (s .head .screen) 0) (λ t. length-zeros (screenBytes g)) (λ t. long))
+      (whole-agrees (g .stride) (height g) _ _)
 
   -- a drawing whose dirty rectangle fits
-  pub drawing-with : (f : Head → Head) (d : Drawing) → headFits g (f (old g l .head)) ≡ true → f (old g l .head) .graphics ≡ old g l .head .graphics
+  drawing-with : (f : Head → Head) (d : Drawing) → headFits g (f (s .head)) ≡ true → f (s .head) .graphics ≡ s .head .graphics
       → fits 256 0 256 (d .dirty) ≡ true → Step g k l (draws g d) (drawingWith g f d l)
   unfolding drawingWith drawnOn
   drawing-with f d h b e =
       let ws = seen (g .stride) (height g) (d .writes) in
       painted-step f (d .dirty) (owes (g .stride) (height g) (d .owed) ws) (draw (g .stride) ws (screenHeld g l)) h b (passes-fits 256 0 256 (d .dirty) e)
-      (length-draw (g .stride) ws (screenHeld g l) ∙ screen-long g (q .passing .glass) (old g l .head) (known g l q .head) (l .memory) (q .memory))
-      (owes-agrees (g .stride) (height g) (d .owed) ws (screenHeld g l) (seen-on (g .stride) (height g) (d .writes)))
+      (length-draw (g .stride) ws (screenHeld g l) ∙ long) (owes-agrees (g .stride) (height g) (d .owed) ws (screenHeld g l) (seen-on (g .stride) (height g) (d .writes)))
 
   pub drawing-step : (d : Drawing) → fits 256 0 256 (d .dirty) ≡ true → Step g k l (draws g d) (drawing g d l)
-  drawing-step d e = drawing-with (λ h. h) d (known g l q .head) refl e
+  drawing-step d e = drawing-with (λ h. h) d fit refl e
 
--- the whole screen as a dirty rectangle
-pub whole-fits : (g : Geometry) → IsGlass g → Fits 256 0 256 (whole (g .stride) (height g))
-whole-fits g z = inr (omega (arith, z .columns, z .row, z .cursor, z .high))
+  -- ---- the cursor: a blink in Text is a drawing, and changes the head besides; in Graph nothing of it reaches the panel
+
+  -- what it marks fits, also a full one at the last column
+  box-in : fits 256 0 256 (blinkDrawing g (s .head) (l .memory) .dirty) ≡ true
+  unfolding blinkDrawing cursorBox
+  box-in =
+      let z = q .passing .glass in
+      let h = s .head in
+      let t = head-tells g h fit in
+      let c = blinkOf (h .cursor) (underCursor g h (l .memory)) in
+      let n : c ≤ 2 = blink-fits (h .cursor) (underCursor g h (l .memory)) (t .cursor) refl .1 in
+      box-fits (g .stride) (height g) (8 * h .column) (16 * h .row) (8 * h .column + 8 * c - 1) (16 * h .row + 15) true Xor
+      (omega (arith, z .cursor, t .column)) (omega (arith, z .high, t .row)) (omega (arith, z .cursor, t .column)) (omega (arith, z .high, t .row))
+
+  pub blink-step : Step g k l (blinks g l) (blinked g l)
+  unfolding headFits blinks blinked blinkHead withCursor
+  blink-step =
+      let h = s .head in
+      let n = blinkNext (h .cursor) (underCursor g h (l .memory)) in
+      by-test (eqb (h .screen) 0)
+      (λ e. rw e (drawing-with (blinkHead g (l .memory)) (blinkDrawing g h (l .memory))
+      (still-fits g h fit 5 (le-leb n 2 (next-most (h .cursor) (underCursor g h (l .memory))))) refl box-in))
+      (λ e. rw e (same-step g k there l q))
+
+  pub clear-cursor-step : Step g k l (cond (eqb (s .head .cursor) 0) nothing (blinks g l)) (cursorCleared g l)
+  unfolding headFits cursorCleared withCursor blinks
+  clear-cursor-step =
+      by-test (eqb (s .head .cursor) 0) (λ e. rw e (same-step g k there l q))
+      (λ e. by-test (eqb (s .head .screen) 0) (λ f. rw (e, f) (rw f at blink-step)) (λ f. rw (e, f) (changed-step g k there l q (withCursor 0) (still-fits g (s .head) fit 5 refl) refl)))

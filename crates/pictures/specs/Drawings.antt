@@ -20,8 +20,7 @@ use Rattle.laws.specs.Pixels.{length-draw}
 use Rattle.laws.specs.Record.{Passing, decode-encode}
 use Rattle.laws.specs.Glasses.{base-glass}
 use Rattle.laws.specs.States.{well-formed}
-use Rattle.order.specs.Formed.{marked-formed}
-use Rattle.order.specs.Step.{screen-in, screen-long}
+use Rattle.order.specs.Step.{marked-formed, screen-in, screen-long}
 use Rattle.pictures.specs.Picture.{Unmarked, Drew, withMarks, graphicsIn, screenIn}
 use Rattle.pictures.specs.Writes.{pictured, pictured-changed}
 

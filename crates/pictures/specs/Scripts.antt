@@ -35,7 +35,7 @@ use Rattle.laws.specs.Pixels.{length-put, put-same, put-other, copyRun-same, co
 use Rattle.laws.specs.Loops.{length-zeros}
 use Rattle.laws.specs.Counts.{none-differ}
 use Rattle.laws.specs.Pendings.{well-send}
-use Rattle.order.specs.Formed.{marked-formed, panel-formed}
+use Rattle.order.specs.Step.{marked-formed, panel-formed}
 use Rattle.order.specs.Opens.{length-clear-memory, open-formed}
 use Rattle.pictures.specs.Picture.{rect}
 use Rattle.pictures.specs.Differing.{one-differs}
