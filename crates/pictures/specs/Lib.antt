@@ -6,6 +6,5 @@ pub mod Drawings
 pub mod Start
 pub mod Shapes
 pub mod Bitmaps
-pub mod Differing
 pub mod Scripts
 pub mod Pictures
