@@ -19,7 +19,7 @@ use Rattle.model.specs.Bitmaps.{paintMode, paintOp, sourceFits, visible, visibl
 use Rattle.model.specs.Calls.{paintBitmap, Lent, Outcome, answered, refusals, refused, drawing, done, outcome}
 use Rattle.laws.specs.Calls.{own-decide}
 use Rattle.pictures.specs.Picture.{rect, sets, clears, Unmarked, Drew}
-use Rattle.pictures.specs.Writes.{hits, made, same, alike, allOn, eachMade, names, othersKept, pictured}
+use Rattle.pictures.specs.Writes.{hits, made, alike, names, allOf, pictured}
 use Rattle.pictures.specs.Drawings.{entered, done-on, drew}
 
 -- the pixels of the byte's last seven bits
@@ -33,7 +33,7 @@ window-one m a h = ap (take 1) (drop-cons m a 0 h)
 
 pub bitmap-clipped : (a : ℕ) → a < 65536 → (l : Lent) → Unmarked l → getD (l .memory) a 0 ≡ 0x81
     → Drew l leftOf81 (rect 0 0 7 1) (rect 0 0 7 1) (outcome base (paintBitmap a (negsuc 0) (pos 0) 8 1 0) l)
-unfolding done sourceFits bitmap visible visibleRect paintedLines paintedLine paintOp bit bitAt onScreen seen owes within inside cut pictured hits made same alike allOn eachMade names othersKept
+unfolding done sourceFits bitmap visible visibleRect paintedLines paintedLine paintOp bit bitAt onScreen seen owes within inside cut pictured hits made alike allOf names
 bitmap-clipped a h l u e =
     let source : window a 1 (l .memory) ≡ 0x81 ∷ [] = window-one (l .memory) a (omega (arith, u .memory)) ∙ ap (λ (b : ℕ). b ∷ []) e in
     drew l u (paintBitmap a (negsuc 0) (pos 0) 8 1 0)

@@ -20,7 +20,7 @@ use Rattle.model.specs.Ellipses.{start, moves, advanced, turns, turned, xStep, 
 use Rattle.model.specs.Calls.{drawPoint, drawLine, drawBox, drawCircle, Lent, lent, answered, drawingWith, drawing, done, outcome}
 use Rattle.laws.specs.Updates.{unmarked}
 use Rattle.pictures.specs.Picture.{rect, sets, inverts, Unmarked, Picture, screenIn, graphicsIn}
-use Rattle.pictures.specs.Writes.{hits, made, same, alike, allOn, eachMade, names, othersKept, pictured}
+use Rattle.pictures.specs.Writes.{hits, made, alike, names, allOf, pictured}
 use Rattle.pictures.specs.Drawings.{passing, screen-fits, done-on, drew}
 
 -- ---- points
@@ -41,17 +41,17 @@ point-off mode h l u =
     ∙ (λ i. answered 0 [] (lent (unmarked base (l .rec) (passing l u) i) (window-back (graphicsIn l) 1600 (l .memory) (screen-fits l u) i) (l .panel)))
 
 pub point-unknown : Picture (drawPoint 5 5 3) [] (rect 5 5 6 6) (rect 5 5 6 6)
-unfolding done point pointRect pointOp onScreen seen owes within inside cut pictured hits made same alike allOn eachMade names othersKept
+unfolding done point pointRect pointOp onScreen seen owes within inside cut pictured hits made alike allOf names
 point-unknown l u =
     drew l u (drawPoint 5 5 3) (point 20 80 5 5 (drawMode 3)) _ _ _ refl (refl, tt) refl (inr (omega arith)) refl refl refl
 
 pub line-clamped : Picture (drawLine 200 90 210 90 1) (sets 159 79 ∷ []) (rect 200 90 211 91) (rect 159 79 160 80)
-unfolding done line horizontalLine horizontal pixelRun runOp lowered onScreen seen owes within inside cut pictured hits made same alike allOn eachMade names othersKept
+unfolding done line horizontalLine horizontal pixelRun runOp lowered onScreen seen owes within inside cut pictured hits made alike allOf names
 line-clamped l u =
     drew l u (drawLine 200 90 210 90 1) (line 20 80 200 90 210 90 (drawMode 1)) _ _ _ refl (refl, tt) refl (inr (omega arith)) refl refl refl
 
 pub line-sloped : Picture (drawLine 0 0 2 1 1) (sets 0 0 ∷ sets 1 0 ∷ sets 2 1 ∷ []) (rect 0 0 3 2) (rect 0 0 3 2)
-unfolding done line isUnknown slopedLine sloped slope stepped nextError pointOp onScreen seen owes within inside cut pictured hits made same alike allOn eachMade names othersKept
+unfolding done line isUnknown slopedLine sloped slope stepped nextError pointOp onScreen seen owes within inside cut pictured hits made alike allOf names
 line-sloped l u =
     drew l u (drawLine 0 0 2 1 1) (line 20 80 0 0 2 1 (drawMode 1)) _ _ _ refl (refl, tt) refl (inr (omega arith)) refl refl refl
 
@@ -62,7 +62,7 @@ abbrev pub row78 : List PixelWrite
 row78 = inverts 0 78 ∷ inverts 1 78 ∷ inverts 2 78 ∷ inverts 3 78 ∷ inverts 4 78 ∷ inverts 5 78 ∷ inverts 6 78 ∷ inverts 7 78 ∷ []
 
 pub box-past-bottom : Picture (drawBox 0 78 7 80 1 2) row78 (rect 0 78 8 81) (rect 0 78 8 80)
-unfolding done box boxOf filledBox boxRows horizontal pixelRun runOp lowered onScreen seen owes within inside cut pictured hits made same alike allOn eachMade names othersKept
+unfolding done box boxOf filledBox boxRows horizontal pixelRun runOp lowered onScreen seen owes within inside cut pictured hits made alike allOf names
 box-past-bottom l u =
     drew l u (drawBox 0 78 7 80 1 2) (box 20 80 0 78 7 80 true (drawMode 2)) _ _ _ refl (refl, tt) refl (inr (omega arith)) refl refl refl
 
@@ -88,13 +88,13 @@ circle2 =
     sets 8 10 ∷ sets 12 10 ∷ sets 8 9 ∷ sets 12 9 ∷ sets 8 11 ∷ sets 12 11 ∷ sets 8 8 ∷ sets 12 8 ∷ sets 8 12 ∷ sets 12 12 ∷ sets 10 8 ∷ sets 10 12 ∷ []
 
 pub circle-two : Picture (drawCircle 10 10 2 0 1) circle2 (rect 8 8 160 80) (rect 8 8 160 80)
-unfolding done radiiFit stepsFit isPoint isNothing isUnknown ellipse ellipseDrawn ellipseMark wraps partsWrites partWrites corners steps stepsFrom parts partsFrom start step stepParts xStep yStep xParts yParts advanced moves turns turned ended pointOp onScreen seen owes within inside cut pictured hits made same alike allOn eachMade names othersKept
+unfolding done radiiFit stepsFit isPoint isNothing isUnknown ellipse ellipseDrawn ellipseMark wraps partsWrites partWrites corners steps stepsFrom parts partsFrom start step stepParts xStep yStep xParts yParts advanced moves turns turned ended pointOp onScreen seen owes within inside cut pictured hits made alike allOf names
 circle-two l u =
     drew l u (drawCircle 10 10 2 0 1) (circle 20 80 10 10 2 false (drawMode 1)) _ _ _
     refl (refl, (refl, (refl, tt))) refl (inr (omega arith)) refl refl refl
 
 pub circle-one : Picture (drawCircle 10 10 1 0 1) (sets 9 10 ∷ sets 11 10 ∷ []) (rect 9 9 160 80) (rect 9 9 160 80)
-unfolding done radiiFit stepsFit isPoint isNothing isUnknown ellipse ellipseDrawn ellipseMark wraps partsWrites partWrites corners steps stepsFrom parts partsFrom start step stepParts xStep yStep xParts yParts advanced moves turns turned ended pointOp onScreen seen owes within inside cut pictured hits made same alike allOn eachMade names othersKept
+unfolding done radiiFit stepsFit isPoint isNothing isUnknown ellipse ellipseDrawn ellipseMark wraps partsWrites partWrites corners steps stepsFrom parts partsFrom start step stepParts xStep yStep xParts yParts advanced moves turns turned ended pointOp onScreen seen owes within inside cut pictured hits made alike allOf names
 circle-one l u =
     drew l u (drawCircle 10 10 1 0 1) (circle 20 80 10 10 1 false (drawMode 1)) _ _ _
     refl (refl, (refl, (refl, tt))) refl (inr (omega arith)) refl refl refl
