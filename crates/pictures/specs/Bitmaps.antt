@@ -37,9 +37,9 @@ unfolding done sourceFits bitmap visible visibleRect paintedLines paintedLine pa
 bitmap-clipped a h l u e =
     let source : window a 1 (l .memory) ≡ 0x81 ∷ [] = window-one (l .memory) a (omega (arith, u .memory)) ∙ ap (λ (b : ℕ). b ∷ []) e in
     drew l u (paintBitmap a (negsuc 0) (pos 0) 8 1 0)
-    (bitmap 20 80 (0x81 ∷ []) (negsuc 0) (pos 0) 8 1 (paintMode 0)) _ _ _ refl (refl, (le-leb (a + 1) 65536 (omega arith), tt))
+    (bitmap 20 80 (0x81 ∷ []) (negsuc 0) (pos 0) 8 1 (paintMode 0)) _ _ refl (refl, (le-leb (a + 1) 65536 (omega arith), tt))
     (ap (λ (s : List ℕ). answered 0 [] (drawing base (bitmap 20 80 s (negsuc 0) (pos 0) 8 1 (paintMode 0)) l)) source)
-    (inr (omega arith)) refl refl refl
+    (inr (omega arith)) refl refl
 
 -- ---- SOURCE
 

@@ -3,7 +3,6 @@
 pub mod Picture
 pub mod Writes
 pub mod Drawings
-pub mod Start
 pub mod Shapes
 pub mod Bitmaps
 pub mod Scripts

@@ -43,17 +43,17 @@ point-off mode h l u =
 pub point-unknown : Picture (drawPoint 5 5 3) [] (rect 5 5 6 6) (rect 5 5 6 6)
 unfolding done point pointRect pointOp onScreen seen owes within inside cut pictured hits made alike allOf names
 point-unknown l u =
-    drew l u (drawPoint 5 5 3) (point 20 80 5 5 (drawMode 3)) _ _ _ refl (refl, tt) refl (inr (omega arith)) refl refl refl
+    drew l u (drawPoint 5 5 3) (point 20 80 5 5 (drawMode 3)) _ _ refl (refl, tt) refl (inr (omega arith)) refl refl
 
 pub line-clamped : Picture (drawLine 200 90 210 90 1) (sets 159 79 ∷ []) (rect 200 90 211 91) (rect 159 79 160 80)
 unfolding done line horizontalLine horizontal pixelRun runOp lowered onScreen seen owes within inside cut pictured hits made alike allOf names
 line-clamped l u =
-    drew l u (drawLine 200 90 210 90 1) (line 20 80 200 90 210 90 (drawMode 1)) _ _ _ refl (refl, tt) refl (inr (omega arith)) refl refl refl
+    drew l u (drawLine 200 90 210 90 1) (line 20 80 200 90 210 90 (drawMode 1)) _ _ refl (refl, tt) refl (inr (omega arith)) refl refl
 
 pub line-sloped : Picture (drawLine 0 0 2 1 1) (sets 0 0 ∷ sets 1 0 ∷ sets 2 1 ∷ []) (rect 0 0 3 2) (rect 0 0 3 2)
 unfolding done line isUnknown slopedLine sloped slope stepped nextError pointOp onScreen seen owes within inside cut pictured hits made alike allOf names
 line-sloped l u =
-    drew l u (drawLine 0 0 2 1 1) (line 20 80 0 0 2 1 (drawMode 1)) _ _ _ refl (refl, tt) refl (inr (omega arith)) refl refl refl
+    drew l u (drawLine 0 0 2 1 1) (line 20 80 0 0 2 1 (drawMode 1)) _ _ refl (refl, tt) refl (inr (omega arith)) refl refl
 
 -- ---- boxes
 
@@ -64,7 +64,7 @@ row78 = inverts 0 78 ∷ inverts 1 78 ∷ inverts 2 78 ∷ inverts 3 78 ∷ inve
 pub box-past-bottom : Picture (drawBox 0 78 7 80 1 2) row78 (rect 0 78 8 81) (rect 0 78 8 80)
 unfolding done box boxOf filledBox boxRows horizontal pixelRun runOp lowered onScreen seen owes within inside cut pictured hits made alike allOf names
 box-past-bottom l u =
-    drew l u (drawBox 0 78 7 80 1 2) (box 20 80 0 78 7 80 true (drawMode 2)) _ _ _ refl (refl, tt) refl (inr (omega arith)) refl refl refl
+    drew l u (drawBox 0 78 7 80 1 2) (box 20 80 0 78 7 80 true (drawMode 2)) _ _ refl (refl, tt) refl (inr (omega arith)) refl refl
 
 -- each of its rows beyond 79 lands there, and inverts what the row before it did
 pub box-row : (l : Lent) → Unmarked l → (x : ℕ) → x < 160 → bit 20 (screenIn (outcome base (drawBox 0 78 7 80 1 2) l .left)) x 79 ≡ bit 20 (screenIn l) x 79
@@ -90,11 +90,11 @@ circle2 =
 pub circle-two : Picture (drawCircle 10 10 2 0 1) circle2 (rect 8 8 160 80) (rect 8 8 160 80)
 unfolding done radiiFit stepsFit isPoint isNothing isUnknown ellipse ellipseDrawn ellipseMark wraps partsWrites partWrites corners steps stepsFrom parts partsFrom start step stepParts xStep yStep xParts yParts advanced moves turns turned ended pointOp onScreen seen owes within inside cut pictured hits made alike allOf names
 circle-two l u =
-    drew l u (drawCircle 10 10 2 0 1) (circle 20 80 10 10 2 false (drawMode 1)) _ _ _
-    refl (refl, (refl, (refl, tt))) refl (inr (omega arith)) refl refl refl
+    drew l u (drawCircle 10 10 2 0 1) (circle 20 80 10 10 2 false (drawMode 1)) _ _
+    refl (refl, (refl, (refl, tt))) refl (inr (omega arith)) refl refl
 
 pub circle-one : Picture (drawCircle 10 10 1 0 1) (sets 9 10 ∷ sets 11 10 ∷ []) (rect 9 9 160 80) (rect 9 9 160 80)
 unfolding done radiiFit stepsFit isPoint isNothing isUnknown ellipse ellipseDrawn ellipseMark wraps partsWrites partWrites corners steps stepsFrom parts partsFrom start step stepParts xStep yStep xParts yParts advanced moves turns turned ended pointOp onScreen seen owes within inside cut pictured hits made alike allOf names
 circle-one l u =
-    drew l u (drawCircle 10 10 1 0 1) (circle 20 80 10 10 1 false (drawMode 1)) _ _ _
-    refl (refl, (refl, (refl, tt))) refl (inr (omega arith)) refl refl refl
+    drew l u (drawCircle 10 10 1 0 1) (circle 20 80 10 10 1 false (drawMode 1)) _ _
+    refl (refl, (refl, (refl, tt))) refl (inr (omega arith)) refl refl
