@@ -4,6 +4,5 @@ pub mod Picture
 pub mod Writes
 pub mod Drawings
 pub mod Shapes
-pub mod Bitmaps
 pub mod Scripts
 pub mod Pictures
