@@ -1,8 +1,8 @@
 -- The pictures of points, lines, boxes, circles and bitmaps: each computes from its drawing.
-use mathlib.Core.Path.{_≡_, refl, sym, ap, _∙_}
+use mathlib.Core.Path.{_≡_, refl, ap, _∙_}
 use mathlib.Core.Logic.{_≢_, inr}
 use mathlib.Core.Bool.{true, false}
-use mathlib.Core.List.{List, [], _∷_, _++_}
+use mathlib.Core.List.{List, [], _∷_}
 use Prim.Native.Nat.{ℕ, _+_, _≤_, _<_}
 use native.Mathlib.Omega.{arith}
 use lib.IntN.{ℤ, pos, negsuc}
@@ -33,11 +33,7 @@ use Rattle.pictures.specs.Drawings.{passing, screen-fits, done-on, drew,
 -- a window put back
 window-back : (b n : ℕ) (m : List ℕ) → b + n ≤ length m → withWindow b (window b n m) m ≡ m
 unfolding window withWindow
-window-back b n m h =
-    ap (λ (k : ℕ). take b m ++ (take n (drop b m) ++ drop (b + k) m)) (length-take-le n (drop b m) (simp length-drop (omega arith)))
-    ∙ ap (λ (x : List ℕ). take b m ++ (take n (drop b m) ++ x)) (sym (drop-drop n b m))
-    ∙ ap (λ (x : List ℕ). take b m ++ x) (take-append-drop n (drop b m))
-    ∙ take-append-drop b m
+window-back b n m h = cc (length-take-le n (drop b m) (simp length-drop (omega arith)), drop-drop n b m, take-append-drop n (drop b m), take-append-drop b m)
 
 pub point-off : (mode : ℕ) → mode ≤ 3 → (l : Lent) → Unmarked l → outcome base (drawPoint 160 0 mode) l ≡ answered 0 [] l
 unfolding done drawingWith drawnOn point pointRect onScreen seen draw owes within answered
