@@ -86,22 +86,23 @@ module _ (l : Lent) (u : Unmarked l) where
   done-on c e a = outcome-done base c l (own-decide base c l (entered c e) ∙ pass-accepted (ownTests base c l) a)
 
   -- nothing was marked, so its own marks are what stands
-  marks-only : (m o owed : Rect) → cut 160 0 80 o ≡ owed → marked base m o s ≡ withMarks m owed s
+  marks-only : (m o dirty owed : Rect) → m ≡ dirty → cut 160 0 80 o ≡ owed → marked base m o s ≡ withMarks dirty owed s
   unfolding decode listing marked updateDirty owing joinOwed join isEmpty
-  marks-only m o owed f =
-      λ i. withHead (withDirty (join (u .dirty i) m) (s .head))
+  marks-only m o dirty owed e f =
+      λ i. withHead (withDirty ((ap (λ (q : Rect). join q m) (u .dirty) ∙ e) i) (s .head))
       (withPanel 0 (record { owed = (ap (joinOwed 160 80 0 o) (u .owed) ∙ ap (λ (q : Rect). q ∷ []) f) i; hand = panelOf base s 0 .hand; sent = panelOf base s 0 .sent }) s)
 
-  pub drew : (c : Call) (d : Drawing) (ps : List PixelWrite) (owed : Rect) → takes c ≡ with-memory → AllPass (ownTests base c l) → done base c l ≡ answered 0 [] (drawing base d l)
-      → Fits 256 0 256 (d .dirty) → cut 160 0 80 (owedBy d) ≡ owed → pictured (seen 20 80 (d .writes)) ps ≡ true → Drew l ps (d .dirty) owed (outcome base c l)
+  pub drew : (c : Call) (d : Drawing) (ps : List PixelWrite) (dirty owed : Rect) → takes c ≡ with-memory → AllPass (ownTests base c l)
+      → done base c l ≡ answered 0 [] (drawing base d l) → Fits 256 0 256 dirty → d .dirty ≡ dirty → cut 160 0 80 (owedBy d) ≡ owed
+      → pictured (seen 20 80 (d .writes)) ps ≡ true → Drew l ps dirty owed (outcome base c l)
   unfolding answered drawingWith drawnOn decode listing
-  drew c d ps owed t a k f o p =
+  drew c d ps dirty owed t a k f e o p =
       let ws = seen 20 80 (d .writes) in
       let new = draw 20 ws (screenIn l) in
       let long = screen-long base base-glass (s .head) (formed .head) (l .memory) (u .memory) in
-      let m = marks-only (d .dirty) (owedBy d) owed o in
-      let state : decode base (drawing base d l .rec) ≡ withMarks (d .dirty) owed s =
-      decode-encode base (marked base (d .dirty) (owedBy d) s) base-glass (marked-formed base (d .dirty) (owedBy d) s f formed) ∙ m in
+      let m = marks-only (d .dirty) (owedBy d) dirty owed e o in
+      let state : decode base (drawing base d l .rec) ≡ withMarks dirty owed s =
+      decode-encode base (marked base (d .dirty) (owedBy d) s) base-glass (marked-formed base (d .dirty) (owedBy d) s (rw e f) formed) ∙ m in
       let screen : screenIn (drawing base d l) ≡ new = ap (λ (z : State). screenOf base (z .head .graphics) (withScreen (graphicsIn l) new (l .memory))) state
       ∙ window-same (graphicsIn l) 1600 new (l .memory) (length-draw 20 ws (screenIn l) ∙ long) screen-fits in
       rw (done-on c t a ∙ k)

@@ -43,15 +43,15 @@ point-off mode h l u =
 
 pub point-unknown : Picture (drawPoint 5 5 3) [] (rect 5 5 6 6) (rect 5 5 6 6)
 unfolding done point pointRect pointOp onScreen seen owes within inside cut pictured hits made alike allOf names
-point-unknown l u = drew l u (drawPoint 5 5 3) (point 20 80 5 5 (drawMode 3)) _ _ refl (refl, tt) refl (inr (omega arith)) refl refl
+point-unknown l u = drew l u (drawPoint 5 5 3) (point 20 80 5 5 (drawMode 3)) _ _ _ refl (refl, tt) refl (inr (omega arith)) refl refl refl
 
 pub line-clamped : Picture (drawLine 200 90 210 90 1) (sets 159 79 ∷ []) (rect 200 90 211 91) (rect 159 79 160 80)
 unfolding done line horizontalLine horizontal pixelRun runOp lowered onScreen seen owes within inside cut pictured hits made alike allOf names
-line-clamped l u = drew l u (drawLine 200 90 210 90 1) (line 20 80 200 90 210 90 (drawMode 1)) _ _ refl (refl, tt) refl (inr (omega arith)) refl refl
+line-clamped l u = drew l u (drawLine 200 90 210 90 1) (line 20 80 200 90 210 90 (drawMode 1)) _ _ _ refl (refl, tt) refl (inr (omega arith)) refl refl refl
 
 pub line-sloped : Picture (drawLine 0 0 2 1 1) (sets 0 0 ∷ sets 1 0 ∷ sets 2 1 ∷ []) (rect 0 0 3 2) (rect 0 0 3 2)
 unfolding done line isUnknown slopedLine sloped slope stepped nextError pointOp onScreen seen owes within inside cut pictured hits made alike allOf names
-line-sloped l u = drew l u (drawLine 0 0 2 1 1) (line 20 80 0 0 2 1 (drawMode 1)) _ _ refl (refl, tt) refl (inr (omega arith)) refl refl
+line-sloped l u = drew l u (drawLine 0 0 2 1 1) (line 20 80 0 0 2 1 (drawMode 1)) _ _ _ refl (refl, tt) refl (inr (omega arith)) refl refl refl
 
 -- ---- boxes
 
@@ -59,7 +59,7 @@ pub box-past-bottom : Picture (drawBox 0 78 7 80 1 2)
     (inverts 0 78 ∷ inverts 1 78 ∷ inverts 2 78 ∷ inverts 3 78 ∷ inverts 4 78 ∷ inverts 5 78 ∷ inverts 6 78 ∷ inverts 7 78 ∷ [])
     (rect 0 78 8 81) (rect 0 78 8 80)
 unfolding done box boxOf filledBox boxRows horizontal pixelRun runOp lowered onScreen seen owes within inside cut pictured hits made alike allOf names
-box-past-bottom l u = drew l u (drawBox 0 78 7 80 1 2) (box 20 80 0 78 7 80 true (drawMode 2)) _ _ refl (refl, tt) refl (inr (omega arith)) refl refl
+box-past-bottom l u = drew l u (drawBox 0 78 7 80 1 2) (box 20 80 0 78 7 80 true (drawMode 2)) _ _ _ refl (refl, tt) refl (inr (omega arith)) refl refl refl
 
 -- each of its rows beyond 79 lands there, and inverts what the row before it did
 pub box-row : (l : Lent) → Unmarked l → (x : ℕ) → x < 160 → bit 20 (screenIn (outcome base (drawBox 0 78 7 80 1 2) l .left)) x 79 ≡ bit 20 (screenIn l) x 79
@@ -82,11 +82,11 @@ pub circle-two : Picture (drawCircle 10 10 2 0 1)
     (sets 8 10 ∷ sets 12 10 ∷ sets 8 9 ∷ sets 12 9 ∷ sets 8 11 ∷ sets 12 11 ∷ sets 8 8 ∷ sets 12 8 ∷ sets 8 12 ∷ sets 12 12 ∷ sets 10 8 ∷ sets 10 12 ∷ [])
     (rect 8 8 160 80) (rect 8 8 160 80)
 unfolding done radiiFit stepsFit isPoint isNothing isUnknown ellipse ellipseDrawn ellipseMark wraps partsWrites partWrites corners steps stepsFrom parts partsFrom start step stepParts xStep yStep xParts yParts advanced moves turns turned ended pointOp onScreen seen owes within inside cut pictured hits made alike allOf names
-circle-two l u = drew l u (drawCircle 10 10 2 0 1) (circle 20 80 10 10 2 false (drawMode 1)) _ _ refl (refl, (refl, (refl, tt))) refl (inr (omega arith)) refl refl
+circle-two l u = drew l u (drawCircle 10 10 2 0 1) (circle 20 80 10 10 2 false (drawMode 1)) _ _ _ refl (refl, (refl, (refl, tt))) refl (inr (omega arith)) refl refl refl
 
 pub circle-one : Picture (drawCircle 10 10 1 0 1) (sets 9 10 ∷ sets 11 10 ∷ []) (rect 9 9 160 80) (rect 9 9 160 80)
 unfolding done radiiFit stepsFit isPoint isNothing isUnknown ellipse ellipseDrawn ellipseMark wraps partsWrites partWrites corners steps stepsFrom parts partsFrom start step stepParts xStep yStep xParts yParts advanced moves turns turned ended pointOp onScreen seen owes within inside cut pictured hits made alike allOf names
-circle-one l u = drew l u (drawCircle 10 10 1 0 1) (circle 20 80 10 10 1 false (drawMode 1)) _ _ refl (refl, (refl, (refl, tt))) refl (inr (omega arith)) refl refl
+circle-one l u = drew l u (drawCircle 10 10 1 0 1) (circle 20 80 10 10 1 false (drawMode 1)) _ _ _ refl (refl, (refl, (refl, tt))) refl (inr (omega arith)) refl refl refl
 
 -- ---- bitmaps: one source byte clipped at the left edge, and the last address that SOURCE lets pass
 
@@ -98,9 +98,9 @@ unfolding done window sourceFits bitmap visible visibleRect paintedLines painted
 bitmap-clipped a h l u e =
     let source : window a 1 (l .memory) ≡ 0x81 ∷ [] = ap (take 1) (drop-cons (l .memory) a 0 (omega (arith, u .memory))) ∙ ap (λ (b : ℕ). b ∷ []) e in
     drew l u (paintBitmap a (negsuc 0) (pos 0) 8 1 0)
-    (bitmap 20 80 (0x81 ∷ []) (negsuc 0) (pos 0) 8 1 (paintMode 0)) _ _ refl (refl, (le-leb (a + 1) 65536 (omega arith), tt))
+    (bitmap 20 80 (0x81 ∷ []) (negsuc 0) (pos 0) 8 1 (paintMode 0)) _ _ _ refl (refl, (le-leb (a + 1) 65536 (omega arith), tt))
     (ap (λ (s : List ℕ). answered 0 [] (drawing base (bitmap 20 80 s (negsuc 0) (pos 0) 8 1 (paintMode 0)) l)) source)
-    (inr (omega arith)) refl refl
+    (inr (omega arith)) refl refl refl
 
 module _ (x y : ℤ) (mode : ℕ) (h : mode ≤ 4) (l : Lent) (u : Unmarked l) where
   pub source-refused : outcome base (paintBitmap 65535 x y 9 1 mode) l ≡ answered SOURCE [] l
