@@ -8,7 +8,7 @@ use native.Mathlib.Nat.{mod-lt, div-lt-iff-lt-mul, mul-comm}
 use native.Mathlib.Omega.{arith}
 use lib.Dec.{leb, ltb, eqb}
 use lib.ListN.{length, length-set}
-use borrow.Author.Tests.{le-leb, leb-true, leb-false, ltb-true, ltb-false}
+use borrow.Author.Tests.{le-leb, leb-false, ltb-false}
 use Rattle.model.specs.declared.Rect.{Rect}
 use Rattle.model.specs.declared.Head.{Head}
 use Rattle.model.specs.declared.DrawMode.the-variants.{Xor}
@@ -44,30 +44,22 @@ whole-fits g z = inr (omega (arith, z .columns, z .row, z .cursor, z .high))
 
 -- ---- a poked byte: where it is one of the screen, it lies in the eight pixels that are owed; any other changes no pixel
 
-module _ (g : Geometry) (keys : List ℕ) (graphics a : ℕ) where
-  poked-agrees : (v : ℕ) (m : List ℕ) → AgreeOutside (g .stride) (height g) (pokeMark g keys graphics a) (screenOf g graphics m) (screenOf g graphics (poked keys a v m))
-  unfolding poked pokeMark inScreen
-  poked-agrees v m =
-      by-test (ignored keys a) (λ i. rw i (λ x y hx hy n. refl))
-      (λ i. by-test (inScreen g graphics a)
-      (λ e. let p = and-true (leb graphics a) (ltb a (graphics + screenBytes g)) e in
-      rw (i, e, window-set-in graphics (screenBytes g) m a v (leb-true graphics a (p .0)) (ltb-true a (graphics + screenBytes g) (p .1)))
-      (poke-agrees (g .stride) (height g) (screenOf g graphics m) (a - graphics) v))
-      (λ e. let o = either (and-false (leb graphics a) (ltb a (graphics + screenBytes g)) e)
-      (λ n. inl (leb-false graphics a n)) (λ n. inr (ltb-false a (graphics + screenBytes g) n)) in
-      rw (i, e, window-set-out graphics (screenBytes g) m a v o) (λ x y hx hy n. refl)))
-
-  mark-fits : IsGlass g → Fits 256 0 256 (pokeMark g keys graphics a)
-  unfolding pokeMark inScreen
-  mark-fits z =
-      let wide : 0 < g .stride = omega (arith, z .columns) in
-      if-cases (Fits 256 0 256) (ignored keys a) (λ i. inl refl)
-      (λ i. if-cases (Fits 256 0 256) (inScreen g graphics a)
-      (λ e. let p = and-true (leb graphics a) (ltb a (graphics + screenBytes g)) e in
-      let column : (a - graphics) % g .stride < g .stride = mod-lt (a - graphics) wide in
-      let line : (a - graphics) / g .stride < height g = div-lt-iff-lt-mul {k = g .stride} wide .1 (rw (mul-comm (height g) (g .stride)) (omega (arith, tests))) in
-      inr (omega (arith, z .cursor, z .high)))
-      (λ e. inl refl))
+poked-mark : (g : Geometry) → IsGlass g → (keys : List ℕ) (graphics a v : ℕ) (m : List ℕ) → let r = pokeMark g keys graphics a in
+    Fits 256 0 256 r × AgreeOutside (g .stride) (height g) r (screenOf g graphics m) (screenOf g graphics (poked keys a v m))
+unfolding poked pokeMark inScreen
+poked-mark g z keys graphics a v m =
+    by-test (ignored keys a) (λ i. rw i (inl refl, λ x y hx hy n. refl))
+    (λ i. by-test (inScreen g graphics a)
+    (λ e.
+    let p = and-true (leb graphics a) (ltb a (graphics + screenBytes g)) e in
+    let wide : 0 < g .stride = omega (arith, z .columns) in
+    let column : (a - graphics) % g .stride < g .stride = mod-lt (a - graphics) wide in
+    let line : (a - graphics) / g .stride < height g = div-lt-iff-lt-mul {k = g .stride} wide .1 (rw (mul-comm (height g) (g .stride)) (omega (arith, tests))) in
+    rw (i, e, window-set-in graphics (screenBytes g) m a v (omega (arith, tests)) (omega (arith, tests)))
+    (inr (omega (arith, z .cursor, z .high)), poke-agrees (g .stride) (height g) (screenOf g graphics m) (a - graphics) v))
+    (λ e.
+    let o = either (and-false (leb graphics a) (ltb a (graphics + screenBytes g)) e) (λ n. inl (leb-false graphics a n)) (λ n. inr (ltb-false a (graphics + screenBytes g) n)) in
+    rw (i, e, window-set-out graphics (screenBytes g) m a v o) (inl refl, λ x y hx hy n. refl)))
 
 module _ (g : Geometry) (k : ℕ) (there : k < g .panels) (l : Lent) (q : Lendable g l) where
   abbrev s : State
@@ -81,9 +73,9 @@ module _ (g : Geometry) (k : ℕ) (there : k < g .panels) (l : Lent) (q : Lendab
   unfolding poked
   poke-step a v =
       let m = pokeMark g (s .keys) (s .head .graphics) a in
+      let r = poked-mark g (q .passing .glass) (s .keys) (s .head .graphics) a v (l .memory) in
       rewritten-step g k there l q m m s (poked (s .keys) a v (l .memory)) (known g l q)
-      (if-cases (λ (n : List ℕ). length n ≡ length (l .memory)) (ignored (s .keys) a) (λ e. refl) (λ e. length-set (l .memory) a v) ∙ q .memory) refl refl
-      (mark-fits g (s .keys) (s .head .graphics) a (q .passing .glass)) (poked-agrees g (s .keys) (s .head .graphics) a v (l .memory))
+      (if-cases (λ (n : List ℕ). length n ≡ length (l .memory)) (ignored (s .keys) a) (λ e. refl) (λ e. length-set (l .memory) a v) ∙ q .memory) refl refl (r .0) (r .1)
 
   -- ---- a new screen is written to memory, and the head that f makes; the screen agrees with the old one outside what is owed
 

@@ -13,12 +13,10 @@ use Rattle.model.specs.Rects.{none, isEmpty, fits}
 use Rattle.model.specs.Refusals.{refusal, ruled}
 use Rattle.model.specs.Marks.{withDirty}
 use Rattle.model.specs.Points.{drawMode, point}
-use Rattle.model.specs.Lines.{line}
-use Rattle.model.specs.Boxes.{box}
 use Rattle.model.specs.Ellipses.{ellipse}
 use Rattle.model.specs.declared.DrawMode.{DrawMode}
 use Rattle.model.specs.declared.Head.{Head}
-use Rattle.model.specs.Bitmaps.{paintMode, sourceBytes, bitmap}
+use Rattle.model.specs.Bitmaps.{paintMode, sourceBytes}
 use Rattle.model.specs.Memory.{window}
 use Rattle.model.specs.Text.{withRow, withColumn, printMode, withPrintMode}
 use Rattle.model.specs.Calls.{Call, opening, reset, drawPoint, drawLine, drawBox, drawCircle, drawEllipse, checkPoint, paintBitmap, writeByte, flush, getRow, getColumn, setRow, setColumn, setPrintMode, takeDirtyArea, send, Lent, answered, drawing, filled, refusals, refused, done, outcome, print, newline, cls, setScreenMode, blinkCursor, clearCursor}
@@ -61,8 +59,7 @@ module _ (g : Geometry) where
 
     ellipse-step : (x y rx ry : ℕ) (fill : Bool) (d : DrawMode) → x < 256 → y < 256 → let e = ellipse (g .stride) (height g) x y rx ry fill d in Step g 0 l (draws g e) (drawing g e l)
     ellipse-step x y rx ry fill d hx hy =
-        drawing-step g 0 (z .one) l q (ellipse (g .stride) (height g) x y rx ry fill d)
-        (ellipse-fits (g .stride) (height g) x y rx ry fill d (omega (arith, z .columns)) (omega (arith, z .cursor)) (omega (arith, z .row)) (z .high) hx hy)
+        drawing-step g 0 (z .one) l q _ (ellipse-fits (g .stride) (height g) x y rx ry fill d (omega (arith, z .columns)) (omega (arith, z .cursor)) (omega (arith, z .row)) (z .high) hx hy)
 
     -- panel 0 is the one where a send goes
     pub call-step : (c : Call) → Typed c → accepted g c l → Step g 0 l (effect g c l) (done g c l .left)
@@ -72,18 +69,14 @@ module _ (g : Geometry) where
     call-step (drawPoint x y mode) t a =
         drawing-step g 0 (z .one) l q (point (g .stride) (height g) x y (drawMode mode)) (point-fits (g .stride) (height g) x y (t .0) (t .1))
     call-step (drawLine x1 y1 x2 y2 mode) t a =
-        drawing-step g 0 (z .one) l q (line (g .stride) (height g) x1 y1 x2 y2 (drawMode mode))
-        (line-fits (g .stride) (height g) x1 y1 x2 y2 (drawMode mode) (t .0) (t .1) (t .2) (t .3))
+        drawing-step g 0 (z .one) l q _ (line-fits (g .stride) (height g) x1 y1 x2 y2 (drawMode mode) (t .0) (t .1) (t .2) (t .3))
     call-step (drawBox x1 y1 x2 y2 fill mode) t a =
-        drawing-step g 0 (z .one) l q (box (g .stride) (height g) x1 y1 x2 y2 (filled fill) (drawMode mode))
-        (box-fits (g .stride) (height g) x1 y1 x2 y2 (filled fill) (drawMode mode) (t .0) (t .1) (t .2) (t .3))
+        drawing-step g 0 (z .one) l q _ (box-fits (g .stride) (height g) x1 y1 x2 y2 (filled fill) (drawMode mode) (t .0) (t .1) (t .2) (t .3))
     call-step (drawCircle x y r fill mode) t a = ellipse-step x y r r (filled fill) (drawMode mode) (t .0) (t .1)
     call-step (drawEllipse x y rx ry fill mode) t a = ellipse-step x y rx ry (filled fill) (drawMode mode) (t .0) (t .1)
     call-step (checkPoint x y) t a = same-step g 0 (z .one) l q
     call-step (paintBitmap b x y w n mode) t a =
-        let source = window b (sourceBytes w n) (l .memory) in
-        drawing-step g 0 (z .one) l q (bitmap (g .stride) (height g) source x y w n (paintMode mode))
-        (bitmap-fits (g .stride) (height g) source x y w n (paintMode mode) (omega (arith, z .cursor)) (z .high))
+        drawing-step g 0 (z .one) l q _ (bitmap-fits (g .stride) (height g) (window b (sourceBytes w n) (l .memory)) x y w n (paintMode mode) (omega (arith, z .cursor)) (z .high))
     call-step (print bs) t a = page-step g 0 (z .one) l q _ (print-sheet (rows g) (columns g) (isInverse (h .print)) bs (pageOf g (old g l) (l .memory)) (page-sheet g 0 (z .one) l q))
     call-step newline t a =
         page-step g 0 (z .one) l q _ (newline-sheet (rows g) (columns g) 1 1 (pageOf g (old g l) (l .memory)) (omega (arith, z .columns)) (page-sheet g 0 (z .one) l q))
