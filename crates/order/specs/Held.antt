@@ -73,9 +73,7 @@ covered-take g s p q c =
 -- a pixel of r below its top line is one of what is left
 next-in : (r : Rect) (x y : ℕ) → In r x y → y ≢ r .top → In (nextLine r) x y
 unfolding nextLine
-next-in r x y i n =
-    if-cases (λ (q : Rect). In q x y) (ltb (r .top + 1) (r .bottom))
-    (λ e. omega arith) (λ e. omega (arith, tests))
+next-in r x y i n = if-cases (λ (q : Rect). In q x y) (ltb (r .top + 1) (r .bottom)) (λ e. omega arith) (λ e. omega (arith, tests))
 
 -- a pixel that differs after the top line of r is sent differed before, and is not one of the line
 line-differs : (g : Geometry) (r : Rect) → Proper (width g) 0 (height g) r → (s p : List ℕ) → length p ≡ screenBytes g → (x y : ℕ) → x < width g
@@ -98,8 +96,7 @@ covered-send : (g : Geometry) (s p : List ℕ) (q : Pending) → length p ≡ sc
     → Covered g s (sendPanel (g .stride) q s p) (sendPending q)
 unfolding sendPanel sendPending lineSent
 covered-send g s p q l f c =
-    by-test (isEmpty (takeOwed q .hand))
-    (λ e. rw e c)
+    by-test (isEmpty (takeOwed q .hand)) (λ e. rw e c)
     (λ e. rw e (λ x y hx hy d.
     let r = takeOwed q .hand in
     let k = line-differs g r (to-send g q f e) s p l x y hx d in

@@ -75,8 +75,8 @@ module _ (s : State) (w : WellFormed base s) (m p : List ℕ) (hm : length m ≡
   point-done =
       let l = lent (encode base s) m p in
       let q = encode-passing base base-glass s w in
-      rw (outcome-done base (drawPoint 3 0 1) l (own-decide base (drawPoint 3 0 1) l (record { sized = q .sized; lengths = eq-eqb (length m) 65536 hm; state = (q .passes, tt) })),
-      decode-encode base s base-glass w)
+      let t = own-decide base (drawPoint 3 0 1) l (record { sized = q .sized; lengths = eq-eqb (length m) 65536 hm; state = (q .passes, tt) }) in
+      rw (outcome-done base (drawPoint 3 0 1) l t, decode-encode base s base-glass w)
 
   send-done : length p ≡ 1600 → outcome base send (lent (encode base s) m p)
       ≡ answered 0 (sendNumbers (panelOf base s 0)) (lent (encode base (sentOf s)) m (sendPanel 20 (panelOf base s 0) (screenOf base (s .head .graphics) m) p))

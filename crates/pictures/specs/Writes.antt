@@ -12,7 +12,7 @@ use borrow.Author.Tests.{eqb-false}
 use Rattle.model.specs.Pixels.{PixelWrite, bit, onScreen, writePixel, draw}
 use Rattle.laws.specs.Tests.{tests, by-test, either, clash, and-true, or-cases}
 use Rattle.laws.specs.Tables.{same-bool}
-use Rattle.laws.specs.Pixels.{Each, place-lt, length-put, put-same, put-other}
+use Rattle.laws.specs.Pixels.{Each, place-lt, length-put, put-same, put-other, draw-other}
 use Rattle.pictures.specs.Picture.{Changed}
 
 -- ---- what becomes of one pixel
@@ -37,11 +37,6 @@ module _ (w : PixelWrite) (x y : ℕ) where
 unfoldable pub made : List PixelWrite → ℕ → ℕ → Bool → Bool
 made [] x y v = v
 made (w ∷ ws) x y v = made ws x y (cond (hits w x y) (w .op v) v)
-
-made-miss : (ws : List PixelWrite) (x y : ℕ) (v : Bool) → Each (λ w. hits w x y ≡ false) ws → made ws x y v ≡ v
-unfolding made
-made-miss [] x y v n = refl
-made-miss (w ∷ ws) x y v n = rw (n .0) (made-miss ws x y v (n .1))
 
 -- a write on the screen
 abbrev On : PixelWrite → Type 0
@@ -94,9 +89,10 @@ each t [] f e = tt
 each t (w ∷ ws) f e = let p = and-true (t w) (allOf t ws) e in (f w (p .0), each t ws f (p .1))
 
 -- one of ws writes pixel (x, y), or none does
-hit-or-missed : {A : Type 0} (ws : List PixelWrite) (x y : ℕ) → Each (λ w. hits w x y ≡ true → A) ws → (Each (λ w. hits w x y ≡ false) ws → A) → A
-hit-or-missed [] x y f g = g tt
-hit-or-missed (w ∷ ws) x y f g = by-test (hits w x y) (f .0) (λ e. hit-or-missed ws x y (f .1) (λ n. g (e, n)))
+hit-or-missed : {A : Type 0} (ws : List PixelWrite) (x y : ℕ) → Each On ws → Each (λ w. hits w x y ≡ true → A) ws
+    → (Each (λ w. (w .x < 160) × ((x ≢ w .x) ⊎ (y ≢ w .y))) ws → A) → A
+hit-or-missed [] x y o f g = g tt
+hit-or-missed (w ∷ ws) x y o f g = by-test (hits w x y) (f .0) (λ e. hit-or-missed ws x y (o .1) (f .1) (λ n. g ((o .0 .0, miss w x y e), n)))
 
 abbrev isOn : PixelWrite → Bool
 isOn w = onScreen 20 80 (w .x) (w .y)
@@ -130,10 +126,10 @@ pictured-changed ws ps s n e =
           let r = and-true (isOn w) (alike (made ws (w .x) (w .y)) (w .op)) t in
           draw-made ws s (w .x) (w .y) n o (on w (r .0) .0) ∙ alike-same (made ws (w .x) (w .y)) (w .op) (r .1) (bit 20 s (w .x) (w .y))) (q .0);
       others = λ x y hx hy k.
-          draw-made ws s x y n o hx
-          ∙ hit-or-missed ws x y (each (isKept ws ps) ws (λ w t h.
+          hit-or-missed ws x y o (each (isKept ws ps) ws (λ w t h.
           let r = hit w x y h in
-          either (or-cases (names ps (w .x) (w .y)) (alike (made ws (w .x) (w .y)) (λ v. v)) t)
+          draw-made ws s x y n o hx
+          ∙ either (or-cases (names ps (w .x) (w .y)) (alike (made ws (w .x) (w .y)) (λ v. v)) t)
           (λ a. clash (names ps x y) (rw (r .0, r .1) a) (unnamed ps x y k)) (λ a. rw (r .0, r .1) (alike-same (made ws (w .x) (w .y)) (λ v. v) a _))) (q .1))
-          (made-miss ws x y (bit 20 s x y));
+          (draw-other 20 ws s x y hx);
     }
