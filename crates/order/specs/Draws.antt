@@ -9,7 +9,6 @@ use native.Mathlib.Omega.{arith}
 use lib.Dec.{leb, ltb, eqb}
 use lib.ListN.{length, length-set}
 use borrow.Author.Tests.{le-leb, leb-false, ltb-false}
-use Rattle.model.specs.declared.Rect.{Rect}
 use Rattle.model.specs.declared.Head.{Head}
 use Rattle.model.specs.declared.DrawMode.the-variants.{Xor}
 use Rattle.model.specs.Geometry.{Geometry, height, screenBytes}
@@ -29,14 +28,14 @@ use Rattle.model.specs.Lists.{nothing, marks, draws, blinks}
 use Rattle.laws.specs.Tests.{tests, if-cases, by-test, and-true, and-false, either}
 use Rattle.laws.specs.Rects.{Fits, passes-fits}
 use Rattle.laws.specs.Pixels.{length-draw}
-use Rattle.laws.specs.Memory.{length-withWindow, window-same, window-set-in, window-set-out}
+use Rattle.laws.specs.Memory.{window-set-in, window-set-out}
 use Rattle.laws.specs.Loops.{length-zeros}
 use Rattle.laws.specs.Marks.{AgreeOutside, whole-agrees, owes-agrees, seen-on, poke-agrees}
 use Rattle.laws.specs.Record.{head-tells}
 use Rattle.laws.specs.Cursors.{blink-fits, next-most}
 use Rattle.laws.specs.Boxes.{box-fits}
 use Rattle.laws.specs.Glyphs.{length-paint}
-use Rattle.order.specs.Step.{Lendable, Step, old, screenHeld, known, still-fits, head-formed, same-step, changed-step, rewritten-step, screen-in, screen-long}
+use Rattle.order.specs.Step.{Lendable, Step, old, screenHeld, known, still-fits, head-formed, same-step, changed-step, rewritten-step, painted-step, screen-long}
 
 -- the whole screen as a dirty rectangle
 pub whole-fits : (g : Geometry) → IsGlass g → Fits 256 0 256 (whole (g .stride) (height g))
@@ -77,19 +76,10 @@ module _ (g : Geometry) (k : ℕ) (there : k < g .panels) (l : Lent) (q : Lendab
       rewritten-step g k there l q m m s (poked (s .keys) a v (l .memory)) (known g l q)
       (if-cases (λ (n : List ℕ). length n ≡ length (l .memory)) (ignored (s .keys) a) (λ e. refl) (λ e. length-set (l .memory) a v) ∙ q .memory) refl refl (r .0) (r .1)
 
-  -- ---- a new screen is written to memory, and the head that f makes; the screen agrees with the old one outside what is owed
+  -- ---- a new screen
 
   long : length (screenHeld g l) ≡ screenBytes g
   long = screen-long g (q .passing .glass) (s .head) fit (l .memory) (q .memory)
-
-  painted-step : (f : Head → Head) (dirty owed : Rect) (new : List ℕ) → headFits g (f (s .head)) ≡ true → f (s .head) .graphics ≡ s .head .graphics
-      → Fits 256 0 256 dirty → length new ≡ screenBytes g → AgreeOutside (g .stride) (height g) owed (screenHeld g l) new
-      → Step g k l (marks owed) (lent (encode g (marked g dirty owed (withHead (f (s .head)) s))) (withScreen (s .head .graphics) new (l .memory)) (l .panel))
-  painted-step f dirty owed new h b d n a =
-      let in-memory : s .head .graphics + screenBytes g ≤ length (l .memory) = rw (q .memory) (screen-in g (q .passing .glass) (s .head) fit) in
-      rewritten-step g k there l q dirty owed (withHead (f (s .head)) s) (withScreen (s .head .graphics) new (l .memory))
-      (head-formed g s (known g l q) (f (s .head)) h) (length-withWindow (s .head .graphics) new (l .memory) (rw n in-memory) ∙ q .memory) b refl d
-      (rw (window-same (s .head .graphics) (screenBytes g) new (l .memory) n in-memory) a)
 
   -- flush: the screen changes anywhere, and the whole of it is owed
   pub flush-step : (f : Fonts) → let m = whole (g .stride) (height g) in
@@ -97,18 +87,19 @@ module _ (g : Geometry) (k : ℕ) (there : k < g .panels) (l : Lent) (q : Lendab
   unfolding flushed
   flush-step f =
       let m = whole (g .stride) (height g) in
-      painted-step (λ h. h) m m (flushed g f s (l .memory)) fit refl (whole-fits g (q .passing .glass))
+      painted-step g k there l q m m s (l .memory) (flushed g f s (l .memory)) (known g l q) (q .memory) refl refl (whole-fits g (q .passing .glass))
       (length-paint (flushStores g f s (l .memory)) (clearedInText (s .head .screen) (screenHeld g l) (screenBytes g))
       ∙ if-cases (λ (n : List ℕ). length n ≡ screenBytes g) (eqb (s .head .screen) 0) (λ t. length-zeros (screenBytes g)) (λ t. long))
       (whole-agrees (g .stride) (height g) _ _)
 
-  -- a drawing whose dirty rectangle fits
+  -- a drawing whose dirty rectangle fits, and the head that f makes
   drawing-with : (f : Head → Head) (d : Drawing) → headFits g (f (s .head)) ≡ true → f (s .head) .graphics ≡ s .head .graphics
       → fits 256 0 256 (d .dirty) ≡ true → Step g k l (draws g d) (drawingWith g f d l)
   unfolding drawingWith drawnOn
   drawing-with f d h b e =
       let ws = seen (g .stride) (height g) (d .writes) in
-      painted-step f (d .dirty) (owes (g .stride) (height g) (d .owed) ws) (draw (g .stride) ws (screenHeld g l)) h b (passes-fits 256 0 256 (d .dirty) e)
+      painted-step g k there l q (d .dirty) (owes (g .stride) (height g) (d .owed) ws) (withHead (f (s .head)) s) (l .memory) (draw (g .stride) ws (screenHeld g l))
+      (head-formed g s (known g l q) (f (s .head)) h) (q .memory) b refl (passes-fits 256 0 256 (d .dirty) e)
       (length-draw (g .stride) ws (screenHeld g l) ∙ long) (owes-agrees (g .stride) (height g) (d .owed) ws (screenHeld g l) (seen-on (g .stride) (height g) (d .writes)))
 
   pub drawing-step : (d : Drawing) → fits 256 0 256 (d .dirty) ≡ true → Step g k l (draws g d) (drawing g d l)

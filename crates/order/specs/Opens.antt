@@ -17,9 +17,10 @@ use Rattle.model.specs.Record.{WellFormed, encode, panelOf, nothingPending, win
 use Rattle.model.specs.Marks.{whole, updateDirty, marked}
 use Rattle.model.specs.Open.{clearMemory, clearHead, clearFlags, openPending, openState, resetState}
 use Rattle.model.specs.Sends.{sendPending, sendPanel}
-use Rattle.model.specs.Calls.{Lent, lent}
-use Rattle.model.specs.Lists.{marks, opens, sends, affected}
+use Rattle.model.specs.Calls.{opening, Lent, lent, answered, done}
+use Rattle.model.specs.Lists.{accepted, Typed, marks, opens, sends, affected}
 use Rattle.laws.specs.Tests.{true-all}
+use Rattle.laws.specs.Calls.{accepted-call}
 use Rattle.laws.specs.Rects.{none-fits}
 use Rattle.laws.specs.Marks.{whole-agrees}
 use Rattle.laws.specs.Loops.{length-zeros}
@@ -54,13 +55,15 @@ open-formed g z graphics text version keys a b n ws = record {
   flags = length-no-flags (cells g);
 }
 
--- over any record, and any memory
-pub open-step : (g : Geometry) (k : ℕ) → k < g .panels → IsGlass g → (graphics text version : ℕ) (keys : List ℕ) (l : Lent) → windows g graphics text ≡ true → leb version 1 ≡ true
-    → length keys ≡ 8 → Words keys → length (l .panel) ≡ screenBytes g → Step g k l opens (lent (encode g (openState g graphics text version keys)) (clearMemory keys) (l .panel))
-unfolding openState affected
-open-step g k there z graphics text version keys l a b n ws p =
-    stored g k z l opens (openState g graphics text version keys) (clearMemory keys) (l .panel) (open-formed g z graphics text version keys a b n ws) (length-clear-memory keys) p
-    (record { pending = getD-replicate (g .panels) k (openPending g) (nothingPending g) there; panel = refl; screen = whole-agrees (g .stride) (height g) _ _ })
+-- an opening needs nothing of what stood before it but the panel's length
+pub opening-step : (g : Geometry) → IsGlass g → (graphics text version : ℕ) (keys : List ℕ) (l : Lent) → Typed (opening graphics text version keys)
+    → accepted g (opening graphics text version keys) l → length (l .panel) ≡ screenBytes g → Step g 0 l opens (done g (opening graphics text version keys) l .left)
+unfolding openState affected done answered
+opening-step g z graphics text version keys l t a p =
+    let b = accepted-call g (opening graphics text version keys) l (omega arith) a .1 in
+    stored g 0 z l opens (openState g graphics text version keys) (clearMemory keys) (l .panel)
+    (open-formed g z graphics text version keys (b .0) (b .1 .0) (t .0) (t .1)) (length-clear-memory keys) p
+    (record { pending = getD-replicate (g .panels) 0 (openPending g) (nothingPending g) (z .one); panel = refl; screen = whole-agrees (g .stride) (height g) _ _ })
 
 module _ (g : Geometry) (k : ℕ) (there : k < g .panels) (l : Lent) (q : Lendable g l) where
   pub reset-step : Step g k l (marks (whole (g .stride) (height g))) (lent (encode g (resetState g (old g l))) (clearMemory (old g l .keys)) (l .panel))

@@ -17,7 +17,8 @@ use Rattle.laws.specs.Calls.{own-decide, outcome-done}
 use Rattle.laws.specs.Pendings.{lines-send, idle-iff, lines-bound}
 use Rattle.order.specs.Held.{PanelState, Held, held-open, held-after, none-left}
 use Rattle.order.specs.Step.{Lendable, Step, view}
-use Rattle.order.specs.EachCall.{opening-step, item-step}
+use Rattle.order.specs.Opens.{opening-step}
+use Rattle.order.specs.EachCall.{item-step}
 use Rattle.order.specs.Accepted.{acceptedCall, acceptedCalls, leftBy, left-run}
 
 -- what holds of the lent bytes between calls; p is owed, in hand and sent, as reckoned from the effects

@@ -11,7 +11,7 @@ use Rattle.model.specs.declared.Head.{Head}
 use Rattle.model.specs.Geometry.{Geometry, height, screenBytes, cells, memoryBytes}
 use Rattle.model.specs.Glass.{IsGlass}
 use Rattle.model.specs.Rects.{every, fits}
-use Rattle.model.specs.Memory.{screenOf}
+use Rattle.model.specs.Memory.{screenOf, withScreen}
 use Rattle.model.specs.Record.{Pending, State, decode, encode, panelOf, nothingPending, windows, headTests, headFits, withHead, withPanels, withPanel, withFlags, WellPending, WellFormed}
 use Rattle.model.specs.Marks.{updateDirty, owing, marked}
 use Rattle.model.specs.Calls.{Lent, lent, changed}
@@ -19,7 +19,7 @@ use Rattle.model.specs.Lists.{Effect, nothing, marks, affected}
 use Rattle.laws.specs.Tests.{AllTrue, all-true, true-all, by-eq}
 use Rattle.laws.specs.Rects.{Fits, fits-passes, passes-fits, join-fits}
 use Rattle.laws.specs.ListLaws.{getD-map}
-use Rattle.laws.specs.Memory.{length-window}
+use Rattle.laws.specs.Memory.{length-window, length-withWindow, window-same}
 use Rattle.laws.specs.Marks.{AgreeOutside}
 use Rattle.laws.specs.Record.{Passing, head-tells, decode-encode}
 use Rattle.laws.specs.States.{well-formed, encode-passing}
@@ -102,6 +102,18 @@ pub record Step (g : Geometry) (k : ℕ) (l : Lent) (e : Effect) (l′ : Lent) :
   pub lendable : Lendable g l′
   pub follows : Follows g (view g k l) e (view g k l′)
 
+-- ---- text and screen lie in memory
+
+module _ (g : Geometry) (z : IsGlass g) (h : Head) (e : headFits g h ≡ true) where
+  pub text-in : h .text + cells g ≤ memoryBytes
+  text-in = omega (arith, head-tells g h e .text, z .text)
+
+  pub screen-in : h .graphics + screenBytes g ≤ memoryBytes
+  screen-in = omega (arith, head-tells g h e .graphics, z .screen)
+
+  pub screen-long : (m : List ℕ) → length m ≡ memoryBytes → length (screenOf g (h .graphics) m) ≡ screenBytes g
+  screen-long m n = length-window (h .graphics) (screenBytes g) m (rw n screen-in)
+
 -- ---- how a call shows it
 
 -- what a record that passes means
@@ -145,14 +157,11 @@ module _ (g : Geometry) (k : ℕ) where
           screen = rw b a;
         })
 
--- ---- text and screen lie in memory
-
-module _ (g : Geometry) (z : IsGlass g) (h : Head) (e : headFits g h ≡ true) where
-  pub text-in : h .text + cells g ≤ memoryBytes
-  text-in = omega (arith, head-tells g h e .text, z .text)
-
-  pub screen-in : h .graphics + screenBytes g ≤ memoryBytes
-  screen-in = omega (arith, head-tells g h e .graphics, z .screen)
-
-  pub screen-long : (m : List ℕ) → length m ≡ memoryBytes → length (screenOf g (h .graphics) m) ≡ screenBytes g
-  screen-long m n = length-window (h .graphics) (screenBytes g) m (rw n screen-in)
+    -- and with another screen
+    pub painted-step : (dirty owed : Rect) (s : State) (m new : List ℕ) → WellFormed g s → length m ≡ memoryBytes → s .head .graphics ≡ old g l .head .graphics → s .panels ≡ old g l .panels
+        → Fits 256 0 256 dirty → length new ≡ screenBytes g → AgreeOutside (g .stride) (height g) owed (screenHeld g l) new
+        → Step g k l (marks owed) (lent (encode g (marked g dirty owed s)) (withScreen (old g l .head .graphics) new m) (l .panel))
+    painted-step dirty owed s m new w hm b e d n a =
+        let c = old g l .head .graphics in
+        let room : c + screenBytes g ≤ length m = rw hm (screen-in g (q .passing .glass) (old g l .head) (known g l q .head)) in
+        rewritten-step dirty owed s (withScreen c new m) w (length-withWindow c new m (rw n room) ∙ hm) b e d (rw (window-same c (screenBytes g) new m n room) a)

@@ -10,7 +10,7 @@ use lib.ListN.{length}
 use borrow.Author.Tests.{lt-ltb, eqb-true}
 use Rattle.model.specs.declared.Rect.{Rect}
 use Rattle.model.specs.declared.Head.{Head}
-use Rattle.model.specs.Geometry.{Geometry, height, rows, columns, cells, screenBytes, rowBytes, memoryBytes}
+use Rattle.model.specs.Geometry.{Geometry, height, rows, columns, cells, screenBytes, rowBytes}
 use Rattle.model.specs.Rects.{none}
 use Rattle.model.specs.Memory.{zeros, screenOf, withScreen, withText}
 use Rattle.model.specs.Record.{State, windows, windowTests, headFits, encode, withHead, withFlags}
@@ -22,14 +22,14 @@ use Rattle.model.specs.Calls.{Lent, lent, cleared, withPage}
 use Rattle.model.specs.Lists.{marks, prints}
 use Rattle.laws.specs.Tests.{tests, all-true, by-test, or-cases, either}
 use Rattle.laws.specs.Rects.{Fits}
-use Rattle.laws.specs.Memory.{length-withWindow, window-same, window-other}
+use Rattle.laws.specs.Memory.{length-withWindow, window-other}
 use Rattle.laws.specs.Loops.{length-zeros}
 use Rattle.laws.specs.Flags.{length-no-flags}
 use Rattle.laws.specs.Scrolls.{length-times}
 use Rattle.laws.specs.Marks.{AgreeOutside, whole-agrees}
 use Rattle.laws.specs.Pages.{Sheet}
 use Rattle.laws.specs.Texts.{row-room, page-sheet as sheet-of}
-use Rattle.order.specs.Step.{Lendable, Step, old, screenHeld, known, still-fits, bases-fit, page-formed, rewritten-step, screen-in, screen-long, text-in}
+use Rattle.order.specs.Step.{Lendable, Step, old, screenHeld, known, still-fits, bases-fit, page-formed, painted-step, screen-long, text-in}
 use Rattle.order.specs.Draws.{whole-fits}
 
 module _ (g : Geometry) (k : ℕ) (there : k < g .panels) (l : Lent) (q : Lendable g l) where
@@ -59,13 +59,10 @@ module _ (g : Geometry) (k : ℕ) (there : k < g .panels) (l : Lent) (q : Lendab
       (withScreen (s .head .graphics) screen (withText (s .head .text) (p .text) (l .memory))) (l .panel))
   unfolding headFits withRow withColumn
   text-step dirty owed h p screen e b t n d a =
-      let m = withText (s .head .text) (p .text) (l .memory) in
-      let long : length m ≡ memoryBytes = length-withWindow (s .head .text) (p .text) (l .memory) (rw (t .text) text-room) ∙ q .memory in
-      let room : s .head .graphics + screenBytes g ≤ length m = rw long (screen-in g (q .passing .glass) (s .head) fit) in
-      rewritten-step g k there l q dirty owed (withHead (atPlace (p .row) (p .column) h) (withFlags (p .flags) s)) (withScreen (s .head .graphics) screen m)
+      painted-step g k there l q dirty owed (withHead (atPlace (p .row) (p .column) h) (withFlags (p .flags) s)) (withText (s .head .text) (p .text) (l .memory)) screen
       (page-formed g s (known g l q) (atPlace (p .row) (p .column) h) (p .flags)
       (still-fits g (withRow (p .row) h) (still-fits g h e 1 (lt-ltb (p .row) (rows g) (t .row))) 2 (lt-ltb (p .column) (columns g) (omega (arith, t .room)))) (t .flags))
-      (length-withWindow (s .head .graphics) screen m (rw n room) ∙ long) b refl d (rw (window-same (s .head .graphics) (screenBytes g) screen m n room) a)
+      (length-withWindow (s .head .text) (p .text) (l .memory) (rw (t .text) text-room) ∙ q .memory) b refl d n a
 
   pub cleared-step : (n : ℕ) → leb n 1 ≡ true → Step g k l (marks (whole (g .stride) (height g))) (cleared g n l)
   unfolding headFits cleared clearedState clearedMemory withScreenMode
