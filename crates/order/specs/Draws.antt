@@ -14,17 +14,17 @@ use Rattle.model.specs.declared.DrawMode.the-variants.{Xor}
 use Rattle.model.specs.Geometry.{Geometry, height, screenBytes}
 use Rattle.model.specs.Glass.{IsGlass}
 use Rattle.model.specs.Rects.{fits}
-use Rattle.model.specs.Memory.{screenOf, withScreen}
+use Rattle.model.specs.Memory.{screenOf}
 use Rattle.model.specs.Pixels.{draw, seen}
-use Rattle.model.specs.Record.{State, encode, headFits, withHead}
-use Rattle.model.specs.Marks.{Drawing, whole, owes, drawnOn, marked}
+use Rattle.model.specs.Record.{State, headFits, withHead}
+use Rattle.model.specs.Marks.{Drawing, whole, owes, drawnOn}
 use Rattle.model.specs.Text.{withCursor}
 use Rattle.model.specs.Cursor.{blinkOf, blinkNext, cursorBox, underCursor, blinkHead, blinkDrawing}
 use Rattle.model.specs.Glyphs.{Fonts}
 use Rattle.model.specs.Flush.{flushStores, clearedInText, flushed}
 use Rattle.model.specs.Poke.{ignored, poked, inScreen, pokeMark}
-use Rattle.model.specs.Calls.{Lent, lent, drawingWith, drawing, blinked, cursorCleared}
-use Rattle.model.specs.Lists.{nothing, marks, draws, blinks}
+use Rattle.model.specs.Calls.{writeByte, flush, Lent, answered, drawingWith, drawing, done, blinked, cursorCleared}
+use Rattle.model.specs.Lists.{nothing, draws, effect, blinks}
 use Rattle.laws.specs.Tests.{tests, if-cases, by-test, and-true, and-false, either}
 use Rattle.laws.specs.Rects.{Fits, passes-fits}
 use Rattle.laws.specs.Pixels.{length-draw}
@@ -64,12 +64,8 @@ module _ (g : Geometry) (k : ℕ) (there : k < g .panels) (l : Lent) (q : Lendab
   abbrev s : State
   s = old g l
 
-  fit : headFits g (s .head) ≡ true
-  fit = known g l q .head
-
-  pub poke-step : (a v : ℕ) → let m = pokeMark g (s .keys) (s .head .graphics) a in
-      Step g k l (marks m) (lent (encode g (marked g m m s)) (poked (s .keys) a v (l .memory)) (l .panel))
-  unfolding poked
+  pub poke-step : (a v : ℕ) → Step g k l (effect g (writeByte a v) l) (done g (writeByte a v) l .left)
+  unfolding effect done answered poked
   poke-step a v =
       let m = pokeMark g (s .keys) (s .head .graphics) a in
       let r = poked-mark g (q .passing .glass) (s .keys) (s .head .graphics) a v (l .memory) in
@@ -79,12 +75,11 @@ module _ (g : Geometry) (k : ℕ) (there : k < g .panels) (l : Lent) (q : Lendab
   -- ---- a new screen
 
   long : length (screenHeld g l) ≡ screenBytes g
-  long = screen-long g (q .passing .glass) (s .head) fit (l .memory) (q .memory)
+  long = screen-long g (q .passing .glass) (s .head) (known g l q .head) (l .memory) (q .memory)
 
   -- flush: the screen changes anywhere, and the whole of it is owed
-  pub flush-step : (f : Fonts) → let m = whole (g .stride) (height g) in
-      Step g k l (marks m) (lent (encode g (marked g m m s)) (withScreen (s .head .graphics) (flushed g f s (l .memory)) (l .memory)) (l .panel))
-  unfolding flushed
+  pub flush-step : (f : Fonts) → Step g k l (effect g (flush f) l) (done g (flush f) l .left)
+  unfolding effect done answered flushed
   flush-step f =
       let m = whole (g .stride) (height g) in
       painted-step g k there l q m m s (l .memory) (flushed g f s (l .memory)) (known g l q) (q .memory) refl refl (whole-fits g (q .passing .glass))
@@ -103,7 +98,7 @@ module _ (g : Geometry) (k : ℕ) (there : k < g .panels) (l : Lent) (q : Lendab
       (length-draw (g .stride) ws (screenHeld g l) ∙ long) (owes-agrees (g .stride) (height g) (d .owed) ws (screenHeld g l) (seen-on (g .stride) (height g) (d .writes)))
 
   pub drawing-step : (d : Drawing) → fits 256 0 256 (d .dirty) ≡ true → Step g k l (draws g d) (drawing g d l)
-  drawing-step d e = drawing-with (λ h. h) d fit refl e
+  drawing-step d e = drawing-with (λ h. h) d (known g l q .head) refl e
 
   -- ---- the cursor: a blink in Text is a drawing, and changes the head besides; in Graph nothing of it reaches the panel
 
@@ -113,7 +108,7 @@ module _ (g : Geometry) (k : ℕ) (there : k < g .panels) (l : Lent) (q : Lendab
   box-in =
       let z = q .passing .glass in
       let h = s .head in
-      let t = head-tells g h fit in
+      let t = head-tells g h (known g l q .head) in
       let c = blinkOf (h .cursor) (underCursor g h (l .memory)) in
       let n : c ≤ 2 = blink-fits (h .cursor) (underCursor g h (l .memory)) (t .cursor) refl .1 in
       box-fits (g .stride) (height g) (8 * h .column) (16 * h .row) (8 * h .column + 8 * c - 1) (16 * h .row + 15) true Xor
@@ -126,11 +121,12 @@ module _ (g : Geometry) (k : ℕ) (there : k < g .panels) (l : Lent) (q : Lendab
       let n = blinkNext (h .cursor) (underCursor g h (l .memory)) in
       by-test (eqb (h .screen) 0)
       (λ e. rw e (drawing-with (blinkHead g (l .memory)) (blinkDrawing g h (l .memory))
-      (still-fits g h fit 5 (le-leb n 2 (next-most (h .cursor) (underCursor g h (l .memory))))) refl box-in))
+      (still-fits g h (known g l q .head) 5 (le-leb n 2 (next-most (h .cursor) (underCursor g h (l .memory))))) refl box-in))
       (λ e. rw e (same-step g k there l q))
 
   pub clear-cursor-step : Step g k l (cond (eqb (s .head .cursor) 0) nothing (blinks g l)) (cursorCleared g l)
   unfolding headFits cursorCleared withCursor blinks
   clear-cursor-step =
       by-test (eqb (s .head .cursor) 0) (λ e. rw e (same-step g k there l q))
-      (λ e. by-test (eqb (s .head .screen) 0) (λ f. rw (e, f) (rw f at blink-step)) (λ f. rw (e, f) (changed-step g k there l q (withCursor 0) (still-fits g (s .head) fit 5 refl) refl)))
+      (λ e. by-test (eqb (s .head .screen) 0) (λ f. rw (e, f) (rw f at blink-step))
+      (λ f. rw (e, f) (changed-step g k there l q (withCursor 0) (still-fits g (s .head) (known g l q .head) 5 refl) refl)))

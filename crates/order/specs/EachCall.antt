@@ -18,7 +18,7 @@ use Rattle.model.specs.Bitmaps.{paintMode, sourceBytes}
 use Rattle.model.specs.Memory.{window}
 use Rattle.model.specs.Text.{withRow, withColumn, printMode, withPrintMode}
 use Rattle.model.specs.Calls.{Call, opening, reset, drawPoint, drawLine, drawBox, drawCircle, drawEllipse, checkPoint, paintBitmap, writeByte, flush, getRow, getColumn, setRow, setColumn, setPrintMode, takeDirtyArea, send, Lent, answered, drawing, filled, refusals, refused, done, outcome, print, newline, cls, setScreenMode, blinkCursor, clearCursor}
-use Rattle.model.specs.Print.{isInverse, pageOf}
+use Rattle.model.specs.Print.{isInverse}
 use Rattle.model.specs.Record.{headFits}
 use Rattle.model.specs.Lists.{accepted, Typed, Item, here, elsewhere, after, effect, effectAt, itemEffect, draws}
 use Rattle.laws.specs.Tests.{if-cases}
@@ -33,7 +33,7 @@ use Rattle.laws.specs.Calls.{accepted-call}
 use Rattle.order.specs.Step.{Lendable, Step, old, known, still-fits, same-step, changed-step}
 use Rattle.order.specs.Opens.{opening-step, reset-step, send-step}
 use Rattle.order.specs.Draws.{drawing-step, poke-step, flush-step, blink-step, clear-cursor-step}
-use Rattle.order.specs.Texts.{cleared-step, page-sheet, page-step}
+use Rattle.order.specs.Texts.{cleared-step, page-step}
 
 module _ (g : Geometry) (l : Lent) (q : Lendable g l) where
   abbrev z : IsGlass g
@@ -41,9 +41,6 @@ module _ (g : Geometry) (l : Lent) (q : Lendable g l) where
 
   abbrev h : Head
   h = old g l .head
-
-  fit : headFits g h ≡ true
-  fit = known g l q .head
 
   ellipse-step : (x y rx ry : ℕ) (fill : Bool) (d : DrawMode) → x < 256 → y < 256 → let e = ellipse (g .stride) (height g) x y rx ry fill d in Step g 0 l (draws g e) (drawing g e l)
   ellipse-step x y rx ry fill d hx hy =
@@ -65,24 +62,23 @@ module _ (g : Geometry) (l : Lent) (q : Lendable g l) where
   call-step (checkPoint x y) t a = same-step g 0 (z .one) l q
   call-step (paintBitmap b x y w n mode) t a =
       drawing-step g 0 (z .one) l q _ (bitmap-fits (g .stride) (height g) (window b (sourceBytes w n) (l .memory)) x y w n (paintMode mode) (omega (arith, z .cursor)) (z .high))
-  call-step (print bs) t a = page-step g 0 (z .one) l q _ (print-sheet (rows g) (columns g) (isInverse (h .print)) bs (pageOf g (old g l) (l .memory)) (page-sheet g 0 (z .one) l q))
-  call-step newline t a =
-      page-step g 0 (z .one) l q _ (newline-sheet (rows g) (columns g) 1 1 (pageOf g (old g l) (l .memory)) (omega (arith, z .columns)) (page-sheet g 0 (z .one) l q))
-  call-step cls t a = cleared-step g 0 (z .one) l q (h .screen) (le-leb (h .screen) 1 (head-tells g h fit .screen))
+  call-step (print bs) t a = page-step g 0 (z .one) l q _ (print-sheet (rows g) (columns g) (isInverse (h .print)) bs)
+  call-step newline t a = page-step g 0 (z .one) l q _ (λ p. newline-sheet (rows g) (columns g) 1 1 p (omega (arith, z .columns)))
+  call-step cls t a = cleared-step g 0 (z .one) l q (h .screen) (le-leb (h .screen) 1 (head-tells g h (known g l q .head) .screen))
   call-step (writeByte b v) t a = poke-step g 0 (z .one) l q b v
   call-step (flush f) t a = flush-step g 0 (z .one) l q f
   call-step getRow t a = same-step g 0 (z .one) l q
   call-step getColumn t a = same-step g 0 (z .one) l q
-  call-step (setRow n) t a = changed-step g 0 (z .one) l q (withRow n) (still-fits g h fit 1 (accepted-call g (setRow n) l (omega arith) a .1 .0)) refl
-  call-step (setColumn n) t a = changed-step g 0 (z .one) l q (withColumn n) (still-fits g h fit 2 (accepted-call g (setColumn n) l (omega arith) a .1 .0)) refl
+  call-step (setRow n) t a = changed-step g 0 (z .one) l q (withRow n) (still-fits g h (known g l q .head) 1 (accepted-call g (setRow n) l (omega arith) a .1 .0)) refl
+  call-step (setColumn n) t a = changed-step g 0 (z .one) l q (withColumn n) (still-fits g h (known g l q .head) 2 (accepted-call g (setColumn n) l (omega arith) a .1 .0)) refl
   call-step (setScreenMode n) t a = cleared-step g 0 (z .one) l q n (accepted-call g (setScreenMode n) l (omega arith) a .1 .0)
   -- Flash while Inverse gives Normal: a listed mode too
   call-step (setPrintMode n) t a =
-      changed-step g 0 (z .one) l q (withPrintMode n) (still-fits g h fit 4
+      changed-step g 0 (z .one) l q (withPrintMode n) (still-fits g h (known g l q .head) 4
       (if-cases (λ (m : ℕ). leb m 2 ≡ true) (eqb (h .print) 1 && eqb n 2) (λ e. refl) (λ e. accepted-call g (setPrintMode n) l (omega arith) a .1 .0))) refl
   call-step blinkCursor t a = blink-step g 0 (z .one) l q
   call-step clearCursor t a = clear-cursor-step g 0 (z .one) l q
-  call-step takeDirtyArea t a = changed-step g 0 (z .one) l q (withDirty none) (still-fits g h fit 7 refl) refl
+  call-step takeDirtyArea t a = changed-step g 0 (z .one) l q (withDirty none) (still-fits g h (known g l q .head) 7 refl) refl
   call-step send t a = send-step g 0 (z .one) l q
 
   -- a refused call leaves all as it was, and so does one that was lent other buffers

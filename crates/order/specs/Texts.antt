@@ -28,7 +28,7 @@ use Rattle.laws.specs.Flags.{length-no-flags}
 use Rattle.laws.specs.Scrolls.{length-times}
 use Rattle.laws.specs.Marks.{AgreeOutside, whole-agrees}
 use Rattle.laws.specs.Pages.{Sheet}
-use Rattle.laws.specs.Texts.{row-room, page-sheet as sheet-of}
+use Rattle.laws.specs.Texts.{row-room, page-sheet}
 use Rattle.order.specs.Step.{Lendable, Step, old, screenHeld, known, still-fits, bases-fit, page-formed, painted-step, screen-long, text-in}
 use Rattle.order.specs.Draws.{whole-fits}
 
@@ -36,11 +36,8 @@ module _ (g : Geometry) (k : ℕ) (there : k < g .panels) (l : Lent) (q : Lendab
   abbrev s : State
   s = old g l
 
-  fit : headFits g (s .head) ≡ true
-  fit = known g l q .head
-
   text-room : s .head .text + cells g ≤ length (l .memory)
-  text-room = rw (q .memory) (text-in g (q .passing .glass) (s .head) fit)
+  text-room = rw (q .memory) (text-in g (q .passing .glass) (s .head) (known g l q .head))
 
   -- the screen is not the text's: it stays with another text
   screen-stays : (t : List ℕ) → length t ≡ cells g → screenOf g (s .head .graphics) (withText (s .head .text) t (l .memory)) ≡ screenHeld g l
@@ -49,7 +46,7 @@ module _ (g : Geometry) (k : ℕ) (there : k < g .panels) (l : Lent) (q : Lendab
       let b = s .head .graphics in
       let c = s .head .text in
       window-other c t (l .memory) b (screenBytes g) (rw n text-room)
-      (rw n (either (or-cases (leb (b + screenBytes g) c) (leb (c + cells g) b) (all-true (windowTests g b c) (bases-fit g (s .head) fit) .1 .1 .0))
+      (rw n (either (or-cases (leb (b + screenBytes g) c) (leb (c + cells g) b) (all-true (windowTests g b c) (bases-fit g (s .head) (known g l q .head)) .1 .1 .0))
       (λ e. inl (omega (arith, tests))) (λ e. inr (omega (arith, tests)))))
 
   -- a page p takes the place of the old one, with the head h beside its place, and then a screen is written; the screen agrees with the old one outside what is owed
@@ -70,22 +67,22 @@ module _ (g : Geometry) (k : ℕ) (there : k < g .panels) (l : Lent) (q : Lendab
       let z = q .passing .glass in
       let m = whole (g .stride) (height g) in
       text-step m m (withScreenMode n (s .head)) (record { text = zeros (cells g); flags = clearFlags g; row = 0; column = 0; scrolls = 0 }) (zeros (screenBytes g))
-      (still-fits g (s .head) fit 3 e) refl
+      (still-fits g (s .head) (known g l q .head) 3 e) refl
       (record { wide = z .columns; text = length-zeros (cells g); flags = length-no-flags (cells g); row = z .row; room = omega (arith, z .columns) })
       (length-zeros (screenBytes g)) (whole-fits g z) (whole-agrees (g .stride) (height g) _ _)
 
-  pub page-sheet : Sheet (rows g) (columns g) 1 (pageOf g s (l .memory))
-  page-sheet = sheet-of g (q .passing .glass) s (l .memory) (known g l q) text-room 1 (omega arith)
-
   -- a screen that scrolls is owed whole, another stays
-  pub page-step : (p : Page) → Sheet (rows g) (columns g) 1 p → Step g k l (prints g p l) (withPage g p l)
+  pub page-step : (f : Page → Page) → ((p : Page) → Sheet (rows g) (columns g) 1 p → Sheet (rows g) (columns g) 1 (f p))
+      → let p = f (pageOf g s (l .memory)) in Step g k l (prints g p l) (withPage g p l)
   unfolding withPage stateWithPage memoryWithPage scrolledMemory scrollMark scrolledTimes
-  page-step p t =
+  page-step f h =
       let z = q .passing .glass in
+      let p = f (pageOf g s (l .memory)) in
+      let t = h (pageOf g s (l .memory)) (page-sheet g z s (l .memory) (known g l q) text-room 1 (omega arith)) in
       let n = screenScrolls (s .head .screen) (p .scrolls) in
       let screen = screenOf g (s .head .graphics) (withText (s .head .text) (p .text) (l .memory)) in
       let stays : screen ≡ screenHeld g l = screen-stays (p .text) (t .text) in
-      let long : length screen ≡ screenBytes g = ap length stays ∙ screen-long g z (s .head) fit (l .memory) (q .memory) in
-      text-step none (scrollMark (g .stride) (height g) n) (s .head) p (scrolledTimes n (rowBytes g) screen) fit refl t
+      let long : length screen ≡ screenBytes g = ap length stays ∙ screen-long g z (s .head) (known g l q .head) (l .memory) (q .memory) in
+      text-step none (scrollMark (g .stride) (height g) n) (s .head) p (scrolledTimes n (rowBytes g) screen) (known g l q .head) refl t
       (length-times n (rowBytes g) screen (rw long (row-room g z)) ∙ long) (inl refl)
       (by-test (eqb n 0) (λ e. rw (eqb-true n 0 e, stays) (λ x y hx hy o. refl)) (λ e. rw e (whole-agrees (g .stride) (height g) _ _)))
