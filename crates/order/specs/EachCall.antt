@@ -32,8 +32,7 @@ use Rattle.laws.specs.Pages.{newline-sheet, print-sheet}
 use Rattle.laws.specs.Calls.{accepted-call}
 use Rattle.order.specs.Step.{Lendable, Step, old, known, still-fits, same-step, changed-step}
 use Rattle.order.specs.Opens.{opening-step, reset-step, send-step}
-use Rattle.order.specs.Draws.{drawing-step, poke-step, flush-step, blink-step, clear-cursor-step}
-use Rattle.order.specs.Texts.{cleared-step, page-step}
+use Rattle.order.specs.Marks.{drawing-step, poke-step, flush-step, blink-step, clear-cursor-step, cleared-step, page-step}
 
 module _ (g : Geometry) (l : Lent) (q : Lendable g l) where
   abbrev z : IsGlass g

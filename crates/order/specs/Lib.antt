@@ -3,8 +3,7 @@
 pub mod Held
 pub mod Step
 pub mod Opens
-pub mod Draws
-pub mod Texts
+pub mod Marks
 pub mod EachCall
 pub mod Parts
 pub mod Accepted

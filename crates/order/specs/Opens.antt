@@ -19,7 +19,7 @@ use Rattle.model.specs.Open.{clearMemory, clearHead, clearFlags, openPending, o
 use Rattle.model.specs.Sends.{sendPending, sendPanel}
 use Rattle.model.specs.Calls.{opening, Lent, lent, answered, done}
 use Rattle.model.specs.Lists.{accepted, Typed, marks, opens, sends, affected}
-use Rattle.laws.specs.Tests.{true-all}
+use Rattle.laws.specs.Tests.{all-true, true-all}
 use Rattle.laws.specs.Calls.{accepted-call}
 use Rattle.laws.specs.Rects.{none-fits}
 use Rattle.laws.specs.Marks.{whole-agrees}
@@ -29,7 +29,7 @@ use Rattle.laws.specs.Record.{head-tells}
 use Rattle.laws.specs.Flags.{length-no-flags}
 use Rattle.laws.specs.Pendings.{well-open, well-send}
 use Rattle.order.specs.Held.{length-send}
-use Rattle.order.specs.Step.{Lendable, Step, old, screenHeld, known, bases-fit, panel-formed, page-formed, stored, rewritten-step}
+use Rattle.order.specs.Step.{Lendable, Step, old, screenHeld, known, panel-formed, page-formed, stored, rewritten-step}
 
 pub length-clear-memory : (keys : List ℕ) → length (clearMemory keys) ≡ memoryBytes
 unfolding clearMemory
@@ -67,7 +67,7 @@ opening-step g z graphics text version keys l t a p =
 
 module _ (g : Geometry) (k : ℕ) (there : k < g .panels) (l : Lent) (q : Lendable g l) where
   pub reset-step : Step g k l (marks (whole (g .stride) (height g))) (lent (encode g (resetState g (old g l))) (clearMemory (old g l .keys)) (l .panel))
-  unfolding resetState marked updateDirty join isEmpty
+  unfolding headFits resetState marked updateDirty join isEmpty
   reset-step =
       let s = old g l in
       let w = known g l q in
@@ -75,7 +75,7 @@ module _ (g : Geometry) (k : ℕ) (there : k < g .panels) (l : Lent) (q : Lendab
       let n = clearHead (h .graphics) (h .text) (h .version) in
       rewritten-step g k there l q none (whole (g .stride) (height g)) (withHead n (withFlags (clearFlags g) s)) (clearMemory (s .keys))
       (page-formed g s w n (clearFlags g)
-      (clear-fits g (q .passing .glass) (h .graphics) (h .text) (h .version) (bases-fit g h (w .head)) (le-leb (h .version) 1 (head-tells g h (w .head) .version)))
+      (clear-fits g (q .passing .glass) (h .graphics) (h .text) (h .version) (all-true (headTests g h) (w .head) .0) (le-leb (h .version) 1 (head-tells g h (w .head) .version)))
       (length-no-flags (cells g)))
       (length-clear-memory (s .keys)) refl refl (none-fits 256 0 256) (whole-agrees (g .stride) (height g) _ _)
 

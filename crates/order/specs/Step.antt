@@ -12,7 +12,7 @@ use Rattle.model.specs.Geometry.{Geometry, height, screenBytes, cells, memoryBy
 use Rattle.model.specs.Glass.{IsGlass}
 use Rattle.model.specs.Rects.{every, fits}
 use Rattle.model.specs.Memory.{screenOf, withScreen}
-use Rattle.model.specs.Record.{Pending, State, decode, encode, panelOf, nothingPending, windows, headTests, headFits, withHead, withPanels, withPanel, withFlags, WellPending, WellFormed}
+use Rattle.model.specs.Record.{Pending, State, decode, encode, panelOf, nothingPending, headTests, headFits, withHead, withPanels, withPanel, withFlags, WellPending, WellFormed}
 use Rattle.model.specs.Marks.{updateDirty, owing, marked}
 use Rattle.model.specs.Calls.{Lent, lent, changed}
 use Rattle.model.specs.Lists.{Effect, nothing, marks, affected}
@@ -34,15 +34,10 @@ all-set [] i h e = h
 all-set (s ∷ l) zero h e = (e, h .1)
 all-set (s ∷ l) (suc i) h e = (h .0, all-set l i (h .1) e)
 
-module _ (g : Geometry) (h : Head) (e : headFits g h ≡ true) where
-  -- it passes with another number, the one that the test in place i of `headTests` reads, where that passes
-  pub still-fits : (i : ℕ) {t : Bool} → t ≡ true → every (set (headTests g h) i t) ≡ true
-  unfolding headFits
-  still-fits i {t} p = true-all (set (headTests g h) i t) (all-set (headTests g h) i (all-true (headTests g h) e) p)
-
-  pub bases-fit : windows g (h .graphics) (h .text) ≡ true
-  unfolding headFits
-  bases-fit = all-true (headTests g h) e .0
+-- it passes with another number, the one that the test in place i of `headTests` reads, where that passes
+pub still-fits : (g : Geometry) (h : Head) → headFits g h ≡ true → (i : ℕ) {t : Bool} → t ≡ true → every (set (headTests g h) i t) ≡ true
+unfolding headFits
+still-fits g h e i {t} p = true-all (set (headTests g h) i t) (all-set (headTests g h) i (all-true (headTests g h) e) p)
 
 -- ---- states that stay well formed
 

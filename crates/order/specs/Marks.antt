@@ -1,5 +1,5 @@
--- Calls that change pixels: drawings, whatever their shape, the cursor's blink, `flush` and `write_byte`. What they change lies in what is owed.
-use mathlib.Core.Path.{_≡_, refl, _∙_}
+-- Calls whose effect is a mark: `write_byte`, `flush`, drawings, the cursor's blink, clearing and pages. What they change on the screen lies in the mark.
+use mathlib.Core.Path.{_≡_, refl, _∙_, ap}
 use mathlib.Core.Logic.{inl, inr}
 use mathlib.Core.Bool.{true, cond}
 use mathlib.Core.List.{List}
@@ -8,37 +8,44 @@ use native.Mathlib.Nat.{mod-lt, div-lt-iff-lt-mul, mul-comm}
 use native.Mathlib.Omega.{arith}
 use lib.Dec.{leb, ltb, eqb}
 use lib.ListN.{length, length-set}
-use borrow.Author.Tests.{le-leb, leb-false, ltb-false}
+use borrow.Author.Tests.{le-leb, leb-false, ltb-false, lt-ltb, eqb-true}
+use Rattle.model.specs.declared.Rect.{Rect}
 use Rattle.model.specs.declared.Head.{Head}
 use Rattle.model.specs.declared.DrawMode.the-variants.{Xor}
-use Rattle.model.specs.Geometry.{Geometry, height, screenBytes}
+use Rattle.model.specs.Geometry.{Geometry, height, screenBytes, rows, columns, cells, rowBytes}
 use Rattle.model.specs.Glass.{IsGlass}
-use Rattle.model.specs.Rects.{fits}
-use Rattle.model.specs.Memory.{screenOf}
+use Rattle.model.specs.Rects.{fits, none}
+use Rattle.model.specs.Memory.{screenOf, zeros, withScreen, withText}
 use Rattle.model.specs.Pixels.{draw, seen}
-use Rattle.model.specs.Record.{State, headFits, withHead}
-use Rattle.model.specs.Marks.{Drawing, whole, owes, drawnOn}
-use Rattle.model.specs.Text.{withCursor}
+use Rattle.model.specs.Record.{State, headFits, withHead, windows, windowTests, headTests, encode, withFlags}
+use Rattle.model.specs.Marks.{Drawing, whole, owes, drawnOn, marked}
+use Rattle.model.specs.Open.{clearFlags}
+use Rattle.model.specs.Text.{withCursor, withRow, withColumn, atPlace, withScreenMode, clearedState, clearedMemory}
+use Rattle.model.specs.Print.{Page, scrolledTimes, pageOf, screenScrolls, scrollMark, stateWithPage, scrolledMemory, memoryWithPage}
 use Rattle.model.specs.Cursor.{blinkOf, blinkNext, cursorBox, underCursor, blinkHead, blinkDrawing}
 use Rattle.model.specs.Glyphs.{Fonts}
 use Rattle.model.specs.Flush.{flushStores, clearedInText, flushed}
 use Rattle.model.specs.Poke.{ignored, poked, inScreen, pokeMark}
-use Rattle.model.specs.Calls.{writeByte, flush, Lent, answered, drawingWith, drawing, done, blinked, cursorCleared}
-use Rattle.model.specs.Lists.{nothing, draws, effect, blinks}
-use Rattle.laws.specs.Tests.{tests, if-cases, by-test, and-true, and-false, either}
+use Rattle.model.specs.Calls.{writeByte, flush, Lent, answered, drawingWith, drawing, done, blinked, cursorCleared, lent, cleared, withPage}
+use Rattle.model.specs.Lists.{nothing, draws, effect, blinks, marks, prints}
+use Rattle.laws.specs.Tests.{tests, if-cases, by-test, and-true, and-false, either, all-true, or-cases}
 use Rattle.laws.specs.Rects.{Fits, passes-fits}
 use Rattle.laws.specs.Pixels.{length-draw}
-use Rattle.laws.specs.Memory.{window-set-in, window-set-out}
+use Rattle.laws.specs.Memory.{window-set-in, window-set-out, length-withWindow, window-other}
 use Rattle.laws.specs.Loops.{length-zeros}
+use Rattle.laws.specs.Flags.{length-no-flags}
+use Rattle.laws.specs.Scrolls.{length-times}
 use Rattle.laws.specs.Marks.{AgreeOutside, whole-agrees, owes-agrees, seen-on, poke-agrees}
+use Rattle.laws.specs.Pages.{Sheet}
+use Rattle.laws.specs.Texts.{row-room, page-sheet}
 use Rattle.laws.specs.Record.{head-tells}
 use Rattle.laws.specs.Cursors.{blink-fits, next-most}
 use Rattle.laws.specs.Boxes.{box-fits}
 use Rattle.laws.specs.Glyphs.{length-paint}
-use Rattle.order.specs.Step.{Lendable, Step, old, screenHeld, known, still-fits, head-formed, same-step, changed-step, rewritten-step, painted-step, screen-long}
+use Rattle.order.specs.Step.{Lendable, Step, old, screenHeld, known, still-fits, head-formed, same-step, changed-step, rewritten-step, painted-step, screen-long, page-formed, text-in}
 
 -- the whole screen as a dirty rectangle
-pub whole-fits : (g : Geometry) → IsGlass g → Fits 256 0 256 (whole (g .stride) (height g))
+whole-fits : (g : Geometry) → IsGlass g → Fits 256 0 256 (whole (g .stride) (height g))
 whole-fits g z = inr (omega (arith, z .columns, z .row, z .cursor, z .high))
 
 -- ---- a poked byte: where it is one of the screen, it lies in the eight pixels that are owed; any other changes no pixel
@@ -130,3 +137,56 @@ module _ (g : Geometry) (k : ℕ) (there : k < g .panels) (l : Lent) (q : Lendab
       by-test (eqb (s .head .cursor) 0) (λ e. rw e (same-step g k there l q))
       (λ e. by-test (eqb (s .head .screen) 0) (λ f. rw (e, f) (rw f at blink-step))
       (λ f. rw (e, f) (changed-step g k there l q (withCursor 0) (still-fits g (s .head) (known g l q .head) 5 refl) refl)))
+
+  -- ---- text: clearing and each scroll in Graph owe the whole screen; a page that has not scrolled there changes no pixel
+
+  text-room : s .head .text + cells g ≤ length (l .memory)
+  text-room = rw (q .memory) (text-in g (q .passing .glass) (s .head) (known g l q .head))
+
+  -- the screen is not the text's: it stays with another text
+  screen-stays : (t : List ℕ) → length t ≡ cells g → screenOf g (s .head .graphics) (withText (s .head .text) t (l .memory)) ≡ screenHeld g l
+  unfolding headFits windows
+  screen-stays t n =
+      let b = s .head .graphics in
+      let c = s .head .text in
+      window-other c t (l .memory) b (screenBytes g) (rw n text-room)
+      (rw n (either (or-cases (leb (b + screenBytes g) c) (leb (c + cells g) b) (all-true (windowTests g b c) (all-true (headTests g (s .head)) (known g l q .head) .0) .1 .1 .0))
+      (λ e. inl (omega (arith, tests))) (λ e. inr (omega (arith, tests)))))
+
+  -- a page p takes the place of the old one, with the head h beside its place, and then a screen is written; the screen agrees with the old one outside what is owed
+  text-step : (dirty owed : Rect) (h : Head) (p : Page) (screen : List ℕ) → headFits g h ≡ true → h .graphics ≡ s .head .graphics → Sheet (rows g) (columns g) 1 p
+      → length screen ≡ screenBytes g → Fits 256 0 256 dirty → AgreeOutside (g .stride) (height g) owed (screenHeld g l) screen
+      → Step g k l (marks owed) (lent (encode g (marked g dirty owed (withHead (atPlace (p .row) (p .column) h) (withFlags (p .flags) s))))
+      (withScreen (s .head .graphics) screen (withText (s .head .text) (p .text) (l .memory))) (l .panel))
+  unfolding headFits withRow withColumn
+  text-step dirty owed h p screen e b t n d a =
+      painted-step g k there l q dirty owed (withHead (atPlace (p .row) (p .column) h) (withFlags (p .flags) s)) (withText (s .head .text) (p .text) (l .memory)) screen
+      (page-formed g s (known g l q) (atPlace (p .row) (p .column) h) (p .flags)
+      (still-fits g (withRow (p .row) h) (still-fits g h e 1 (lt-ltb (p .row) (rows g) (t .row))) 2 (lt-ltb (p .column) (columns g) (omega (arith, t .room)))) (t .flags))
+      (length-withWindow (s .head .text) (p .text) (l .memory) (rw (t .text) text-room) ∙ q .memory) b refl d n a
+
+  pub cleared-step : (n : ℕ) → leb n 1 ≡ true → Step g k l (marks (whole (g .stride) (height g))) (cleared g n l)
+  unfolding headFits cleared clearedState clearedMemory withScreenMode
+  cleared-step n e =
+      let z = q .passing .glass in
+      let m = whole (g .stride) (height g) in
+      text-step m m (withScreenMode n (s .head)) (record { text = zeros (cells g); flags = clearFlags g; row = 0; column = 0; scrolls = 0 }) (zeros (screenBytes g))
+      (still-fits g (s .head) (known g l q .head) 3 e) refl
+      (record { wide = z .columns; text = length-zeros (cells g); flags = length-no-flags (cells g); row = z .row; room = omega (arith, z .columns) })
+      (length-zeros (screenBytes g)) (whole-fits g z) (whole-agrees (g .stride) (height g) _ _)
+
+  -- a screen that scrolls is owed whole, another stays
+  pub page-step : (f : Page → Page) → ((p : Page) → Sheet (rows g) (columns g) 1 p → Sheet (rows g) (columns g) 1 (f p))
+      → let p = f (pageOf g s (l .memory)) in Step g k l (prints g p l) (withPage g p l)
+  unfolding withPage stateWithPage memoryWithPage scrolledMemory scrollMark scrolledTimes
+  page-step f h =
+      let z = q .passing .glass in
+      let p = f (pageOf g s (l .memory)) in
+      let t = h (pageOf g s (l .memory)) (page-sheet g z s (l .memory) (known g l q) text-room 1 (omega arith)) in
+      let n = screenScrolls (s .head .screen) (p .scrolls) in
+      let screen = screenOf g (s .head .graphics) (withText (s .head .text) (p .text) (l .memory)) in
+      let stays : screen ≡ screenHeld g l = screen-stays (p .text) (t .text) in
+      let size : length screen ≡ screenBytes g = ap length stays ∙ long in
+      text-step none (scrollMark (g .stride) (height g) n) (s .head) p (scrolledTimes n (rowBytes g) screen) (known g l q .head) refl t
+      (length-times n (rowBytes g) screen (rw size (row-room g z)) ∙ size) (inl refl)
+      (by-test (eqb n 0) (λ e. rw (eqb-true n 0 e, stays) (λ x y hx hy o. refl)) (λ e. rw e (whole-agrees (g .stride) (height g) _ _)))
