@@ -105,9 +105,7 @@ covered-send g s p q l f c =
 pub length-send : (st : ℕ) (s p : List ℕ) (q : Pending) → length (sendPanel st q s p) ≡ length p
 unfolding sendPanel copyLine
 length-send st s p q =
-    let r : Rect = takeOwed q .hand in
-    if-cases (λ (l : List ℕ). length l ≡ length p) (isEmpty (takeOwed q .hand)) (λ e. refl)
-    (λ e. length-copyRun st s (r .top) (r .left) (r .right - r .left) p)
+    if-cases (λ (l : List ℕ). length l ≡ length p) (isEmpty (takeOwed q .hand)) (λ e. refl) (λ e. length-copyRun st s _ _ _ p)
 
 -- ---- every effect
 
@@ -115,13 +113,10 @@ length-send st s p q =
 pub held-open : (g : Geometry) (t : PanelState) → length (t .panel) ≡ screenBytes g → t .pending ≡ openPending g → Held g t
 unfolding openPending owing nothingPending
 held-open g t l e =
-    record {
-      long = l;
-      well = rw e (well-open g);
-      low = rw e (omega arith);
-      covered = rw e (λ x y hx hy d. inr (joinOwed-marks (width g) (g .band) 0 (whole (g .stride) (height g)) (replicate (g .bands) none) x y hx (omega arith)
-          (rw (length-replicate (g .bands) none) (omega arith)) (omega arith)));
-    }
+    let all = whole (g .stride) (height g) in
+    let c : Covered g (t .screen) (t .panel) (openPending g) = λ x y hx hy d.
+    inr (joinOwed-marks (width g) (g .band) 0 all (replicate (g .bands) none) x y hx (omega arith) (rw (length-replicate (g .bands) none) (omega arith)) (omega arith)) in
+    record { long = l; well = rw e (well-open g); low = rw e (omega arith); covered = rw e c }
 
 -- the panel and what is pending are those that the effect makes
 held-by : (g : Geometry) (s : PanelState) (e : Effect) (t : PanelState) → Follows g s e t → length (panelAfter g s e) ≡ screenBytes g → WellPending g (affected g (s .pending) e)

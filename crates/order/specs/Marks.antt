@@ -42,7 +42,7 @@ use Rattle.laws.specs.Record.{head-tells}
 use Rattle.laws.specs.Cursors.{blink-fits, next-most}
 use Rattle.laws.specs.Boxes.{box-fits}
 use Rattle.laws.specs.Glyphs.{length-paint}
-use Rattle.order.specs.Step.{Lendable, Step, old, screenHeld, known, still-fits, head-formed, same-step, changed-step, rewritten-step, painted-step, screen-long, page-formed, text-in}
+use Rattle.order.specs.Step.{Lendable, Step, old, screenHeld, known, still-fits, head-formed, same-step, changed-step, rewritten-step, painted-step, screen-long, page-formed}
 
 -- the whole screen as a dirty rectangle
 whole-fits : (g : Geometry) → IsGlass g → Fits 256 0 256 (whole (g .stride) (height g))
@@ -141,7 +141,7 @@ module _ (g : Geometry) (k : ℕ) (there : k < g .panels) (l : Lent) (q : Lendab
   -- ---- text: clearing and each scroll in Graph owe the whole screen; a page that has not scrolled there changes no pixel
 
   text-room : s .head .text + cells g ≤ length (l .memory)
-  text-room = rw (q .memory) (text-in g (q .passing .glass) (s .head) (known g l q .head))
+  text-room = rw (q .memory) (omega (arith, head-tells g (s .head) (known g l q .head) .text, q .passing .glass .text))
 
   -- the screen is not the text's: it stays with another text
   screen-stays : (t : List ℕ) → length t ≡ cells g → screenOf g (s .head .graphics) (withText (s .head .text) t (l .memory)) ≡ screenHeld g l

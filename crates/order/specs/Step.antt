@@ -97,12 +97,9 @@ pub record Step (g : Geometry) (k : ℕ) (l : Lent) (e : Effect) (l′ : Lent) :
   pub lendable : Lendable g l′
   pub follows : Follows g (view g k l) e (view g k l′)
 
--- ---- text and screen lie in memory
+-- ---- the screen lies in memory
 
 module _ (g : Geometry) (z : IsGlass g) (h : Head) (e : headFits g h ≡ true) where
-  pub text-in : h .text + cells g ≤ memoryBytes
-  text-in = omega (arith, head-tells g h e .text, z .text)
-
   pub screen-in : h .graphics + screenBytes g ≤ memoryBytes
   screen-in = omega (arith, head-tells g h e .graphics, z .screen)
 
