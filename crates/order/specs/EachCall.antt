@@ -5,7 +5,7 @@ use Prim.Native.Nat.{ℕ, zero, suc, _<_}
 use native.Mathlib.Omega.{arith}
 use lib.Dec.{leb, eqb}
 use borrow.Author.Tests.{le-leb}
-use Rattle.model.specs.Geometry.{Geometry, height, rows, columns}
+use Rattle.model.specs.Geometry.{Geometry, height, columns, rows}
 use Rattle.model.specs.Glass.{IsGlass}
 use Rattle.model.specs.Rects.{none, isEmpty, fits}
 use Rattle.model.specs.Refusals.{refusal, ruled}
@@ -17,10 +17,10 @@ use Rattle.model.specs.declared.Head.{Head}
 use Rattle.model.specs.Bitmaps.{paintMode, sourceBytes}
 use Rattle.model.specs.Memory.{window}
 use Rattle.model.specs.Text.{withRow, withColumn, printMode, withPrintMode}
-use Rattle.model.specs.Calls.{Call, opening, reset, drawPoint, drawLine, drawBox, drawCircle, drawEllipse, checkPoint, paintBitmap, writeByte, flush, getRow, getColumn, setRow, setColumn, setPrintMode, takeDirtyArea, send, Lent, answered, drawing, filled, refusals, refused, done, outcome, print, newline, cls, setScreenMode, blinkCursor, clearCursor}
+use Rattle.model.specs.Calls.{Call, opening, reset, drawPoint, drawLine, drawBox, drawCircle, drawEllipse, checkPoint, paintBitmap, print, newline, cls, writeByte, flush, getRow, getColumn, setRow, setColumn, setScreenMode, setPrintMode, blinkCursor, clearCursor, takeDirtyArea, send, Lent, answered, filled, refusals, drawing, done, refused, outcome}
 use Rattle.model.specs.Print.{isInverse}
 use Rattle.model.specs.Record.{headFits}
-use Rattle.model.specs.Lists.{accepted, Typed, Item, here, elsewhere, after, effect, effectAt, itemEffect, draws}
+use Rattle.model.specs.Lists.{accepted, Typed, Item, here, elsewhere, after, draws, effect, effectAt, itemEffect}
 use Rattle.laws.specs.Tests.{if-cases}
 use Rattle.laws.specs.Record.{head-tells}
 use Rattle.laws.specs.Points.{point-fits}
@@ -30,9 +30,9 @@ use Rattle.laws.specs.EllipseMarks.{ellipse-fits}
 use Rattle.laws.specs.Bitmaps.{bitmap-fits}
 use Rattle.laws.specs.Pages.{newline-sheet, print-sheet}
 use Rattle.laws.specs.Calls.{accepted-call}
-use Rattle.order.specs.Step.{Lendable, Step, old, known, still-fits, same-step, changed-step}
+use Rattle.order.specs.Step.{still-fits, Lendable, old, Step, known, same-step, changed-step}
 use Rattle.order.specs.Opens.{opening-step, reset-step, send-step}
-use Rattle.order.specs.Marks.{drawing-step, poke-step, flush-step, blink-step, clear-cursor-step, cleared-step, page-step}
+use Rattle.order.specs.Marks.{poke-step, flush-step, drawing-step, blink-step, clear-cursor-step, cleared-step, page-step}
 
 module _ (g : Geometry) (l : Lent) (q : Lendable g l) where
   abbrev z : IsGlass g

@@ -1,5 +1,5 @@
 -- Calls whose effect is a mark: `write_byte`, `flush`, drawings, the cursor's blink, clearing and pages. What they change on the screen lies in the mark.
-use mathlib.Core.Path.{_≡_, refl, _∙_, ap}
+use mathlib.Core.Path.{_≡_, refl, ap, _∙_}
 use mathlib.Core.Logic.{inl, inr}
 use mathlib.Core.Bool.{true, cond}
 use mathlib.Core.List.{List}
@@ -8,27 +8,27 @@ use native.Mathlib.Nat.{mod-lt, div-lt-iff-lt-mul, mul-comm}
 use native.Mathlib.Omega.{arith}
 use lib.Dec.{leb, ltb, eqb}
 use lib.ListN.{length, length-set}
-use borrow.Author.Tests.{le-leb, leb-false, ltb-false, lt-ltb, eqb-true}
+use borrow.Author.Tests.{lt-ltb, le-leb, leb-false, ltb-false, eqb-true}
 use Rattle.model.specs.declared.Rect.{Rect}
 use Rattle.model.specs.declared.Head.{Head}
 use Rattle.model.specs.declared.DrawMode.the-variants.{Xor}
-use Rattle.model.specs.Geometry.{Geometry, height, screenBytes, rows, columns, cells, rowBytes}
+use Rattle.model.specs.Geometry.{Geometry, height, screenBytes, columns, rows, cells, rowBytes}
 use Rattle.model.specs.Glass.{IsGlass}
-use Rattle.model.specs.Rects.{fits, none}
-use Rattle.model.specs.Memory.{screenOf, zeros, withScreen, withText}
+use Rattle.model.specs.Rects.{none, fits}
+use Rattle.model.specs.Memory.{zeros, screenOf, withScreen, withText}
 use Rattle.model.specs.Pixels.{draw, seen}
-use Rattle.model.specs.Record.{State, headFits, withHead, windows, windowTests, headTests, encode, withFlags}
-use Rattle.model.specs.Marks.{Drawing, whole, owes, drawnOn, marked}
+use Rattle.model.specs.Record.{State, windowTests, windows, headTests, headFits, encode, withHead, withFlags}
+use Rattle.model.specs.Marks.{whole, owes, marked, Drawing, drawnOn}
 use Rattle.model.specs.Open.{clearFlags}
-use Rattle.model.specs.Text.{withCursor, withRow, withColumn, atPlace, withScreenMode, clearedState, clearedMemory}
+use Rattle.model.specs.Text.{withRow, withColumn, atPlace, withScreenMode, withCursor, clearedState, clearedMemory}
 use Rattle.model.specs.Print.{Page, scrolledTimes, pageOf, screenScrolls, scrollMark, stateWithPage, scrolledMemory, memoryWithPage}
-use Rattle.model.specs.Cursor.{blinkOf, blinkNext, cursorBox, underCursor, blinkHead, blinkDrawing}
+use Rattle.model.specs.Cursor.{blinkOf, blinkNext, cursorBox, underCursor, blinkDrawing, blinkHead}
 use Rattle.model.specs.Glyphs.{Fonts}
 use Rattle.model.specs.Flush.{flushStores, clearedInText, flushed}
 use Rattle.model.specs.Poke.{ignored, poked, inScreen, pokeMark}
-use Rattle.model.specs.Calls.{writeByte, flush, Lent, answered, drawingWith, drawing, done, blinked, cursorCleared, lent, cleared, withPage}
-use Rattle.model.specs.Lists.{nothing, draws, effect, blinks, marks, prints}
-use Rattle.laws.specs.Tests.{tests, if-cases, by-test, and-true, and-false, either, all-true, or-cases}
+use Rattle.model.specs.Calls.{writeByte, flush, Lent, lent, answered, drawingWith, drawing, cleared, withPage, blinked, cursorCleared, done}
+use Rattle.model.specs.Lists.{nothing, marks, draws, prints, blinks, effect}
+use Rattle.laws.specs.Tests.{if-cases, by-test, either, tests, and-true, and-false, all-true, or-cases}
 use Rattle.laws.specs.Rects.{Fits, passes-fits}
 use Rattle.laws.specs.Pixels.{length-draw}
 use Rattle.laws.specs.Memory.{window-set-in, window-set-out, length-withWindow, window-other}
@@ -42,7 +42,7 @@ use Rattle.laws.specs.Record.{head-tells}
 use Rattle.laws.specs.Cursors.{blink-fits, next-most}
 use Rattle.laws.specs.Boxes.{box-fits}
 use Rattle.laws.specs.Glyphs.{length-paint}
-use Rattle.order.specs.Step.{Lendable, Step, old, screenHeld, known, still-fits, head-formed, same-step, changed-step, rewritten-step, painted-step, screen-long, page-formed}
+use Rattle.order.specs.Step.{still-fits, head-formed, page-formed, Lendable, old, screenHeld, Step, screen-long, known, same-step, changed-step, rewritten-step, painted-step}
 
 -- the whole screen as a dirty rectangle
 whole-fits : (g : Geometry) → IsGlass g → Fits 256 0 256 (whole (g .stride) (height g))

@@ -8,12 +8,12 @@ use lib.Dec.{leb}
 use lib.ListN.{length, set, length-set, length-replicate, getD-replicate}
 use lib.Seq.{getD-set-same}
 use borrow.Author.Tests.{lt-ltb, le-leb}
-use Rattle.model.specs.Geometry.{Geometry, height, rows, columns, cells, screenBytes, memoryBytes}
+use Rattle.model.specs.Geometry.{Geometry, height, screenBytes, columns, rows, cells, memoryBytes}
 use Rattle.model.specs.Glass.{IsGlass}
 use Rattle.model.specs.Memory.{zeros}
-use Rattle.model.specs.Rects.{none, isEmpty, join, fits}
+use Rattle.model.specs.Rects.{none, isEmpty, fits, join}
 use Rattle.model.specs.Bytes.{Words}
-use Rattle.model.specs.Record.{WellFormed, encode, panelOf, nothingPending, windows, headTests, headFits, withHead, withPanel, withFlags}
+use Rattle.model.specs.Record.{nothingPending, panelOf, windows, headTests, headFits, encode, withHead, withPanel, withFlags, WellFormed}
 use Rattle.model.specs.Marks.{whole, updateDirty, marked}
 use Rattle.model.specs.Open.{clearMemory, clearHead, clearFlags, openPending, openState, resetState}
 use Rattle.model.specs.Sends.{sendPending, sendPanel}
@@ -29,7 +29,7 @@ use Rattle.laws.specs.Record.{head-tells}
 use Rattle.laws.specs.Flags.{length-no-flags}
 use Rattle.laws.specs.Pendings.{well-open, well-send}
 use Rattle.order.specs.Held.{length-send}
-use Rattle.order.specs.Step.{Lendable, Step, old, screenHeld, known, panel-formed, page-formed, stored, rewritten-step}
+use Rattle.order.specs.Step.{panel-formed, page-formed, Lendable, old, screenHeld, Step, known, stored, rewritten-step}
 
 pub length-clear-memory : (keys : List ℕ) → length (clearMemory keys) ≡ memoryBytes
 unfolding clearMemory

@@ -12,11 +12,11 @@ use Rattle.model.specs.Glass.{IsGlass}
 use Rattle.model.specs.Record.{Pending, nothingPending, WellPending}
 use Rattle.model.specs.Refusals.{refusal, ruled}
 use Rattle.model.specs.Calls.{Call, opening, send, Lent, answered, refusals, done, outcome}
-use Rattle.model.specs.Lists.{accepted, Typed, Item, here, elsewhere, after, run, Effect, opens, effect, effectAt, itemEffect, affected, reckoned, linesLeft, differing}
+use Rattle.model.specs.Lists.{accepted, Typed, Item, here, elsewhere, after, run, Effect, opens, effect, affected, effectAt, itemEffect, reckoned, linesLeft, differing}
 use Rattle.laws.specs.Calls.{own-decide, outcome-done}
 use Rattle.laws.specs.Pendings.{lines-send, idle-iff, lines-bound}
 use Rattle.order.specs.Held.{PanelState, Held, held-open, held-after, none-left}
-use Rattle.order.specs.Step.{Lendable, Step, view}
+use Rattle.order.specs.Step.{Lendable, view, Step}
 use Rattle.order.specs.Opens.{opening-step}
 use Rattle.order.specs.EachCall.{item-step}
 use Rattle.order.specs.Accepted.{acceptedCall, acceptedCalls, leftBy, left-run}

@@ -12,12 +12,12 @@ use Rattle.model.specs.Geometry.{Geometry, height, screenBytes, cells, memoryBy
 use Rattle.model.specs.Glass.{IsGlass}
 use Rattle.model.specs.Rects.{every, fits}
 use Rattle.model.specs.Memory.{screenOf, withScreen}
-use Rattle.model.specs.Record.{Pending, State, decode, encode, panelOf, nothingPending, headTests, headFits, withHead, withPanels, withPanel, withFlags, WellPending, WellFormed}
+use Rattle.model.specs.Record.{Pending, State, nothingPending, panelOf, headTests, headFits, decode, encode, withHead, withPanels, withPanel, withFlags, WellPending, WellFormed}
 use Rattle.model.specs.Marks.{updateDirty, owing, marked}
 use Rattle.model.specs.Calls.{Lent, lent, changed}
 use Rattle.model.specs.Lists.{Effect, nothing, marks, affected}
-use Rattle.laws.specs.Tests.{AllTrue, all-true, true-all, by-eq}
-use Rattle.laws.specs.Rects.{Fits, fits-passes, passes-fits, join-fits}
+use Rattle.laws.specs.Tests.{by-eq, AllTrue, all-true, true-all}
+use Rattle.laws.specs.Rects.{Fits, join-fits, fits-passes, passes-fits}
 use Rattle.laws.specs.ListLaws.{getD-map}
 use Rattle.laws.specs.Memory.{length-window, length-withWindow, window-same}
 use Rattle.laws.specs.Marks.{AgreeOutside}

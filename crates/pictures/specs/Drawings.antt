@@ -12,10 +12,10 @@ use Rattle.model.specs.Geometry.{base}
 use Rattle.model.specs.Pixels.{PixelWrite, draw, seen}
 use Rattle.model.specs.Rects.{isEmpty, join, cut}
 use Rattle.model.specs.Memory.{zeros, screenOf, withScreen}
-use Rattle.model.specs.Record.{State, WellFormed, withPanel, panelOf, nothingPending, listing, total, decode, encode, windows, withHead}
-use Rattle.model.specs.Marks.{Drawing, updateDirty, joinOwed, owing, owes, marked, drawnOn, withDirty}
+use Rattle.model.specs.Record.{State, nothingPending, panelOf, windows, total, listing, decode, encode, withHead, withPanel, WellFormed}
+use Rattle.model.specs.Marks.{withDirty, updateDirty, joinOwed, owing, owes, marked, Drawing, drawnOn}
 use Rattle.model.specs.Open.{openState}
-use Rattle.model.specs.Calls.{Call, Lent, lent, Lending, with-memory, takes, lengthsFit, ownTests, answered, drawingWith, drawing, done, outcome}
+use Rattle.model.specs.Calls.{Call, Lent, lent, answered, Lending, with-memory, takes, lengthsFit, ownTests, drawingWith, drawing, done, outcome}
 use Rattle.model.specs.Script.Output.{noKeys}
 use Rattle.laws.specs.Rects.{Fits}
 use Rattle.laws.specs.Calls.{AllPass, pass-accepted, Tested, own-decide, outcome-done}
@@ -26,9 +26,9 @@ use Rattle.laws.specs.Record.{Passing, decode-encode}
 use Rattle.laws.specs.Glasses.{base-glass}
 use Rattle.laws.specs.States.{well-formed, encode-passing}
 use Rattle.laws.specs.Pendings.{well-nothing}
-use Rattle.order.specs.Step.{marked-formed, panel-formed, screen-in, screen-long}
+use Rattle.order.specs.Step.{panel-formed, marked-formed, screen-in, screen-long}
 use Rattle.order.specs.Opens.{open-formed}
-use Rattle.pictures.specs.Picture.{Unmarked, Drew, withMarks, graphicsIn, screenIn}
+use Rattle.pictures.specs.Picture.{graphicsIn, screenIn, Unmarked, withMarks, Drew}
 use Rattle.pictures.specs.Writes.{pictured, pictured-changed}
 
 -- ---- bytes to start from: a record as it is opened, but with nothing owed, and a memory of zeros

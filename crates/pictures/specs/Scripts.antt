@@ -11,9 +11,9 @@ use borrow.Author.Tests.{eq-eqb}
 use Rattle.model.specs.Geometry.{base}
 use Rattle.model.specs.Bits.{bitAt, withBit}
 use Rattle.model.specs.Pixels.{bit, put, onScreen, writePixel, draw, seen, copyRun}
-use Rattle.model.specs.Rects.{isEmpty, join, cut, inside}
+use Rattle.model.specs.Rects.{inside, isEmpty, join, cut}
 use Rattle.model.specs.Memory.{window, zeros, screenOf, withScreen}
-use Rattle.model.specs.Record.{State, WellFormed, encode, panelOf, nothingPending, windows, withPanel}
+use Rattle.model.specs.Record.{State, nothingPending, panelOf, windows, encode, withPanel, WellFormed}
 use Rattle.model.specs.Refusals.{refusal}
 use Rattle.model.specs.Marks.{updateDirty, joinOwed, owing, within, owes, marked, drawnOn}
 use Rattle.model.specs.Open.{isKey, withKeys, clearMemory, openPending, openState}
@@ -33,7 +33,7 @@ use Rattle.laws.specs.Pixels.{length-put}
 use Rattle.laws.specs.Loops.{length-zeros}
 use Rattle.laws.specs.Counts.{byteDiffers, bytesDiffer, differing-bytes}
 use Rattle.laws.specs.Pendings.{well-send}
-use Rattle.order.specs.Step.{marked-formed, panel-formed}
+use Rattle.order.specs.Step.{panel-formed, marked-formed}
 use Rattle.order.specs.Opens.{length-clear-memory, open-formed}
 use Rattle.pictures.specs.Picture.{rect}
 

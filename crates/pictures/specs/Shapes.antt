@@ -6,8 +6,8 @@ use mathlib.Core.List.{List, [], _∷_}
 use Prim.Native.Nat.{ℕ, _+_, _≤_, _<_}
 use native.Mathlib.Omega.{arith}
 use lib.IntN.{ℤ, pos, negsuc}
-use lib.ListN.{length, take, drop, take-append-drop, length-drop, getD}
-use lib.Seq.{drop-drop, length-take-le, drop-cons}
+use lib.ListN.{length, getD, take, drop, take-append-drop, length-drop}
+use lib.Seq.{drop-cons, drop-drop, length-take-le}
 use borrow.Author.Tests.{le-leb}
 use Rattle.model.specs.Geometry.{base}
 use Rattle.model.specs.Bits.{bitAt}
@@ -21,12 +21,12 @@ use Rattle.model.specs.Points.{drawMode, pointOp, pointRect, point}
 use Rattle.model.specs.Lines.{isUnknown, runOp, pixelRun, horizontal, horizontalLine, stepped, nextError, slope, sloped, slopedLine, line}
 use Rattle.model.specs.Boxes.{boxRows, filledBox, boxOf, box}
 use Rattle.model.specs.Ellipses.{start, moves, advanced, turns, turned, xStep, yStep, part, xParts, yParts, step, stepParts, ended, partsFrom, stepsFrom, parts, steps, corners, partWrites, partsWrites, wraps, ellipseMark, ellipseDrawn, isPoint, isNothing, ellipse, circle, radiiFit, stepsFit}
-use Rattle.model.specs.Calls.{drawPoint, drawLine, drawBox, drawCircle, Lent, lent, answered, drawingWith, drawing, done, outcome, paintBitmap, Outcome, refusals, refused}
+use Rattle.model.specs.Calls.{drawPoint, drawLine, drawBox, drawCircle, paintBitmap, Lent, lent, Outcome, answered, refusals, drawingWith, drawing, done, refused, outcome}
 use Rattle.laws.specs.Calls.{own-decide}
 use Rattle.laws.specs.Updates.{unmarked}
-use Rattle.pictures.specs.Picture.{rect, sets, inverts, Unmarked, Picture, screenIn, graphicsIn, clears, Drew}
+use Rattle.pictures.specs.Picture.{rect, sets, clears, inverts, graphicsIn, screenIn, Unmarked, Drew, Picture}
 use Rattle.pictures.specs.Writes.{hits, made, alike, names, allOf, pictured}
-use Rattle.pictures.specs.Drawings.{passing, screen-fits, done-on, drew, entered}
+use Rattle.pictures.specs.Drawings.{passing, screen-fits, entered, done-on, drew}
 
 -- ---- points
 

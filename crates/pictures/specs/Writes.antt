@@ -9,10 +9,10 @@ use native.Mathlib.Omega.{arith}
 use lib.Dec.{ltb, eqb}
 use lib.ListN.{length}
 use borrow.Author.Tests.{eqb-false}
-use Rattle.model.specs.Pixels.{PixelWrite, bit, onScreen, writePixel, draw}
-use Rattle.laws.specs.Tests.{tests, by-test, either, clash, and-true, or-cases}
+use Rattle.model.specs.Pixels.{bit, onScreen, PixelWrite, writePixel, draw}
+use Rattle.laws.specs.Tests.{by-test, either, tests, clash, and-true, or-cases}
 use Rattle.laws.specs.Tables.{same-bool}
-use Rattle.laws.specs.Pixels.{Each, place-lt, length-put, put-same, put-other, draw-other}
+use Rattle.laws.specs.Pixels.{place-lt, length-put, put-same, put-other, Each, draw-other}
 use Rattle.pictures.specs.Picture.{Changed}
 
 -- ---- what becomes of one pixel
