@@ -1,14 +1,13 @@
 -- Every accepted call: one clause says that it leaves bytes that can be lent again and that the panel's state follows by its effect.
 use mathlib.Core.Path.{_≡_, refl}
 use mathlib.Core.Bool.{Bool, true, _&&_}
-use Prim.Native.Nat.{ℕ, zero, suc, _<_}
+use Prim.Native.Nat.{ℕ, _<_}
 use native.Mathlib.Omega.{arith}
 use lib.Dec.{leb, eqb}
 use borrow.Author.Tests.{le-leb}
 use Rattle.model.specs.Geometry.{Geometry, height, columns, rows}
 use Rattle.model.specs.Glass.{IsGlass}
 use Rattle.model.specs.Rects.{none, isEmpty, fits}
-use Rattle.model.specs.Refusals.{refusal, ruled}
 use Rattle.model.specs.Marks.{withDirty}
 use Rattle.model.specs.Points.{drawMode, point}
 use Rattle.model.specs.Ellipses.{ellipse}
@@ -17,10 +16,10 @@ use Rattle.model.specs.declared.Head.{Head}
 use Rattle.model.specs.Bitmaps.{paintMode, sourceBytes}
 use Rattle.model.specs.Memory.{window}
 use Rattle.model.specs.Text.{withRow, withColumn, printMode, withPrintMode}
-use Rattle.model.specs.Calls.{Call, opening, reset, drawPoint, drawLine, drawBox, drawCircle, drawEllipse, checkPoint, paintBitmap, print, newline, cls, writeByte, flush, getRow, getColumn, setRow, setColumn, setScreenMode, setPrintMode, blinkCursor, clearCursor, takeDirtyArea, send, Lent, answered, filled, refusals, drawing, done, refused, outcome}
+use Rattle.model.specs.Calls.{Call, opening, reset, drawPoint, drawLine, drawBox, drawCircle, drawEllipse, checkPoint, paintBitmap, print, newline, cls, writeByte, flush, getRow, getColumn, setRow, setColumn, setScreenMode, setPrintMode, blinkCursor, clearCursor, takeDirtyArea, send, Lent, answered, filled, drawing, done, refused}
 use Rattle.model.specs.Print.{isInverse}
 use Rattle.model.specs.Record.{headFits}
-use Rattle.model.specs.Lists.{accepted, Typed, Item, here, elsewhere, after, draws, effect, effectAt, itemEffect}
+use Rattle.model.specs.Lists.{accepted, Typed, Item, after, draws, effect, itemEffect}
 use Rattle.laws.specs.Tests.{if-cases}
 use Rattle.laws.specs.Record.{head-tells}
 use Rattle.laws.specs.Points.{point-fits}
@@ -31,6 +30,7 @@ use Rattle.laws.specs.Bitmaps.{bitmap-fits}
 use Rattle.laws.specs.Pages.{newline-sheet, print-sheet}
 use Rattle.laws.specs.Calls.{accepted-call}
 use Rattle.order.specs.Step.{still-fits, Lendable, old, Step, known, same-step, changed-step}
+use Rattle.order.specs.Accepted.{by-item}
 use Rattle.order.specs.Opens.{opening-step, reset-step, send-step}
 use Rattle.order.specs.Marks.{poke-step, flush-step, drawing-step, blink-step, clear-cursor-step, cleared-step, page-step}
 
@@ -82,10 +82,4 @@ module _ (g : Geometry) (l : Lent) (q : Lendable g l) where
 
   -- a refused call leaves all as it was, and so does one that was lent other buffers
   pub item-step : (i : Item g) → Step g 0 l (itemEffect g l i) (after g l i)
-  unfolding after itemEffect effectAt outcome ruled refused answered
-  item-step (here c t) = go (refusal (refusals g c l)) refl
-    where
-      go : (n : ℕ) → refusal (refusals g c l) ≡ n → Step g 0 l (effectAt n (effect g c l)) (ruled n (refused c l) (done g c l) .left)
-      go zero e = call-step c t e
-      go (suc n) e = same-step g 0 (z .one) l q
-  item-step (elsewhere c o r) = same-step g 0 (z .one) l q
+  item-step i = by-item g (λ k e cs. Step g 0 l e k) l i call-step (same-step g 0 (z .one) l q)

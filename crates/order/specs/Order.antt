@@ -12,14 +12,14 @@ use Rattle.model.specs.Glass.{IsGlass}
 use Rattle.model.specs.Record.{Pending, nothingPending, WellPending}
 use Rattle.model.specs.Refusals.{refusal, ruled}
 use Rattle.model.specs.Calls.{Call, opening, send, Lent, answered, refusals, done, outcome}
-use Rattle.model.specs.Lists.{accepted, Typed, Item, here, elsewhere, after, run, Effect, opens, effect, affected, effectAt, itemEffect, reckoned, linesLeft, differing}
+use Rattle.model.specs.Lists.{accepted, Typed, Item, here, after, run, Effect, opens, effect, affected, effectAt, itemEffect, reckoned, linesLeft, differing}
 use Rattle.laws.specs.Calls.{own-decide, outcome-done}
 use Rattle.laws.specs.Pendings.{lines-send, idle-iff, lines-bound}
 use Rattle.order.specs.Held.{PanelState, Held, held-open, held-after, none-left}
 use Rattle.order.specs.Step.{Lendable, view, Step}
 use Rattle.order.specs.Opens.{opening-step}
 use Rattle.order.specs.EachCall.{item-step}
-use Rattle.order.specs.Accepted.{acceptedCall, acceptedCalls, leftBy, left-run}
+use Rattle.order.specs.Accepted.{by-item, acceptedCall, acceptedCalls, leftBy, left-run}
 
 -- what holds of the lent bytes between calls; p is owed, in hand and sent, as reckoned from the effects
 pub record Standing (g : Geometry) (l : Lent) (p : Pending) : Type 0 where
@@ -99,14 +99,12 @@ module _ (g : Geometry) where
     fewer : linesLeft (affected g q e) - others ≡ linesLeft q - n
 
   sent-item : (l : Lent) (i : Item g) (q : Pending) → WellPending g q → (cs : List Call) (n : ℕ) → acceptedCall g l i ++ cs ≡ replicate n send → Sent q (itemEffect g l i) cs n
-  unfolding acceptedCall itemEffect effectAt effect affected ruled
-  sent-item l (elsewhere c o r) q w cs n e = record { others = n; rest = e; fewer = refl }
-  sent-item l (here c t) q w cs n e = go (refusal (refusals g c l)) n e
+  unfolding effect affected
+  sent-item l i q w cs n e = by-item g (λ k f ds. ds ++ cs ≡ replicate n send → Sent q f cs n) l i (λ c t a. first c n) (λ d. record { others = n; rest = d; fewer = refl }) e
     where
-      go : (k n : ℕ) → ruled k (λ j. []) (c ∷ []) ++ cs ≡ replicate n send → Sent q (effectAt k (effect g c l)) cs n
-      go zero zero e = absurd (let z = ap length e in omega arith)
-      go zero (suc n) e = let a : c ≡ send = cc in record { others = n; rest = cc; fewer = rw a (omega (arith, lines-send g q w)) }
-      go (suc k) n e = record { others = n; rest = e; fewer = refl }
+      first : (c : Call) (n : ℕ) → c ∷ cs ≡ replicate n send → Sent q (effect g c l) cs n
+      first c zero e = absurd (let z = ap length e in omega arith)
+      first c (suc n) e = let a : c ≡ send = cc in record { others = n; rest = cc; fewer = rw a (omega (arith, lines-send g q w)) }
 
   -- each send takes a line, as long as there are any
   pub lines-more : (l : Lent) {p : Pending} → Standing g l p → (more : List (Item g)) (n : ℕ) → acceptedCalls g l more ≡ replicate n send
