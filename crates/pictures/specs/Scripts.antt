@@ -29,7 +29,6 @@ use Rattle.laws.specs.Glasses.{base-glass}
 use Rattle.laws.specs.Record.{decode-encode}
 use Rattle.laws.specs.States.{encode-passing}
 use Rattle.laws.specs.Memory.{length-withWindow, window-same}
-use Rattle.laws.specs.Pixels.{length-put}
 use Rattle.laws.specs.Loops.{length-zeros}
 use Rattle.laws.specs.Counts.{byteDiffers, bytesDiffer, differing-bytes}
 use Rattle.laws.specs.Pendings.{well-send}
@@ -93,12 +92,12 @@ cleared-screen : screenOf base 4096 (clearMemory noKeys) ≡ zeros 1600
 unfolding window clearMemory withKeys isKey bitAt zeros
 cleared-screen = refl
 
--- the first line drawn, then sent: no pixel differs
+-- the point drawn, then the first line sent: no pixel differs
 none-left : differing base (dotted (zeros 1600)) (copyRun 20 (dotted (zeros 1600)) 0 0 160 (zeros 1600)) ≡ 0
 unfolding dotted put zeros copyRun bytesDiffer byteDiffers sum differs withBit bit bitAt
 none-left = differing-bytes base (dotted (zeros 1600)) (copyRun 20 (dotted (zeros 1600)) 0 0 160 (zeros 1600)) refl refl
 
--- sent, then drawn: the point differs
+-- the line sent, then the point drawn: it differs
 point-left : differing base (dotted (zeros 1600)) (copyRun 20 (zeros 1600) 0 0 160 (zeros 1600)) ≡ 1
 unfolding dotted put zeros copyRun bytesDiffer byteDiffers sum differs withBit bit bitAt
 point-left = differing-bytes base (dotted (zeros 1600)) (copyRun 20 (zeros 1600) 0 0 160 (zeros 1600)) refl refl
@@ -114,8 +113,8 @@ two-lines c d l k ms ns s w m p z different left e f g h i = rw (lineLeaves, lin
 
 module _ (m : List ℕ) (hm : length m ≡ 65536) (e : screenOf base 4096 m ≡ zeros 1600) where
   dotted-long : length (dotted (screenOf base 4096 m)) ≡ 1600
-  unfolding dotted
-  dotted-long = length-put 20 (screenOf base 4096 m) 3 0 true ∙ ap length e ∙ length-zeros 1600
+  unfolding dotted put zeros
+  dotted-long = rw e
 
   dotted-screen : screenOf base 4096 (withScreen 4096 (dotted (screenOf base 4096 m)) m) ≡ dotted (zeros 1600)
   dotted-screen = window-same 4096 1600 (dotted (screenOf base 4096 m)) m dotted-long (omega arith) ∙ ap dotted e

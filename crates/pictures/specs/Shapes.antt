@@ -90,7 +90,7 @@ circle-one l u = drew l u (drawCircle 10 10 1 0 1) (circle 20 80 10 10 1 false (
 
 -- ---- bitmaps: one source byte clipped at the left edge, and the last address that SOURCE lets pass
 
--- its last seven bits
+-- the pixels are the byte's last seven bits
 pub bitmap-clipped : (a : ℕ) → a < 65536 → (l : Lent) → Unmarked l → getD (l .memory) a 0 ≡ 0x81
     → Drew l (clears 0 0 ∷ clears 1 0 ∷ clears 2 0 ∷ clears 3 0 ∷ clears 4 0 ∷ clears 5 0 ∷ sets 6 0 ∷ []) (rect 0 0 7 1) (rect 0 0 7 1)
     (outcome base (paintBitmap a (negsuc 0) (pos 0) 8 1 0) l)
