@@ -34,7 +34,7 @@ all-set [] i h e = h
 all-set (s ∷ l) zero h e = (e, h .1)
 all-set (s ∷ l) (suc i) h e = (h .0, all-set l i (h .1) e)
 
--- it passes with another number, the one that the test in place i of `headTests` reads, where that passes
+-- it passes with another number where the test that reads it passes: row 1, column 2, screen mode 3, print mode 4, cursor 5 and dirty 7 are their places in `headTests`
 pub still-fits : (g : Geometry) (h : Head) → headFits g h ≡ true → (i : ℕ) {t : Bool} → t ≡ true → every (set (headTests g h) i t) ≡ true
 unfolding headFits
 still-fits g h e i {t} p = true-all (set (headTests g h) i t) (all-set (headTests g h) i (all-true (headTests g h) e) p)
