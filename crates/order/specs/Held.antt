@@ -1,4 +1,4 @@
--- What holds of a panel's state after every call, whatever its effect is.
+-- One panel's state, what an effect makes of it, and what holds of it after every call, whatever its effect is.
 use mathlib.Core.Path.{_≡_, refl, sym, ap, _∙_}
 use mathlib.Core.Logic.{_≢_, _⊎_, inl, inr}
 use mathlib.Core.List.{List, [], _∷_}
@@ -8,7 +8,6 @@ use lib.Dec.{ltb}
 use lib.ListN.{length, replicate, length-replicate}
 use Rattle.model.specs.declared.Rect.{Rect}
 use Rattle.model.specs.Geometry.{Geometry, width, height, screenBytes}
-use Rattle.model.specs.Pixels.{bit}
 use Rattle.model.specs.Rects.{none, In, isEmpty, linesOf}
 use Rattle.model.specs.Record.{Pending, nothingPending, WellPending}
 use Rattle.model.specs.Marks.{whole, owing}
@@ -22,7 +21,34 @@ use Rattle.laws.specs.Bands.{joinOwed-keeps, joinOwed-marks, in-split}
 use Rattle.laws.specs.Marks.{AgreeOutside}
 use Rattle.laws.specs.Counts.{none-differ}
 use Rattle.laws.specs.Pendings.{well-owing, well-open, well-send, low-send, to-send}
-use Rattle.order.specs.PanelState.{PanelState, Follows}
+
+-- the screen, the panel, and what the panel has still to be sent
+pub record PanelState : Type 0 where
+  pub screen : List ℕ
+  pub panel : List ℕ
+  pub pending : Pending
+
+-- where the screen may change: inside the mark; anywhere where all of it is owed
+abbrev pub touched : Geometry → Effect → Rect
+touched g nothing = none
+touched g (marks m) = m
+touched g opens = whole (g .stride) (height g)
+touched g sends = none
+
+-- a send copies its line to the panel, and nothing else writes there
+abbrev pub panelAfter : Geometry → PanelState → Effect → List ℕ
+panelAfter g s nothing = s .panel
+panelAfter g s (marks m) = s .panel
+panelAfter g s opens = s .panel
+panelAfter g s sends = sendPanel (g .stride) (s .pending) (s .screen) (s .panel)
+
+-- t is what stands after an effect on s
+pub record Follows (g : Geometry) (s : PanelState) (e : Effect) (t : PanelState) : Type 0 where
+  pub pending : t .pending ≡ affected g (s .pending) e
+  pub panel : t .panel ≡ panelAfter g s e
+  pub screen : AgreeOutside (g .stride) (height g) (touched g e) (s .screen) (t .screen)
+
+-- ---- what holds
 
 -- every pixel that differs lies in hand or is owed
 abbrev pub Covered : Geometry → List ℕ → List ℕ → Pending → Type 0
@@ -34,27 +60,6 @@ pub record Held (g : Geometry) (s : PanelState) : Type 0 where
   pub well : WellPending g (s .pending)
   pub low : linesOf (s .pending .hand) ≤ g .band - 1
   pub covered : Covered g (s .screen) (s .panel) (s .pending)
-
--- ---- a mark: what changes lies in it
-
-covered-owing : (g : Geometry) (m : Rect) (s t p : List ℕ) (q : Pending) → WellPending g q → AgreeOutside (g .stride) (height g) m s t → Covered g s p q
-    → Covered g t p (owing g m q)
-unfolding owing
-covered-owing g m s t p q f a c x y hx hy d =
-    either (decIn m x y)
-    (λ i. inr (joinOwed-marks (width g) (g .band) 0 m (q .owed) x y hx (omega arith) (rw (f .bands) (omega arith)) i))
-    (λ n. either (c x y hx hy (λ e. d (a x y hx hy n ∙ e))) inl (λ i. inr (joinOwed-keeps (width g) (g .band) 0 m (q .owed) x y i)))
-
--- nothing changes: the same pixels differ
-covered-same : (g : Geometry) (s t p : List ℕ) (q : Pending) → AgreeOutside (g .stride) (height g) none s t → Covered g s p q → Covered g t p q
-covered-same g s t p q a c x y hx hy d = c x y hx hy (λ e. d (a x y hx hy (not-in-none x y) ∙ e))
-
--- an opening owes every pixel
-covered-open : (g : Geometry) (s p : List ℕ) → Covered g s p (openPending g)
-unfolding openPending owing nothingPending
-covered-open g s p x y hx hy d =
-    inr (joinOwed-marks (width g) (g .band) 0 (whole (g .stride) (height g)) (replicate (g .bands) none) x y hx (omega arith)
-    (rw (length-replicate (g .bands) none) (omega arith)) (omega arith))
 
 -- ---- a send
 
@@ -68,115 +73,71 @@ covered-take g s p q c =
 -- a pixel of r below its top line is one of what is left
 next-in : (r : Rect) (x y : ℕ) → In r x y → y ≢ r .top → In (nextLine r) x y
 unfolding nextLine
-next-in r x y i n =
-    if-cases (λ (q : Rect). In q x y) (ltb (r .top + 1) (r .bottom))
-    (λ e. omega arith) (λ e. omega (arith, tests))
+next-in r x y i n = if-cases (λ (q : Rect). In q x y) (ltb (r .top + 1) (r .bottom)) (λ e. omega arith) (λ e. omega (arith, tests))
 
-module _ (g : Geometry) (r : Rect) (w : Proper (width g) 0 (height g) r) (s p : List ℕ) (l : length p ≡ screenBytes g) where
-  fits-line : r .left + (r .right - r .left) ≤ width g
-  fits-line = omega arith
-
-  -- the line that is sent is on the panel as it is on the screen
-  line-same : (x : ℕ) → r .left ≤ x → x < r .right → bit (g .stride) (copyLine (g .stride) r s p) x (r .top) ≡ bit (g .stride) s x (r .top)
-  unfolding copyLine
-  line-same x a b =
-      copyRun-same (g .stride) s (r .top) (r .left) (r .right - r .left) p x fits-line
-      (λ j h. rw l (place-lt (g .stride) (height g) j (r .top) h (omega arith))) a (omega arith)
-
-  -- all else on the panel stays
-  line-other : (x y : ℕ) → x < width g → (y ≢ r .top) ⊎ ((x < r .left) ⊎ (r .left + (r .right - r .left) ≤ x))
-      → bit (g .stride) (copyLine (g .stride) r s p) x y ≡ bit (g .stride) p x y
-  unfolding copyLine
-  line-other x y hx o = copyRun-other (g .stride) s (r .top) (r .left) (r .right - r .left) p x y fits-line hx o
-
-  -- a pixel that differs after the line is sent differed before, and is not one of the line
-  line-differs : (x y : ℕ) → x < width g → Differs g s (copyLine (g .stride) r s p) x y → Differs g s p x y × (In r x y → y ≢ r .top)
-  line-differs x y hx d =
-      by-eq y (r .top)
-      (λ e. by-lt x (r .left)
-      (λ b. (elsewhere (inr (inl b)), λ i. absurd (omega arith)))
-      (λ b. by-lt x (r .right)
-      (λ u. absurd (d (rw e (sym (line-same x b u)))))
-      (λ u. (elsewhere (inr (inr (omega arith))), λ i. absurd (omega arith)))))
-      (λ n. (elsewhere (inl n), λ i. n))
-    where
-      elsewhere : (y ≢ r .top) ⊎ ((x < r .left) ⊎ (r .left + (r .right - r .left) ≤ x)) → Differs g s p x y
-      elsewhere o e = d (e ∙ sym (line-other x y hx o))
-
-covered-line : (g : Geometry) (s p : List ℕ) (q : Pending) → length p ≡ screenBytes g → Proper (width g) 0 (height g) (q .hand) → Covered g s p q
-    → Covered g s (copyLine (g .stride) (q .hand) s p) (lineSent q)
-unfolding lineSent
-covered-line g s p q l w c x y hx hy d =
-    let k = line-differs g (q .hand) w s p l x y hx d in
-    either (c x y hx hy (k .0)) (λ i. inl (next-in (q .hand) x y i (k .1 i))) inr
+-- a pixel that differs after the top line of r is sent differed before, and is not one of the line
+line-differs : (g : Geometry) (r : Rect) → Proper (width g) 0 (height g) r → (s p : List ℕ) → length p ≡ screenBytes g → (x y : ℕ) → x < width g
+    → Differs g s (copyLine (g .stride) r s p) x y → Differs g s p x y × (In r x y → y ≢ r .top)
+unfolding copyLine
+line-differs g r w s p l x y hx d =
+    by-eq y (r .top)
+    (λ e. by-lt x (r .left)
+    (λ b. (elsewhere (inr (inl b)), λ i. absurd (omega arith)))
+    (λ b. by-lt x (r .right)
+    (λ u. absurd (d (rw e (sym (copyRun-same (g .stride) s (r .top) (r .left) (r .right - r .left) p x (omega arith)
+    (λ j h. rw l (place-lt (g .stride) (height g) j (r .top) h (omega arith))) b (omega arith))))))
+    (λ u. (elsewhere (inr (inr (omega arith))), λ i. absurd (omega arith)))))
+    (λ n. (elsewhere (inl n), λ i. n))
+  where
+    elsewhere : (y ≢ r .top) ⊎ ((x < r .left) ⊎ (r .left + (r .right - r .left) ≤ x)) → Differs g s p x y
+    elsewhere o e = d (e ∙ sym (copyRun-other (g .stride) s (r .top) (r .left) (r .right - r .left) p x y (omega arith) hx o))
 
 covered-send : (g : Geometry) (s p : List ℕ) (q : Pending) → length p ≡ screenBytes g → WellPending g q → Covered g s p q
     → Covered g s (sendPanel (g .stride) q s p) (sendPending q)
-unfolding sendPanel sendPending
+unfolding sendPanel sendPending lineSent
 covered-send g s p q l f c =
-    by-test (isEmpty (takeOwed q .hand))
-    (λ e. rw e c)
-    (λ e. rw e (covered-line g s p (takeOwed q) l (to-send g q f e) (covered-take g s p q c)))
+    by-test (isEmpty (takeOwed q .hand)) (λ e. rw e c)
+    (λ e. rw e (λ x y hx hy d.
+    let r = takeOwed q .hand in
+    let k = line-differs g r (to-send g q f e) s p l x y hx d in
+    either (covered-take g s p q c x y hx hy (k .0)) (λ i. inl (next-in r x y i (k .1 i))) inr))
 
 pub length-send : (st : ℕ) (s p : List ℕ) (q : Pending) → length (sendPanel st q s p) ≡ length p
 unfolding sendPanel copyLine
 length-send st s p q =
-    let r : Rect = takeOwed q .hand in
-    if-cases (λ (l : List ℕ). length l ≡ length p) (isEmpty (takeOwed q .hand)) (λ e. refl)
-    (λ e. length-copyRun st s (r .top) (r .left) (r .right - r .left) p)
+    if-cases (λ (l : List ℕ). length l ≡ length p) (isEmpty (takeOwed q .hand)) (λ e. refl) (λ e. length-copyRun st s _ _ _ p)
 
 -- ---- every effect
 
-held-nothing : (g : Geometry) (s t : PanelState) → Held g s → Follows g s nothing t → Held g t
-unfolding affected
-held-nothing g s t h f =
-    record {
-      long = ap length (f .panel) ∙ h .long;
-      well = rw (f .pending) (h .well);
-      low = rw (f .pending) (h .low);
-      covered = rw (f .panel, f .pending) (covered-same g (s .screen) (t .screen) (s .panel) (s .pending) (f .screen) (h .covered));
-    }
-
-held-marks : (g : Geometry) (m : Rect) (s t : PanelState) → Held g s → Follows g s (marks m) t → Held g t
-unfolding affected owing
-held-marks g m s t h f =
-    record {
-      long = ap length (f .panel) ∙ h .long;
-      well = rw (f .pending) (well-owing g m (s .pending) (h .well));
-      low = rw (f .pending) (h .low);
-      covered = rw (f .panel, f .pending) (covered-owing g m (s .screen) (t .screen) (s .panel) (s .pending) (h .well) (f .screen) (h .covered));
-    }
-
--- an opening needs nothing of what stood before but the panel's length
+-- an opening owes every pixel: it needs nothing of what stood before but the panel's length
 pub held-open : (g : Geometry) (t : PanelState) → length (t .panel) ≡ screenBytes g → t .pending ≡ openPending g → Held g t
 unfolding openPending owing nothingPending
 held-open g t l e =
-    record {
-      long = l;
-      well = rw e (well-open g);
-      low = rw e (omega arith);
-      covered = rw e (covered-open g (t .screen) (t .panel));
-    }
+    let all = whole (g .stride) (height g) in
+    let c : Covered g (t .screen) (t .panel) (openPending g) = λ x y hx hy d.
+    inr (joinOwed-marks (width g) (g .band) 0 all (replicate (g .bands) none) x y hx (omega arith) (rw (length-replicate (g .bands) none) (omega arith)) (omega arith)) in
+    record { long = l; well = rw e (well-open g); low = rw e (omega arith); covered = rw e c }
 
-held-sends : (g : Geometry) (s t : PanelState) → Held g s → Follows g s sends t → Held g t
-unfolding affected
-held-sends g s t h f =
-    record {
-      long = ap length (f .panel) ∙ length-send (g .stride) (s .screen) (s .panel) (s .pending) ∙ h .long;
-      well = rw (f .pending) (well-send g (s .pending) (h .well));
-      low = rw (f .pending) (low-send g (s .pending) (h .well) (h .low));
-      covered =
-          rw (f .panel, f .pending)
-          (covered-same g (s .screen) (t .screen) (sendPanel (g .stride) (s .pending) (s .screen) (s .panel)) (sendPending (s .pending)) (f .screen)
-          (covered-send g (s .screen) (s .panel) (s .pending) (h .long) (h .well) (h .covered)));
-    }
+-- the panel and what is pending are those that the effect makes
+held-by : (g : Geometry) (s : PanelState) (e : Effect) (t : PanelState) → Follows g s e t → length (panelAfter g s e) ≡ screenBytes g → WellPending g (affected g (s .pending) e)
+    → linesOf (affected g (s .pending) e .hand) ≤ g .band - 1 → Covered g (t .screen) (panelAfter g s e) (affected g (s .pending) e) → Held g t
+held-by g s e t f l w n c = record { long = rw (f .panel) l; well = rw (f .pending) w; low = rw (f .pending) n; covered = rw (f .panel, f .pending) c }
 
 pub held-after : (g : Geometry) (s : PanelState) (e : Effect) (t : PanelState) → Held g s → Follows g s e t → Held g t
-unfolding affected
-held-after g s nothing t h f = held-nothing g s t h f
-held-after g s (marks m) t h f = held-marks g m s t h f
+unfolding affected owing
+held-after g s nothing t h f =
+    held-by g s nothing t f (h .long) (h .well) (h .low) (λ x y hx hy d. h .covered x y hx hy (λ e. d (f .screen x y hx hy (not-in-none x y) ∙ e)))
+held-after g s (marks m) t h f =
+    let q = s .pending in
+    held-by g s (marks m) t f (h .long) (well-owing g m q (h .well)) (h .low) (λ x y hx hy d.
+    either (decIn m x y)
+    (λ i. inr (joinOwed-marks (width g) (g .band) 0 m (q .owed) x y hx (omega arith) (rw (h .well .bands) (omega arith)) i))
+    (λ n. either (h .covered x y hx hy (λ e. d (f .screen x y hx hy n ∙ e))) inl (λ i. inr (joinOwed-keeps (width g) (g .band) 0 m (q .owed) x y i))))
 held-after g s opens t h f = held-open g t (ap length (f .panel) ∙ h .long) (f .pending)
-held-after g s sends t h f = held-sends g s t h f
+held-after g s sends t h f =
+    let q = s .pending in
+    held-by g s sends t f (length-send (g .stride) (s .screen) (s .panel) q ∙ h .long) (well-send g q (h .well)) (low-send g q (h .well) (h .low)) (λ x y hx hy d.
+    covered-send g (s .screen) (s .panel) q (h .long) (h .well) (h .covered) x y hx hy (λ e. d (f .screen x y hx hy (not-in-none x y) ∙ e)))
 
 -- ---- no line left: no pixel differs
 

@@ -1,32 +1,35 @@
--- Open and reset: memory is cleared, and the whole screen is owed to each panel.
+-- Open and reset: memory is cleared, and the whole screen is owed to each panel. Send: the pending part of panel k and the panel change as the effect says.
 use mathlib.Core.Path.{_≡_, refl, _∙_}
 use mathlib.Core.Bool.{true}
-use mathlib.Core.List.{List, map}
+use mathlib.Core.List.{List}
 use Prim.Native.Nat.{ℕ, _<_}
 use native.Mathlib.Omega.{arith}
 use lib.Dec.{leb}
 use lib.ListN.{length, set, length-set, length-replicate, getD-replicate}
+use lib.Seq.{getD-set-same}
 use borrow.Author.Tests.{lt-ltb, le-leb}
-use Rattle.model.specs.Geometry.{Geometry, height, rows, columns, cells, screenBytes, memoryBytes}
+use Rattle.model.specs.Geometry.{Geometry, height, screenBytes, columns, rows, cells, memoryBytes}
 use Rattle.model.specs.Glass.{IsGlass}
 use Rattle.model.specs.Memory.{zeros}
-use Rattle.model.specs.Rects.{isEmpty, fits}
+use Rattle.model.specs.Rects.{none, isEmpty, fits, join}
 use Rattle.model.specs.Bytes.{Words}
-use Rattle.model.specs.Record.{WellFormed, encode, nothingPending, windows, headTests, headFits, withPanels}
-use Rattle.model.specs.Marks.{whole, owing}
+use Rattle.model.specs.Record.{nothingPending, panelOf, windows, headTests, headFits, encode, withHead, withPanel, withFlags, WellFormed}
+use Rattle.model.specs.Marks.{whole, updateDirty, marked}
 use Rattle.model.specs.Open.{clearMemory, clearHead, clearFlags, openPending, openState, resetState}
-use Rattle.model.specs.Calls.{Lent, lent}
-use Rattle.model.specs.Lists.{marks, opens, affected}
-use Rattle.laws.specs.Tests.{true-all}
+use Rattle.model.specs.Sends.{sendPending, sendPanel}
+use Rattle.model.specs.Calls.{opening, Lent, lent, answered, done}
+use Rattle.model.specs.Lists.{accepted, Typed, marks, opens, sends, affected}
+use Rattle.laws.specs.Tests.{all-true, true-all}
+use Rattle.laws.specs.Calls.{accepted-call}
+use Rattle.laws.specs.Rects.{none-fits}
 use Rattle.laws.specs.Marks.{whole-agrees}
 use Rattle.laws.specs.Loops.{length-zeros}
 use Rattle.laws.specs.Keys.{length-withKeys}
 use Rattle.laws.specs.Record.{head-tells}
 use Rattle.laws.specs.Flags.{length-no-flags}
-use Rattle.laws.specs.Updates.{flags-formed}
-use Rattle.laws.specs.Pendings.{well-open}
-use Rattle.order.specs.Formed.{bases-fit, head-formed, owing-formed}
-use Rattle.order.specs.Step.{Lendable, Step, old, known, stored, marks-step}
+use Rattle.laws.specs.Pendings.{well-open, well-send}
+use Rattle.order.specs.Held.{length-send}
+use Rattle.order.specs.Step.{panel-formed, page-formed, Lendable, old, screenHeld, Step, known, stored, rewritten-step}
 
 pub length-clear-memory : (keys : List ℕ) → length (clearMemory keys) ≡ memoryBytes
 unfolding clearMemory
@@ -52,26 +55,37 @@ open-formed g z graphics text version keys a b n ws = record {
   flags = length-no-flags (cells g);
 }
 
--- over any record, and any memory
-pub open-step : (g : Geometry) (k : ℕ) → k < g .panels → IsGlass g → (graphics text version : ℕ) (keys : List ℕ) (l : Lent) → windows g graphics text ≡ true → leb version 1 ≡ true
-    → length keys ≡ 8 → Words keys → length (l .panel) ≡ screenBytes g → Step g k l opens (lent (encode g (openState g graphics text version keys)) (clearMemory keys) (l .panel))
-unfolding openState affected
-open-step g k there z graphics text version keys l a b n ws p =
-    stored g k z l opens (openState g graphics text version keys) (clearMemory keys) (l .panel) (open-formed g z graphics text version keys a b n ws) (length-clear-memory keys) p
-    (record { pending = getD-replicate (g .panels) k (openPending g) (nothingPending g) there; panel = refl; screen = whole-agrees (g .stride) (height g) _ _ })
+-- an opening needs nothing of what stood before it but the panel's length
+pub opening-step : (g : Geometry) → IsGlass g → (graphics text version : ℕ) (keys : List ℕ) (l : Lent) → Typed (opening graphics text version keys)
+    → accepted g (opening graphics text version keys) l → length (l .panel) ≡ screenBytes g → Step g 0 l opens (done g (opening graphics text version keys) l .left)
+unfolding openState affected done answered
+opening-step g z graphics text version keys l t a p =
+    let b = accepted-call g (opening graphics text version keys) l (omega arith) a .1 in
+    stored g 0 z l opens (openState g graphics text version keys) (clearMemory keys) (l .panel)
+    (open-formed g z graphics text version keys (b .0) (b .1 .0) (t .0) (t .1)) (length-clear-memory keys) p
+    (record { pending = getD-replicate (g .panels) 0 (openPending g) (nothingPending g) (z .one); panel = refl; screen = whole-agrees (g .stride) (height g) _ _ })
 
-pub reset-step : (g : Geometry) (k : ℕ) → k < g .panels → (l : Lent) → Lendable g l
-    → Step g k l (marks (whole (g .stride) (height g))) (lent (encode g (resetState g (old g l))) (clearMemory (old g l .keys)) (l .panel))
-unfolding resetState
-reset-step g k there l q =
-    let s = old g l in
-    let w = known g l q in
-    let h = s .head in
-    let m = whole (g .stride) (height g) in
-    let owed = withPanels (map (owing g m) (s .panels)) s in
-    marks-step g k there l q m (resetState g s) (clearMemory (s .keys))
-    (flags-formed g (clearFlags g) _
-    (head-formed g owed (owing-formed g s w m) (clearHead (h .graphics) (h .text) (h .version))
-    (clear-fits g (q .passing .glass) (h .graphics) (h .text) (h .version) (bases-fit g h (w .head)) (le-leb (h .version) 1 (head-tells g h (w .head) .version))))
-    (length-no-flags (cells g)))
-    (length-clear-memory (s .keys)) refl refl (whole-agrees (g .stride) (height g) _ _)
+module _ (g : Geometry) (k : ℕ) (there : k < g .panels) (l : Lent) (q : Lendable g l) where
+  pub reset-step : Step g k l (marks (whole (g .stride) (height g))) (lent (encode g (resetState g (old g l))) (clearMemory (old g l .keys)) (l .panel))
+  unfolding headFits resetState marked updateDirty join isEmpty
+  reset-step =
+      let s = old g l in
+      let w = known g l q in
+      let h = s .head in
+      let n = clearHead (h .graphics) (h .text) (h .version) in
+      rewritten-step g k there l q none (whole (g .stride) (height g)) (withHead n (withFlags (clearFlags g) s)) (clearMemory (s .keys))
+      (page-formed g s w n (clearFlags g)
+      (clear-fits g (q .passing .glass) (h .graphics) (h .text) (h .version) (all-true (headTests g h) (w .head) .0) (le-leb (h .version) 1 (head-tells g h (w .head) .version)))
+      (length-no-flags (cells g)))
+      (length-clear-memory (s .keys)) refl refl (none-fits 256 0 256) (whole-agrees (g .stride) (height g) _ _)
+
+  pub send-step : let p = panelOf g (old g l) k in
+      Step g k l sends (lent (encode g (withPanel k (sendPending p) (old g l))) (l .memory) (sendPanel (g .stride) p (screenHeld g l) (l .panel)))
+  unfolding affected
+  send-step =
+      let s = old g l in
+      let w = known g l q in
+      let p = panelOf g s k in
+      stored g k (q .passing .glass) l sends (withPanel k (sendPending p) s) (l .memory) (sendPanel (g .stride) p (screenHeld g l) (l .panel))
+      (panel-formed g s w k (sendPending p) there (well-send g p (w .panels k there))) (q .memory) (length-send (g .stride) (screenHeld g l) (l .panel) p ∙ q .panel)
+      (record { pending = getD-set-same (s .panels) k (sendPending p) (nothingPending g) (omega (arith, w .count)); panel = refl; screen = λ x y hx hy n. refl })

@@ -29,51 +29,36 @@ unfoldable pub answeredBack : Lending → Lent → Outcome → Outcome
 answeredBack p l o = answered (o .code) (o .numbers) (givenBack p l (o .left))
 
 module _ (g : Geometry) where
-  blinked-parts : (l : Lent) → blinked g l ≡ lent (blinked g (lent (l .rec) (l .memory) []) .rec) (blinked g (lent (l .rec) (l .memory) []) .memory) (l .panel)
-  unfolding blinked drawingWith
-  blinked-parts l = by-test (eqb (decode g (l .rec) .head .screen) 0) (λ e. rw e) (λ e. rw e)
-
-  cursorCleared-parts : (l : Lent) → cursorCleared g l ≡ lent (cursorCleared g (lent (l .rec) (l .memory) []) .rec) (cursorCleared g (lent (l .rec) (l .memory) []) .memory) (l .panel)
-  unfolding cursorCleared changed
-  cursorCleared-parts l =
-      by-test (eqb (decode g (l .rec) .head .cursor) 0) (λ e. rw e)
-      (λ e. by-test (eqb (decode g (l .rec) .head .screen) 0) (λ f. rw (e, f) (blinked-parts l)) (λ f. rw (e, f)))
-
-  -- a call tests and uses nothing that it is not lent, and leaves it
+  -- a call tests and uses nothing that it is not lent, and leaves it; lent and given back unchanged, all is as it was
   each : (c : Call) (l : Lent) → (refusals g c l ≡ refusals g c (lentTo (takes c) l)) × (done g c l ≡ answeredBack (takes c) l (done g c (lentTo (takes c) l)))
-  unfolding lentTo givenBack answeredBack answered refusals done drawingWith changed cleared withPage
-  each (opening graphics text version keys) l = (refl, refl)
-  each reset l = (refl, refl)
-  each (drawPoint x y mode) l = (refl, refl)
-  each (drawLine x1 y1 x2 y2 mode) l = (refl, refl)
-  each (drawBox x1 y1 x2 y2 fill mode) l = (refl, refl)
-  each (drawCircle x y r fill mode) l = (refl, refl)
-  each (drawEllipse x y rx ry fill mode) l = (refl, refl)
-  each (checkPoint x y) l = (refl, refl)
-  each (paintBitmap a x y w n mode) l = (refl, refl)
-  each (print bs) l = (refl, refl)
-  each newline l = (refl, refl)
-  each cls l = (refl, refl)
-  each (writeByte a v) l = (refl, refl)
-  each (flush f) l = (refl, refl)
-  each getRow l = (refl, refl)
-  each getColumn l = (refl, refl)
-  each (setRow n) l = (refl, refl)
-  each (setColumn n) l = (refl, refl)
-  each (setScreenMode n) l = (refl, refl)
-  each (setPrintMode n) l = (refl, refl)
-  each blinkCursor l = (refl, ap (answered 0 []) (blinked-parts l))
-  each clearCursor l = (refl, ap (answered 0 []) (cursorCleared-parts l))
-  each takeDirtyArea l = (refl, refl)
-  each send l = (refl, refl)
-
-  given-same : (p : Lending) (l : Lent) → givenBack p l (lentTo p l) ≡ l
-  unfolding lentTo givenBack
-  given-same to-open l = refl
-  given-same record-only l = refl
-  given-same with-memory l = refl
-  given-same (with-fonts f) l = refl
-  given-same with-panel l = refl
+      × (givenBack (takes c) l (lentTo (takes c) l) ≡ l)
+  unfolding lentTo givenBack answeredBack answered refusals done drawingWith changed cleared withPage blinked cursorCleared
+  each (opening graphics text version keys) l = (refl, refl, refl)
+  each reset l = (refl, refl, refl)
+  each (drawPoint x y mode) l = (refl, refl, refl)
+  each (drawLine x1 y1 x2 y2 mode) l = (refl, refl, refl)
+  each (drawBox x1 y1 x2 y2 fill mode) l = (refl, refl, refl)
+  each (drawCircle x y r fill mode) l = (refl, refl, refl)
+  each (drawEllipse x y rx ry fill mode) l = (refl, refl, refl)
+  each (checkPoint x y) l = (refl, refl, refl)
+  each (paintBitmap a x y w n mode) l = (refl, refl, refl)
+  each (print bs) l = (refl, refl, refl)
+  each newline l = (refl, refl, refl)
+  each cls l = (refl, refl, refl)
+  each (writeByte a v) l = (refl, refl, refl)
+  each (flush f) l = (refl, refl, refl)
+  each getRow l = (refl, refl, refl)
+  each getColumn l = (refl, refl, refl)
+  each (setRow n) l = (refl, refl, refl)
+  each (setColumn n) l = (refl, refl, refl)
+  each (setScreenMode n) l = (refl, refl, refl)
+  each (setPrintMode n) l = (refl, refl, refl)
+  each blinkCursor l = (refl, by-test (eqb (decode g (l .rec) .head .screen) 0) (λ e. rw e) (λ e. rw e), refl)
+  each clearCursor l =
+      let h = decode g (l .rec) .head in
+      (refl, by-test (eqb (h .cursor) 0) (λ e. rw e) (λ e. by-test (eqb (h .screen) 0) (λ f. rw (e, f)) (λ f. rw (e, f))), refl)
+  each takeDirtyArea l = (refl, refl, refl)
+  each send l = (refl, refl, refl)
 
   pub outcome-parts : (c : Call) (l : Lent) → outcome g c l ≡ answeredBack (takes c) l (outcome g c (lentTo (takes c) l))
   unfolding outcome ruled refused answeredBack answered
@@ -81,4 +66,4 @@ module _ (g : Geometry) where
     where
       go : (n : ℕ) → ruled n (refused c l) (done g c l) ≡ answeredBack (takes c) l (ruled n (refused c (lentTo (takes c) l)) (done g c (lentTo (takes c) l)))
       go zero = each c l .1
-      go (suc n) = ap (answered (suc n) (nought (numbers c))) (sym (given-same (takes c) l))
+      go (suc n) = ap (answered (suc n) (nought (numbers c))) (sym (each c l .2))

@@ -1,7 +1,7 @@
 -- Calls in any order: what is promised of the record, memory and panel bytes after an accepted open and every list of calls.
 -- Call, takes and outcome stand in crates/model/specs/Calls.antt; Item, run, reckoned, linesLeft, InAny, Differs and differing in Lists.antt there; acceptedCalls and
 -- leftBy in Accepted.antt here; lentTo and answeredBack in Parts.antt. docs/THEOREM.md says it in words.
-use mathlib.Core.Path.{_≡_, refl, _∙_}
+use mathlib.Core.Path.{_≡_}
 use mathlib.Core.Logic.{_⊎_, _↔_}
 use mathlib.Core.Bool.{true}
 use mathlib.Core.List.{List, [], _∷_}
@@ -17,7 +17,7 @@ use Rattle.model.specs.Lists.{accepted, Typed, Item, here, run, reckoned, lines
 use Rattle.laws.specs.Glasses.{base-glass}
 use Rattle.order.specs.Accepted.{acceptedCalls, leftBy, left-run}
 use Rattle.order.specs.Parts.{lentTo, answeredBack, outcome-parts}
-use Rattle.order.specs.Order.{Standing, standing-run, standing-open, pending-open, sendable, send-code, bound, idle-lines, none-more, lines-more, level, row-of-sends}
+use Rattle.order.specs.Order.{standing-opened, sendable, bound, idle, lines-more, level, row-of-sends}
 
 -- owed, in hand and lines sent as the record has them; L; the screen
 abbrev pub pendingIn : Lent → Pending
@@ -58,38 +58,32 @@ pub record Promised (start : Lent) (items : List (Item base)) (l : Lent) : Type 
   -- L sends in a row are such a list
   pub level-row : let l′ = run base l (replicate (linesIn l) (here send tt)) in differing base (screenIn l′) (l′ .panel) ≡ 0
 
-promised : (start : Lent) (items : List (Item base)) (l : Lent) → l ≡ run base start items → pendingIn l ≡ reckoned base (nothingPending base) start items
-    → Standing base l → Promised start items l
+-- the theorem: an accepted open, lent any record r, any memory m and a panel p of any bytes, and then every list of items
+pub calls-in-any-order : (graphics text version : ℕ) (keys : List ℕ) (t : Typed (opening graphics text version keys)) (r m p : List ℕ)
+    → accepted base (opening graphics text version keys) (lent r m p) → length p ≡ 1600 → (items : List (Item base))
+    → let list = here (opening graphics text version keys) t ∷ items in Promised (lent r m p) list (run base (lent r m p) list)
 unfolding total
-promised start items l e p s =
+calls-in-any-order graphics text version keys t r m p a n items =
+    let list = here (opening graphics text version keys) t ∷ items in
+    let l = run base (lent r m p) list in
+    let s = standing-opened base base-glass graphics text version keys t (lent r m p) a n items in
     record {
       record-length = s .lendable .passing .sized;
       memory-length = s .lendable .memory;
       panel-length = s .lendable .panel;
       passes = s .lendable .passing .passes;
       sendable = sendable base l s;
-      pending = p;
-      left-by = e ∙ left-run base start items;
+      pending = s .pending;
+      left-by = left-run base (lent r m p) list;
       bound = omega (arith, bound base l s);
       places = s .held .covered;
-      idle = λ more n.
-          let i = idle-lines base l s in
-          rw (none-more base l more n) (send-code base l s, (λ e. omega (arith, i .0 e), λ z. i .1 (omega arith)));
+      idle = λ more e.
+          let i = idle base l s more e in
+          (i .0, (λ z. omega (arith, i .1 .0 z), λ z. i .1 .1 (omega arith)));
       lines = lines-more base l s;
-      level = λ more n e h. level base l s more n e (omega arith);
+      level = λ more k e h. level base l s more k e (omega arith);
       level-row = level base l s (replicate (linesIn l) (here send tt)) (linesIn l) (row-of-sends base l s (linesIn l)) (omega arith);
     }
-
--- the theorem: an accepted open, lent any record r, any memory m and a panel p of any bytes, and then every list of items
-pub calls-in-any-order : (graphics text version : ℕ) (keys : List ℕ) (t : Typed (opening graphics text version keys)) (r m p : List ℕ)
-    → accepted base (opening graphics text version keys) (lent r m p) → length p ≡ 1600 → (items : List (Item base))
-    → let list = here (opening graphics text version keys) t ∷ items in Promised (lent r m p) list (run base (lent r m p) list)
-unfolding run
-calls-in-any-order graphics text version keys t r m p a n items =
-    let list = here (opening graphics text version keys) t ∷ items in
-    promised (lent r m p) list (run base (lent r m p) list) refl
-    (pending-open base base-glass graphics text version keys t (lent r m p) a n items)
-    (standing-run base _ items (standing-open base base-glass graphics text version keys t (lent r m p) a n))
 
 -- A list gives each call all three buffers. A call that is lent only those that it takes answers the same and leaves the same in them, and the others stay.
 pub lent-parts : (c : Call) (l : Lent) → outcome base c l ≡ answeredBack (takes c) l (outcome base c (lentTo (takes c) l))

@@ -1,11 +1,8 @@
--- Picture is what a picture says, Pictures the theorem. Writes finds the pixels that a list of writes changes, Drawings takes a drawing to its picture, Start
--- shows that there are bytes to start from; Shapes and Bitmaps are the pictures, Differing counts differing pixels, Scripts runs the two scripts.
+-- Picture is what a picture says, Pictures the theorem. Writes finds the pixels that a list of writes changes, Drawings shows that there are bytes to start from
+-- and takes a drawing to its picture; Shapes are the pictures, Scripts runs the two scripts.
 pub mod Picture
 pub mod Writes
 pub mod Drawings
-pub mod Start
 pub mod Shapes
-pub mod Bitmaps
-pub mod Differing
 pub mod Scripts
 pub mod Pictures

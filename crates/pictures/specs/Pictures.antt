@@ -16,9 +16,8 @@ use Rattle.model.specs.Calls.{drawPoint, drawLine, drawBox, drawCircle, paintBi
 use Rattle.model.specs.Characters.{bytesOf}
 use Rattle.model.specs.Script.Output.{scriptText}
 use Rattle.pictures.specs.Picture.{rect, sets, clears, inverts, screenIn, Unmarked, Drew, Picture}
-use Rattle.pictures.specs.Start.{clearBytes, clear-unmarked}
-use Rattle.pictures.specs.Shapes.{point-off, point-unknown, line-clamped, line-sloped, box-past-bottom, box-row, circle-parts, circle-steps, circle-two, circle-one}
-use Rattle.pictures.specs.Bitmaps.{bitmap-clipped, source-refused, source-accepted}
+use Rattle.pictures.specs.Drawings.{clearBytes, clear-unmarked}
+use Rattle.pictures.specs.Shapes.{point-off, point-unknown, line-clamped, line-sloped, box-past-bottom, box-row, circle-parts, circle-steps, circle-two, circle-one, bitmap-clipped, source-refused, source-accepted}
 use Rattle.pictures.specs.Scripts.{point-send, send-point}
 
 -- draw modes, the paint mode Copy, the fill flag, emoji versions

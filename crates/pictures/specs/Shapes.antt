@@ -1,38 +1,39 @@
--- The pictures of points, lines, boxes and circles: each computes from its drawing.
-use mathlib.Core.Path.{_≡_, refl, sym, ap, _∙_}
+-- The pictures of points, lines, boxes, circles and bitmaps: each computes from its drawing.
+use mathlib.Core.Path.{_≡_, refl, ap, _∙_}
 use mathlib.Core.Logic.{_≢_, inr}
 use mathlib.Core.Bool.{true, false}
-use mathlib.Core.List.{List, [], _∷_, _++_}
+use mathlib.Core.List.{List, [], _∷_}
 use Prim.Native.Nat.{ℕ, _+_, _≤_, _<_}
 use native.Mathlib.Omega.{arith}
-use lib.ListN.{length, take, drop, take-append-drop, length-drop}
-use lib.Seq.{drop-drop, length-take-le}
+use lib.IntN.{ℤ, pos, negsuc}
+use lib.ListN.{length, getD, take, drop, take-append-drop, length-drop}
+use lib.Seq.{drop-cons, drop-drop, length-take-le}
 use borrow.Author.Tests.{le-leb}
 use Rattle.model.specs.Geometry.{base}
-use Rattle.model.specs.Pixels.{PixelWrite, bit, onScreen, draw, seen}
+use Rattle.model.specs.Bits.{bitAt}
+use Rattle.model.specs.Pixels.{bit, onScreen, draw, seen}
 use Rattle.model.specs.Rects.{inside, cut, lowered}
 use Rattle.model.specs.Memory.{window, withWindow}
+use Rattle.model.specs.Refusals.{SOURCE, refusal, ruled}
 use Rattle.model.specs.Marks.{within, owes, drawnOn}
+use Rattle.model.specs.Bitmaps.{paintMode, paintOp, sourceFits, visible, visibleRect, paintedLine, paintedLines, bitmap}
 use Rattle.model.specs.Points.{drawMode, pointOp, pointRect, point}
 use Rattle.model.specs.Lines.{isUnknown, runOp, pixelRun, horizontal, horizontalLine, stepped, nextError, slope, sloped, slopedLine, line}
 use Rattle.model.specs.Boxes.{boxRows, filledBox, boxOf, box}
 use Rattle.model.specs.Ellipses.{start, moves, advanced, turns, turned, xStep, yStep, part, xParts, yParts, step, stepParts, ended, partsFrom, stepsFrom, parts, steps, corners, partWrites, partsWrites, wraps, ellipseMark, ellipseDrawn, isPoint, isNothing, ellipse, circle, radiiFit, stepsFit}
-use Rattle.model.specs.Calls.{drawPoint, drawLine, drawBox, drawCircle, Lent, lent, answered, drawingWith, drawing, done, outcome}
+use Rattle.model.specs.Calls.{drawPoint, drawLine, drawBox, drawCircle, paintBitmap, Lent, lent, Outcome, answered, refusals, drawingWith, drawing, done, refused, outcome}
+use Rattle.laws.specs.Calls.{own-decide}
 use Rattle.laws.specs.Updates.{unmarked}
-use Rattle.pictures.specs.Picture.{rect, sets, inverts, Unmarked, Picture, screenIn, graphicsIn}
-use Rattle.pictures.specs.Writes.{hits, made, same, alike, allOn, eachMade, names, othersKept, pictured}
-use Rattle.pictures.specs.Drawings.{passing, screen-fits, done-on, drew}
+use Rattle.pictures.specs.Picture.{rect, sets, clears, inverts, graphicsIn, screenIn, Unmarked, Drew, Picture}
+use Rattle.pictures.specs.Writes.{hits, made, alike, names, allOf, pictured}
+use Rattle.pictures.specs.Drawings.{passing, screen-fits, entered, done-on, drew}
 
 -- ---- points
 
 -- a window put back
 window-back : (b n : ℕ) (m : List ℕ) → b + n ≤ length m → withWindow b (window b n m) m ≡ m
 unfolding window withWindow
-window-back b n m h =
-    ap (λ (k : ℕ). take b m ++ (take n (drop b m) ++ drop (b + k) m)) (length-take-le n (drop b m) (simp length-drop (omega arith)))
-    ∙ ap (λ (x : List ℕ). take b m ++ (take n (drop b m) ++ x)) (sym (drop-drop n b m))
-    ∙ ap (λ (x : List ℕ). take b m ++ x) (take-append-drop n (drop b m))
-    ∙ take-append-drop b m
+window-back b n m h = cc (length-take-le n (drop b m) (simp length-drop (omega arith)), drop-drop n b m, take-append-drop n (drop b m), take-append-drop b m)
 
 pub point-off : (mode : ℕ) → mode ≤ 3 → (l : Lent) → Unmarked l → outcome base (drawPoint 160 0 mode) l ≡ answered 0 [] l
 unfolding done drawingWith drawnOn point pointRect onScreen seen draw owes within answered
@@ -41,30 +42,24 @@ point-off mode h l u =
     ∙ (λ i. answered 0 [] (lent (unmarked base (l .rec) (passing l u) i) (window-back (graphicsIn l) 1600 (l .memory) (screen-fits l u) i) (l .panel)))
 
 pub point-unknown : Picture (drawPoint 5 5 3) [] (rect 5 5 6 6) (rect 5 5 6 6)
-unfolding done point pointRect pointOp onScreen seen owes within inside cut pictured hits made same alike allOn eachMade names othersKept
-point-unknown l u =
-    drew l u (drawPoint 5 5 3) (point 20 80 5 5 (drawMode 3)) _ _ _ refl (refl, tt) refl (inr (omega arith)) refl refl refl
+unfolding done point pointRect pointOp onScreen seen owes within inside cut pictured hits made alike allOf names
+point-unknown l u = drew l u (drawPoint 5 5 3) (point 20 80 5 5 (drawMode 3)) _ _ _ refl (refl, tt) refl (inr (omega arith)) refl refl refl
 
 pub line-clamped : Picture (drawLine 200 90 210 90 1) (sets 159 79 ∷ []) (rect 200 90 211 91) (rect 159 79 160 80)
-unfolding done line horizontalLine horizontal pixelRun runOp lowered onScreen seen owes within inside cut pictured hits made same alike allOn eachMade names othersKept
-line-clamped l u =
-    drew l u (drawLine 200 90 210 90 1) (line 20 80 200 90 210 90 (drawMode 1)) _ _ _ refl (refl, tt) refl (inr (omega arith)) refl refl refl
+unfolding done line horizontalLine horizontal pixelRun runOp lowered onScreen seen owes within inside cut pictured hits made alike allOf names
+line-clamped l u = drew l u (drawLine 200 90 210 90 1) (line 20 80 200 90 210 90 (drawMode 1)) _ _ _ refl (refl, tt) refl (inr (omega arith)) refl refl refl
 
 pub line-sloped : Picture (drawLine 0 0 2 1 1) (sets 0 0 ∷ sets 1 0 ∷ sets 2 1 ∷ []) (rect 0 0 3 2) (rect 0 0 3 2)
-unfolding done line isUnknown slopedLine sloped slope stepped nextError pointOp onScreen seen owes within inside cut pictured hits made same alike allOn eachMade names othersKept
-line-sloped l u =
-    drew l u (drawLine 0 0 2 1 1) (line 20 80 0 0 2 1 (drawMode 1)) _ _ _ refl (refl, tt) refl (inr (omega arith)) refl refl refl
+unfolding done line isUnknown slopedLine sloped slope stepped nextError pointOp onScreen seen owes within inside cut pictured hits made alike allOf names
+line-sloped l u = drew l u (drawLine 0 0 2 1 1) (line 20 80 0 0 2 1 (drawMode 1)) _ _ _ refl (refl, tt) refl (inr (omega arith)) refl refl refl
 
 -- ---- boxes
 
--- the first eight pixels of row 78
-abbrev pub row78 : List PixelWrite
-row78 = inverts 0 78 ∷ inverts 1 78 ∷ inverts 2 78 ∷ inverts 3 78 ∷ inverts 4 78 ∷ inverts 5 78 ∷ inverts 6 78 ∷ inverts 7 78 ∷ []
-
-pub box-past-bottom : Picture (drawBox 0 78 7 80 1 2) row78 (rect 0 78 8 81) (rect 0 78 8 80)
-unfolding done box boxOf filledBox boxRows horizontal pixelRun runOp lowered onScreen seen owes within inside cut pictured hits made same alike allOn eachMade names othersKept
-box-past-bottom l u =
-    drew l u (drawBox 0 78 7 80 1 2) (box 20 80 0 78 7 80 true (drawMode 2)) _ _ _ refl (refl, tt) refl (inr (omega arith)) refl refl refl
+pub box-past-bottom : Picture (drawBox 0 78 7 80 1 2)
+    (inverts 0 78 ∷ inverts 1 78 ∷ inverts 2 78 ∷ inverts 3 78 ∷ inverts 4 78 ∷ inverts 5 78 ∷ inverts 6 78 ∷ inverts 7 78 ∷ [])
+    (rect 0 78 8 81) (rect 0 78 8 80)
+unfolding done box boxOf filledBox boxRows horizontal pixelRun runOp lowered onScreen seen owes within inside cut pictured hits made alike allOf names
+box-past-bottom l u = drew l u (drawBox 0 78 7 80 1 2) (box 20 80 0 78 7 80 true (drawMode 2)) _ _ _ refl (refl, tt) refl (inr (omega arith)) refl refl refl
 
 -- each of its rows beyond 79 lands there, and inverts what the row before it did
 pub box-row : (l : Lent) → Unmarked l → (x : ℕ) → x < 160 → bit 20 (screenIn (outcome base (drawBox 0 78 7 80 1 2) l .left)) x 79 ≡ bit 20 (screenIn l) x 79
@@ -83,18 +78,38 @@ unfolding steps stepsFrom start step xStep yStep advanced moves turns turned end
 circle-steps = refl
 
 -- its parts' corners
-abbrev pub circle2 : List PixelWrite
-circle2 =
-    sets 8 10 ∷ sets 12 10 ∷ sets 8 9 ∷ sets 12 9 ∷ sets 8 11 ∷ sets 12 11 ∷ sets 8 8 ∷ sets 12 8 ∷ sets 8 12 ∷ sets 12 12 ∷ sets 10 8 ∷ sets 10 12 ∷ []
-
-pub circle-two : Picture (drawCircle 10 10 2 0 1) circle2 (rect 8 8 160 80) (rect 8 8 160 80)
-unfolding done radiiFit stepsFit isPoint isNothing isUnknown ellipse ellipseDrawn ellipseMark wraps partsWrites partWrites corners steps stepsFrom parts partsFrom start step stepParts xStep yStep xParts yParts advanced moves turns turned ended pointOp onScreen seen owes within inside cut pictured hits made same alike allOn eachMade names othersKept
-circle-two l u =
-    drew l u (drawCircle 10 10 2 0 1) (circle 20 80 10 10 2 false (drawMode 1)) _ _ _
-    refl (refl, (refl, (refl, tt))) refl (inr (omega arith)) refl refl refl
+pub circle-two : Picture (drawCircle 10 10 2 0 1)
+    (sets 8 10 ∷ sets 12 10 ∷ sets 8 9 ∷ sets 12 9 ∷ sets 8 11 ∷ sets 12 11 ∷ sets 8 8 ∷ sets 12 8 ∷ sets 8 12 ∷ sets 12 12 ∷ sets 10 8 ∷ sets 10 12 ∷ [])
+    (rect 8 8 160 80) (rect 8 8 160 80)
+unfolding done radiiFit stepsFit isPoint isNothing isUnknown ellipse ellipseDrawn ellipseMark wraps partsWrites partWrites corners steps stepsFrom parts partsFrom start step stepParts xStep yStep xParts yParts advanced moves turns turned ended pointOp onScreen seen owes within inside cut pictured hits made alike allOf names
+circle-two l u = drew l u (drawCircle 10 10 2 0 1) (circle 20 80 10 10 2 false (drawMode 1)) _ _ _ refl (refl, (refl, (refl, tt))) refl (inr (omega arith)) refl refl refl
 
 pub circle-one : Picture (drawCircle 10 10 1 0 1) (sets 9 10 ∷ sets 11 10 ∷ []) (rect 9 9 160 80) (rect 9 9 160 80)
-unfolding done radiiFit stepsFit isPoint isNothing isUnknown ellipse ellipseDrawn ellipseMark wraps partsWrites partWrites corners steps stepsFrom parts partsFrom start step stepParts xStep yStep xParts yParts advanced moves turns turned ended pointOp onScreen seen owes within inside cut pictured hits made same alike allOn eachMade names othersKept
-circle-one l u =
-    drew l u (drawCircle 10 10 1 0 1) (circle 20 80 10 10 1 false (drawMode 1)) _ _ _
-    refl (refl, (refl, (refl, tt))) refl (inr (omega arith)) refl refl refl
+unfolding done radiiFit stepsFit isPoint isNothing isUnknown ellipse ellipseDrawn ellipseMark wraps partsWrites partWrites corners steps stepsFrom parts partsFrom start step stepParts xStep yStep xParts yParts advanced moves turns turned ended pointOp onScreen seen owes within inside cut pictured hits made alike allOf names
+circle-one l u = drew l u (drawCircle 10 10 1 0 1) (circle 20 80 10 10 1 false (drawMode 1)) _ _ _ refl (refl, (refl, (refl, tt))) refl (inr (omega arith)) refl refl refl
+
+-- ---- bitmaps: one source byte clipped at the left edge, and the last address that SOURCE lets pass
+
+-- the pixels are the byte's last seven bits
+pub bitmap-clipped : (a : ℕ) → a < 65536 → (l : Lent) → Unmarked l → getD (l .memory) a 0 ≡ 0x81
+    → Drew l (clears 0 0 ∷ clears 1 0 ∷ clears 2 0 ∷ clears 3 0 ∷ clears 4 0 ∷ clears 5 0 ∷ sets 6 0 ∷ []) (rect 0 0 7 1) (rect 0 0 7 1)
+    (outcome base (paintBitmap a (negsuc 0) (pos 0) 8 1 0) l)
+unfolding done window sourceFits bitmap visible visibleRect paintedLines paintedLine paintOp bit bitAt onScreen seen owes within inside cut pictured hits made alike allOf names
+bitmap-clipped a h l u e =
+    let source : window a 1 (l .memory) ≡ 0x81 ∷ [] = ap (take 1) (drop-cons (l .memory) a 0 (omega (arith, u .memory))) ∙ ap (λ (b : ℕ). b ∷ []) e in
+    drew l u (paintBitmap a (negsuc 0) (pos 0) 8 1 0)
+    (bitmap 20 80 (0x81 ∷ []) (negsuc 0) (pos 0) 8 1 (paintMode 0)) _ _ _ refl (refl, (le-leb (a + 1) 65536 (omega arith), tt))
+    (ap (λ (s : List ℕ). answered 0 [] (drawing base (bitmap 20 80 s (negsuc 0) (pos 0) 8 1 (paintMode 0)) l)) source)
+    (inr (omega arith)) refl refl refl
+
+module _ (x y : ℤ) (mode : ℕ) (h : mode ≤ 4) (l : Lent) (u : Unmarked l) where
+  pub source-refused : outcome base (paintBitmap 65535 x y 9 1 mode) l ≡ answered SOURCE [] l
+  unfolding outcome ruled refused refusal sourceFits
+  source-refused =
+      let c = paintBitmap 65535 x y 9 1 mode in
+      let t : refusal (refusals base c l) ≡ SOURCE = own-decide base c l (entered l u c refl) ∙ rw (le-leb mode 4 h) in
+      ap (λ (n : ℕ). ruled n (refused c l) (done base c l)) t
+
+  pub source-accepted : outcome base (paintBitmap 65534 x y 9 1 mode) l .code ≡ 0
+  unfolding sourceFits done answered
+  source-accepted = ap (λ (o : Outcome). o .code) (done-on l u (paintBitmap 65534 x y 9 1 mode) refl (le-leb mode 4 h, (refl, tt)))
