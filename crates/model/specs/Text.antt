@@ -24,10 +24,10 @@ withTextState row column screen print cursor h = record {
   dirty = h .dirty;
 }
 
-unfoldable pub withRow : ℕ → Head → Head
+abbrev pub withRow : ℕ → Head → Head
 withRow n h = withTextState n (h .column) (h .screen) (h .print) (h .cursor) h
 
-unfoldable pub withColumn : ℕ → Head → Head
+abbrev pub withColumn : ℕ → Head → Head
 withColumn n h = withTextState (h .row) n (h .screen) (h .print) (h .cursor) h
 
 -- print modes: 0 Normal, 1 Inverse, 2 Flash. Setting Flash while Inverse gives Normal.
@@ -41,11 +41,11 @@ abbrev pub atPlace : ℕ → ℕ → Head → Head
 atPlace row column h = withColumn column (withRow row h)
 
 -- screen modes: 0 Text, 1 Graph
-unfoldable pub withScreenMode : ℕ → Head → Head
+abbrev pub withScreenMode : ℕ → Head → Head
 withScreenMode n h = withTextState (h .row) (h .column) n (h .print) (h .cursor) h
 
 -- the cursor: 0 none, 1 half, 2 full
-unfoldable pub withCursor : ℕ → Head → Head
+abbrev pub withCursor : ℕ → Head → Head
 withCursor n h = withTextState (h .row) (h .column) (h .screen) (h .print) n h
 
 -- ---- `cls`, with the screen mode n: it keeps print mode and cursor

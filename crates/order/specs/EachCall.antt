@@ -47,7 +47,7 @@ module _ (g : Geometry) (l : Lent) (q : Lendable g l) where
 
   -- panel 0 is the one where a send goes
   pub call-step : (c : Call) → Typed c → accepted g c l → Step g 0 l (effect g c l) (done g c l .left)
-  unfolding effect done answered point headFits fits isEmpty withRow withColumn printMode withPrintMode
+  unfolding effect done answered point headFits fits isEmpty printMode withPrintMode
   call-step (opening graphics text version keys) t a = opening-step g z graphics text version keys l t a (q .panel)
   call-step reset t a = reset-step g 0 (z .one) l q
   call-step (drawPoint x y mode) t a =

@@ -122,7 +122,7 @@ module _ (g : Geometry) (k : ℕ) (there : k < g .panels) (l : Lent) (q : Lendab
       (omega (arith, z .cursor, t .column)) (omega (arith, z .high, t .row)) (omega (arith, z .cursor, t .column)) (omega (arith, z .high, t .row))
 
   pub blink-step : Step g k l (blinks g l) (blinked g l)
-  unfolding headFits blinks blinked blinkHead withCursor
+  unfolding headFits blinks blinked blinkHead
   blink-step =
       let h = s .head in
       let n = blinkNext (h .cursor) (underCursor g h (l .memory)) in
@@ -132,7 +132,7 @@ module _ (g : Geometry) (k : ℕ) (there : k < g .panels) (l : Lent) (q : Lendab
       (λ e. rw e (same-step g k there l q))
 
   pub clear-cursor-step : Step g k l (cond (eqb (s .head .cursor) 0) nothing (blinks g l)) (cursorCleared g l)
-  unfolding headFits cursorCleared withCursor blinks
+  unfolding headFits cursorCleared blinks
   clear-cursor-step =
       by-test (eqb (s .head .cursor) 0) (λ e. rw e (same-step g k there l q))
       (λ e. by-test (eqb (s .head .screen) 0) (λ f. rw (e, f) (rw f at blink-step))
@@ -158,7 +158,7 @@ module _ (g : Geometry) (k : ℕ) (there : k < g .panels) (l : Lent) (q : Lendab
       → length screen ≡ screenBytes g → Fits 256 0 256 dirty → AgreeOutside (g .stride) (height g) owed (screenHeld g l) screen
       → Step g k l (marks owed) (lent (encode g (marked g dirty owed (withHead (atPlace (p .row) (p .column) h) (withFlags (p .flags) s))))
       (withScreen (s .head .graphics) screen (withText (s .head .text) (p .text) (l .memory))) (l .panel))
-  unfolding headFits withRow withColumn
+  unfolding headFits
   text-step dirty owed h p screen e b t n d a =
       painted-step g k there l q dirty owed (withHead (atPlace (p .row) (p .column) h) (withFlags (p .flags) s)) (withText (s .head .text) (p .text) (l .memory)) screen
       (page-formed g s (known g l q) (atPlace (p .row) (p .column) h) (p .flags)
@@ -166,7 +166,7 @@ module _ (g : Geometry) (k : ℕ) (there : k < g .panels) (l : Lent) (q : Lendab
       (length-withWindow (s .head .text) (p .text) (l .memory) (rw (t .text) text-room) ∙ q .memory) b refl d n a
 
   pub cleared-step : (n : ℕ) → leb n 1 ≡ true → Step g k l (marks (whole (g .stride) (height g))) (cleared g n l)
-  unfolding headFits cleared clearedState clearedMemory withScreenMode
+  unfolding headFits cleared clearedState clearedMemory
   cleared-step n e =
       let z = q .passing .glass in
       let m = whole (g .stride) (height g) in

@@ -25,14 +25,14 @@ sub-bottom c = search needs
 add-bottom : tie.Need-add-bottom
 add-bottom c = search needs
 
-draw-box-requires : tie.Need-draw-box-requires
-draw-box-requires c κs = search needs
+draw-filled-box-requires : tie.Need-draw-filled-box-requires
+draw-filled-box-requires c κs = search needs
 
 same-length : tie.Need-same-length
 same-length c = search needs
 
 returns : tie.Need-returns
-returns c = let k = c .before .before .before .before .before in c .before .before .draw-box .ensures ∙ is-cursor-box _ _ (k .args .row) (k .args .column) (k .args .cursor) _ (k .pre .1 .2)
+returns c = let k = c .before .before .before .before .before in c .before .before .draw-filled-box .ensures ∙ is-cursor-box _ _ (k .args .row) (k .args .column) (k .args .cursor) _ (k .pre .1 .2)
 
 pub invert-cursor-spec : {M : Type 1} → statement M
 invert-cursor-spec =
@@ -45,6 +45,6 @@ invert-cursor-spec =
     add-right
     sub-bottom
     add-bottom
-    draw-box-requires
+    draw-filled-box-requires
     same-length
     returns)
