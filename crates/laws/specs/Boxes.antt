@@ -18,10 +18,9 @@ use Rattle.model.specs.Lines.{isUnknown, spanRect, pixelRun, clamp, horizontal,
 use Rattle.model.specs.Boxes.{boxRows, filledBox, outline, boxOf, box}
 use Rattle.laws.specs.Tests.{tests, by-test, all-true}
 use Rattle.laws.specs.Writes.{drawn-append, within-none, within-append, OwesItsMark, owes-mark, drawn-is, screen-draw}
-use Rattle.laws.specs.Solid.{solid, horizontal-in, filled-in}
+use Rattle.laws.specs.Lines.{solid, horizontal-in, filled-in, span-fits, horizontal-within, horizontal-drawn, vertical-within}
 use Rattle.laws.specs.Points.{bothLowered}
 use Rattle.laws.specs.Runs.{maskedBytes, bytes-append, bytes-run, bytes-kept}
-use Rattle.laws.specs.Lines.{span-fits, horizontal-within, horizontal-drawn, vertical-within}
 
 -- ---- no write lies outside
 

@@ -1,17 +1,107 @@
--- Pages: whatever is printed, a page keeps its size, its next cell lies on it, and each step scrolls at most once.
-use mathlib.Core.Path.{_≡_, refl, _∙_}
-use mathlib.Core.Bool.{Bool, false, _&&_}
-use mathlib.Core.List.{List, [], _∷_}
-use Prim.Native.Nat.{ℕ, zero, suc, _+_, _-_, _*_, _<_, _≤_}
-use native.Mathlib.Nat.{mul-le-mul-right, one-mul}
+-- Scrolling: the loop that moves bytes up, several scrolls at once, and flags.
+use mathlib.Core.Path.{_≡_, refl, sym, ap, _∙_}
+use mathlib.Core.List.{List, _++_, append-nil, append-assoc, [], _∷_}
+use mathlib.Core.Bool.{Bool, false, _&&_, true, not}
+use mathlib.Core.Logic.{_⊎_, inl, inr}
+use Prim.Native.Nat.{ℕ, zero, suc, _+_, _-_, _*_, _<_, _≤_, min}
+use native.Mathlib.Nat.{zero-mul, zero-add, suc-add, le-of-lt, mul-le-mul-right, le-mul-of-pos-right, mul-comm, one-mul}
 use native.Mathlib.Omega.{arith}
+use native.Mathlib.Numerals.{add-one}
+use lib.ListN.{length, getD, set, take, drop, replicate, length-append, length-drop, length-replicate, replicate-append-replicate, drop-of-length-le, length-set, List·getD-eq-default}
+use lib.Seq.{getD-append-add, getD-drop, length-take-le, take-all, drop-append-le, drop-drop, drop-cons}
 use lib.Arith.{digits-lt}
-use lib.Dec.{leb, eqb}
-use lib.ListN.{length, getD, set, length-set}
-use borrow.Author.Tests.{eqb-true, eqb-false, leb-true, le-leb}
-use Rattle.model.specs.Print.{Page, scrollPage, nextRow, newlineOn, cellOf, writeCell, space, wrap, endRow, printByte, printPair, printBytes, clearUntil, clearFrom, clearAfter, printOn}
-use Rattle.laws.specs.Tests.{if-cases}
-use Rattle.laws.specs.Scrolls.{length-scrolled}
+use lib.Dec.{leb, eqb, ltb}
+use borrow.Author.Tests.{eqb-true, eqb-false, leb-true, le-leb, ltb-true, ltb-false, not-true, not-false}
+use Rattle.model.specs.Memory.{withWindow, zeros}
+use Rattle.model.specs.Print.{scrolled, scrolledTimes, Page, scrollPage, nextRow, newlineOn, cellOf, writeCell, space, wrap, endRow, printByte, printPair, printBytes, clearUntil, clearFrom, clearAfter, printOn}
+use Rattle.laws.specs.Memory.{append-window}
+use Rattle.laws.specs.Tests.{by-lt, if-cases, and-true, and-false}
+use Rattle.laws.specs.Loops.{copy-turn, length-zeros}
+
+-- ---- the loop
+
+-- the first i of the bytes after n are moved up
+abbrev pub scrolling : ℕ → ℕ → List ℕ → List ℕ
+scrolling n i d = take i (drop n d) ++ drop i d
+
+pub scroll-turn : (n i : ℕ) (d l : List ℕ) → i + n < length d → l ≡ scrolling n i d → set l i (getD l (i + n) 0) ≡ scrolling n (i + 1) d
+scroll-turn n i d l h e =
+    let s = drop n d in
+    let k : i < length s = simp length-drop (omega arith) in
+    let m : length (take i s) ≡ i = length-take-le i s (omega arith) in
+    let c : n + i ≡ i + n = omega arith in
+    let v : getD l (i + n) 0 ≡ getD s i 0 = cc (getD-append-add (take i s) (drop i d) n 0, getD-drop i d n 0, getD-drop n d i 0) in
+    cc (copy-turn s d i k (omega arith))
+
+-- all are moved, and zeros are put over the last n
+pub scroll-end : (n i : ℕ) (d l : List ℕ) → n ≤ length d → i ≡ length d - n → l ≡ scrolling n i d → withWindow i (zeros n) l ≡ scrolled n 0 d
+unfolding scrolled zeros
+scroll-end n i d l h k e =
+    let s = drop n d in
+    let m : length s ≡ i = simp length-drop (omega arith) in
+    let gone = drop-of-length-le (drop i d) {i = length (zeros n)} (rw (length-zeros n) (simp length-drop (omega arith))) in
+    cc (take-all i s (omega arith), append-window s (zeros n) (drop i d) i m, append-nil (zeros n))
+
+pub length-scrolled : {A : Type 0} (n : ℕ) (a : A) (l : List A) → n ≤ length l → length (scrolled n a l) ≡ length l
+unfolding scrolled
+length-scrolled n a l h = simp (length-append, length-drop, length-replicate) (omega arith)
+
+-- ---- several at once
+
+pub length-times : (n k : ℕ) (s : List ℕ) → k ≤ length s → length (scrolledTimes n k s) ≡ length s
+unfolding scrolledTimes
+length-times zero k s h = refl
+length-times (suc n) k s h = length-times n k (scrolled k 0 s) (rw (length-scrolled k 0 s h) h) ∙ length-scrolled k 0 s h
+
+-- n scrolls by k are one by n * k
+times-once : (n k : ℕ) (s : List ℕ) → n * k ≤ length s → scrolledTimes n k s ≡ scrolled (n * k) 0 s
+unfolding scrolledTimes scrolled
+times-once zero k s h = rw zero-mul (sym (append-nil s))
+times-once (suc n) k s h =
+    let e : k + n * k ≡ suc n * k = omega arith in
+    let rest = times-once n k (scrolled k 0 s) (rw (length-scrolled k 0 s (omega arith)) (omega arith)) in
+    let past = drop-append-le (n * k) (drop k s) (replicate k 0) (simp length-drop (omega arith)) in
+    cc (drop-drop (n * k) k s, append-assoc (drop (k + n * k) s) (replicate k 0) (replicate (n * k) 0), replicate-append-replicate {A = ℕ} k (n * k) 0)
+
+drop-zeros : (k m : ℕ) → drop k (zeros m) ≡ zeros (m - k)
+unfolding zeros
+drop-zeros zero m = let e : m ≡ m - 0 = omega arith in ap zeros e
+drop-zeros (suc k) zero = let e : 0 ≡ 0 - suc k = omega arith in ap zeros e
+drop-zeros (suc k) (suc m) = let e : m - k ≡ suc m - suc k = omega arith in drop-zeros k m ∙ ap zeros e
+
+-- a blank screen stays blank
+blank-once : (k m : ℕ) → k ≤ m → scrolled k 0 (zeros m) ≡ zeros m
+unfolding scrolled zeros
+blank-once k m h =
+    let e : m - k + k ≡ m = omega arith in
+    ap (λ (x : List ℕ). x ++ zeros k) (drop-zeros k m) ∙ replicate-append-replicate (m - k) k 0 ∙ ap zeros e
+
+blank-times : (n k m : ℕ) → k ≤ m → scrolledTimes n k (zeros m) ≡ zeros m
+unfolding scrolledTimes
+blank-times zero k m h = refl
+blank-times (suc n) k m h = ap (scrolledTimes n k) (blank-once k m h) ∙ blank-times n k m h
+
+times-add : (n j k : ℕ) (s : List ℕ) → scrolledTimes (n + j) k s ≡ scrolledTimes j k (scrolledTimes n k s)
+unfolding scrolledTimes
+times-add zero j k s = rw zero-add
+times-add (suc n) j k s = rw suc-add (times-add n j k (scrolled k 0 s))
+
+-- all the rows scrolled away: nothing is left
+all-gone : (k : ℕ) (s : List ℕ) → length s ≡ k → scrolled k 0 s ≡ zeros k
+unfolding scrolled zeros
+all-gone k s h = ap (λ (x : List ℕ). x ++ replicate k 0) (drop-of-length-le s {i = k} (omega arith))
+
+-- on a screen of m text rows: after m scrolls nothing changes
+pub times-most : (n m k : ℕ) (s : List ℕ) → length s ≡ m * k → 0 < m → scrolledTimes n k s ≡ scrolled (min n m * k) 0 s
+times-most n m k s h p =
+    by-lt n m
+    (λ l. let e : n ≡ min n m = omega arith in times-once n k s (rw h (mul-le-mul-right k (le-of-lt l))) ∙ ap (λ (x : ℕ). scrolled (x * k) 0 s) e)
+    (λ l. let e : n ≡ m + (n - m) = omega arith in
+    let f : m ≡ min n m = omega arith in
+    let g : k ≤ m * k = rw (mul-comm m k) (le-mul-of-pos-right k p) in
+    cc (times-add m (n - m) k s, times-once m k s (rw h (omega arith)), all-gone (m * k) s h, blank-times (n - m) k (m * k) g))
+
+-- Pages: whatever is printed, a page keeps its size, its next cell lies on it, and each step scrolls at most once.
 
 -- a page of rows of at least two columns, with room for n more cells in its row
 pub record Sheet (rows columns n : ℕ) (p : Page) : Type 0 where
@@ -118,3 +208,64 @@ module _ (rows columns : ℕ) where
         let q = printBytes rows columns v bs p in
         let k = bytes-sheet bs p s in
         record { wide = k .wide; text = length-clear (cellOf columns q) (q .text) ∙ k .text; flags = k .flags; row = k .row; room = k .room }
+
+-- What the loops of printing do, turn by turn: the bytes of a text, and the clearing after them.
+
+-- ---- the bytes of a text
+
+module _ (rows columns : ℕ) (v : Bool) where
+  -- a byte that takes none with it
+  alone : (b : ℕ) (l : List ℕ) (p : Page) → (leb 128 b ≡ false) ⊎ (l ≡ []) → printBytes rows columns v (b ∷ l) p ≡ printBytes rows columns v l (printByte rows columns v b p)
+  unfolding printBytes
+  alone b [] p o = refl
+  alone b (c ∷ l) p (inl e) = rw e
+  alone b (c ∷ l) p (inr e) = absurd (let z = ap length e in omega arith)
+
+  pub byte-turn : (bs : List ℕ) (i : ℕ) (p : Page) → i < length bs → (leb 128 (getD bs i 0) && ltb (i + 1) (length bs)) ≡ false
+      → printBytes rows columns v (drop i bs) p ≡ printBytes rows columns v (drop (i + 1) bs) (printByte rows columns v (getD bs i 0) p)
+  byte-turn bs i p h e =
+      let b = getD bs i 0 in
+      cc (drop-cons bs i 0 h, alone b (drop (suc i) bs) p (last (and-false (leb 128 b) (ltb (i + 1) (length bs)) e)), add-one i)
+    where
+      last : (leb 128 (getD bs i 0) ≡ false) ⊎ (ltb (i + 1) (length bs) ≡ false) → (leb 128 (getD bs i 0) ≡ false) ⊎ (drop (suc i) bs ≡ [])
+      last (inl f) = inl f
+      last (inr f) = inr (drop-of-length-le bs {i = suc i} (let z = ltb-false (i + 1) (length bs) f in omega arith))
+
+  pub pair-turn : (bs : List ℕ) (i : ℕ) (p : Page) → (leb 128 (getD bs i 0) && ltb (i + 1) (length bs)) ≡ true
+      → printBytes rows columns v (drop i bs) p ≡ printBytes rows columns v (drop (i + 2) bs) (printPair rows columns v (getD bs i 0) (getD bs (i + 1) 0) p)
+  unfolding printBytes
+  pair-turn bs i p e =
+      let a = and-true (leb 128 (getD bs i 0)) (ltb (i + 1) (length bs)) e in
+      let l : i + 1 < length bs = ltb-true (i + 1) (length bs) (a .1) in
+      let k : suc (i + 1) ≡ i + 2 = omega arith in
+      cc (drop-cons bs i 0 (omega arith), add-one i, drop-cons bs (i + 1) 0 l, a .0)
+
+  pub bytes-end : (bs : List ℕ) (i : ℕ) (p : Page) → length bs ≤ i → printBytes rows columns v (drop i bs) p ≡ p
+  unfolding printBytes
+  bytes-end bs i p h = ap (λ (x : List ℕ). printBytes rows columns v x p) (drop-of-length-le bs {i = i} h)
+
+-- ---- the clearing
+
+-- the cell is there and not 0
+abbrev pub cellWritten : List ℕ → ℕ → Bool
+cellWritten t i = not (eqb (getD t i 0) 0)
+
+pub set-in : (t : List ℕ) (i : ℕ) {b : Bool} → b ≡ cellWritten t i → b ≡ true → i < length t
+set-in t i e f =
+    by-lt i (length t) (λ l. l)
+    (λ l. absurd (eqb-false (getD t i 0) 0 (not-true (eqb (getD t i 0) 0) (sym e ∙ f)) (List·getD-eq-default t 0 {n = i} l)))
+
+pub until-start : (at : ℕ) (t : List ℕ) → clearUntil (length t - (at + 1)) (at + 1) (set t at 0) ≡ clearFrom at t
+unfolding clearFrom
+until-start at t = ap (λ (k : ℕ). clearUntil (length t - k) k (set t at 0)) (add-one at)
+
+pub until-turn : (n i : ℕ) (t : List ℕ) {b : Bool} → i < n → b ≡ cellWritten t i → b ≡ true → clearUntil (n - (i + 1)) (i + 1) (set t i 0) ≡ clearUntil (n - i) i t
+unfolding clearUntil
+until-turn n i t h e f =
+    let k : n - i ≡ suc (n - (i + 1)) = omega arith in
+    cc (add-one i, not-true (eqb (getD t i 0) 0) (sym e ∙ f))
+
+pub until-end : (n i : ℕ) (t : List ℕ) {b : Bool} → b ≡ cellWritten t i → b ≡ false → clearUntil n i t ≡ t
+unfolding clearUntil
+until-end zero i t e f = refl
+until-end (suc n) i t e f = rw (not-false (eqb (getD t i 0) 0) (sym e ∙ f))

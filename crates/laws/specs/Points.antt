@@ -22,10 +22,9 @@ use Rattle.model.specs.Marks.{drawn, drawnOn, within, owes}
 use Rattle.model.specs.Points.{pointOp, pixelRect, pointWrite, pointRect, point, isSet}
 use Rattle.laws.specs.Tests.{if-cases, by-test, by-lt, and-true}
 use Rattle.laws.specs.Pixels.{place-lt}
-use Rattle.laws.specs.Tables.{every-at, or-is, and-is, flip-is, see-is}
+use Rattle.laws.specs.Bits.{every-at, or-is, and-is, flip-is, see-is}
 use Rattle.laws.specs.Rects.{fits-passes}
-use Rattle.laws.specs.Marks.{in-inside}
-use Rattle.laws.specs.Writes.{OwesItsMark}
+use Rattle.laws.specs.Writes.{in-inside, OwesItsMark}
 
 -- a bit made what it is
 pub withBit-own : (b k : ℕ) → withBit b k (bitAt b k) ≡ b

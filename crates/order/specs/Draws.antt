@@ -20,7 +20,7 @@ use Rattle.model.specs.Lists.{marks, draws}
 use Rattle.laws.specs.Rects.{Fits, passes-fits}
 use Rattle.laws.specs.Pixels.{length-draw}
 use Rattle.laws.specs.Memory.{length-withWindow, window-same}
-use Rattle.laws.specs.Marks.{AgreeOutside, owes-agrees, seen-on}
+use Rattle.laws.specs.Writes.{AgreeOutside, owes-agrees, seen-on}
 use Rattle.order.specs.Formed.{head-formed}
 use Rattle.order.specs.Step.{Lendable, Step, old, screenHeld, known, rewritten-step, screen-in, screen-long}
 

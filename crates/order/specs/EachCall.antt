@@ -24,7 +24,7 @@ use Rattle.model.specs.Record.{headFits}
 use Rattle.model.specs.Lists.{accepted, Typed, Item, here, elsewhere, after, opens, effect, effectAt, itemEffect}
 use Rattle.laws.specs.Rects.{none-fits}
 use Rattle.laws.specs.Points.{point-fits}
-use Rattle.laws.specs.DrawLine.{line-fits}
+use Rattle.laws.specs.Lines.{line-fits}
 use Rattle.laws.specs.Boxes.{box-fits}
 use Rattle.laws.specs.EllipseMarks.{ellipse-fits}
 use Rattle.laws.specs.Bitmaps.{bitmap-fits}

@@ -14,7 +14,7 @@ use Rattle.model.specs.Calls.{Lent, lent}
 use Rattle.model.specs.Lists.{marks}
 use Rattle.laws.specs.Tests.{if-cases}
 use Rattle.laws.specs.Loops.{length-zeros}
-use Rattle.laws.specs.Marks.{whole-agrees}
+use Rattle.laws.specs.Writes.{whole-agrees}
 use Rattle.laws.specs.Glyphs.{length-paint}
 use Rattle.order.specs.Draws.{painted-step, whole-fits}
 use Rattle.order.specs.Step.{Lendable, Step, old, known, screen-long}

@@ -9,7 +9,7 @@ use Rattle.model.specs.Rects.{none}
 use Rattle.model.specs.Marks.{whole}
 use Rattle.model.specs.Sends.{sendPanel}
 use Rattle.model.specs.Lists.{Effect, nothing, marks, opens, sends, affected}
-use Rattle.laws.specs.Marks.{AgreeOutside}
+use Rattle.laws.specs.Writes.{AgreeOutside}
 
 -- the screen, the panel, and what the panel has still to be sent
 pub record PanelState : Type 0 where

@@ -19,7 +19,7 @@ use Rattle.model.specs.Lists.{marks}
 use Rattle.laws.specs.Tests.{tests, if-cases, by-test, and-true, and-false, either}
 use Rattle.laws.specs.Rects.{Fits}
 use Rattle.laws.specs.Memory.{window-set-in, window-set-out}
-use Rattle.laws.specs.Marks.{AgreeOutside, poke-agrees}
+use Rattle.laws.specs.Writes.{AgreeOutside, poke-agrees}
 use Rattle.order.specs.Step.{Lendable, Step, old, known, rewritten-step}
 
 length-poked : (keys : List ℕ) (a v : ℕ) (m : List ℕ) → length (poked keys a v m) ≡ length m

@@ -19,7 +19,7 @@ use Rattle.laws.specs.ListLaws.{getD-map}
 use Rattle.laws.specs.Record.{Passing, head-tells, decode-encode}
 use Rattle.laws.specs.States.{well-formed, encode-passing}
 use Rattle.laws.specs.Memory.{length-window}
-use Rattle.laws.specs.Marks.{AgreeOutside}
+use Rattle.laws.specs.Writes.{AgreeOutside}
 use Rattle.order.specs.PanelState.{PanelState, Follows}
 use Rattle.order.specs.Formed.{marked-formed}
 

@@ -25,9 +25,8 @@ use Rattle.laws.specs.Loops.{length-zeros}
 use Rattle.laws.specs.Flags.{length-no-flags}
 use Rattle.laws.specs.Record.{head-tells}
 use Rattle.laws.specs.Updates.{flags-formed}
-use Rattle.laws.specs.Scrolls.{length-times}
-use Rattle.laws.specs.Marks.{AgreeOutside, whole-agrees}
-use Rattle.laws.specs.Pages.{Sheet}
+use Rattle.laws.specs.Pages.{length-times, Sheet}
+use Rattle.laws.specs.Writes.{AgreeOutside, whole-agrees}
 use Rattle.laws.specs.Texts.{row-room, page-sheet as sheet-of}
 use Rattle.order.specs.Formed.{bases-fit, row-fits, column-fits, screen-fits, head-formed}
 use Rattle.order.specs.Step.{Lendable, Step, old, screenHeld, known, rewritten-step, screen-in, text-in}

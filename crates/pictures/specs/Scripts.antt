@@ -25,7 +25,7 @@ use Rattle.model.specs.Characters.{bytesOf}
 use Rattle.model.specs.Script.Read.{onFirst, scriptLines, isDigit, goesOn, takeDigits, atMost, takeNumber, takeWord, orTaken, takeMode, takePiece, isField, withField, andThen, matched, ScriptLine, callLine, ifMatched, readLine, readScript}
 use Rattle.model.specs.Script.Output.{spelled, spaced, printed, said, linePrints, lineLeaves, noKeys, opened, ending, runLinesFrom, runLines, scriptText}
 use Rattle.laws.specs.Tests.{by-eq, clash}
-use Rattle.laws.specs.Tables.{every-at}
+use Rattle.laws.specs.Bits.{every-at}
 use Rattle.laws.specs.Calls.{own-decide, outcome-done}
 use Rattle.laws.specs.Glasses.{base-glass}
 use Rattle.laws.specs.Record.{Passing, decode-encode}
