@@ -20,20 +20,16 @@ use Rattle.model.specs.Bytes.{Bytes}
 use Rattle.model.specs.Rects.{none, fits, lowered}
 use Rattle.model.specs.Marks.{drawn, drawnOn, within, owes}
 use Rattle.model.specs.Points.{pointOp, pixelRect, pointWrite, pointRect, point, isSet}
-use Rattle.laws.specs.Tests.{if-cases, by-test, by-lt, and-true}
+use Rattle.laws.specs.Tests.{if-cases, by-test, by-lt, and-true, tests}
 use Rattle.laws.specs.Pixels.{place-lt}
 use Rattle.laws.specs.Bits.{every-at, or-is, and-is, flip-is, see-is}
-use Rattle.laws.specs.Rects.{fits-passes}
-use Rattle.laws.specs.Writes.{in-inside, OwesItsMark}
+use Rattle.laws.specs.Rects.{fits-passes, in-inside}
+use Rattle.laws.specs.Writes.{OwesItsMark}
 
 -- a bit made what it is
 pub withBit-own : (b k : ℕ) → withBit b k (bitAt b k) ≡ b
 unfolding withBit
-withBit-own b k = go (bitAt b k) refl
-  where
-    go : (v : Bool) → bitAt b k ≡ v → withBit b k v ≡ b
-    go true e = rw e
-    go false e = rw e
+withBit-own b k = by-test (bitAt b k) (λ e. rw (e, e)) (λ e. rw (e, e))
 
 -- the mask of pixel x in its byte
 abbrev pub maskOf : ℕ → ℕ
@@ -72,9 +68,7 @@ mask-at x = eqb-true _ _ (every-at 8 (λ k. eqb (getD masks k 0) (128 / 2 ^ k)) 
 
 pub on-true : (st h x y : ℕ) → onScreen st h x y ≡ true → (x < 8 * st) × (y < h)
 unfolding onScreen
-on-true st h x y e =
-    let p = and-true (ltb x (8 * st)) (ltb y h) e in
-    (ltb-true x (8 * st) (p .0), ltb-true y h (p .1))
+on-true st h x y e = omega (arith, tests, and-true (ltb x (8 * st)) (ltb y h) e)
 
 -- a pixel of the screen has its byte
 pub place-in : (st h x y : ℕ) {s : List ℕ} → Screen st h s → (x < 8 * st) × (y < h) → place st x y < length s
@@ -111,25 +105,19 @@ point-fits st h x y hx hy =
 pub seen-one : (st h x y : ℕ) (d : DrawMode) (s e : List ℕ) {t : Bool} → t ≡ onScreen st h x y → t ≡ true → e ≡ writePixel st s (pointWrite x y d)
     → e ≡ draw st (seen st h (pointWrite x y d ∷ [])) s
 unfolding seen draw
-seen-one st h x y d s e p q w =
-    let o : onScreen st h x y ≡ true = cc in
-    rw o w
+seen-one st h x y d s e p q w = rw (sym p ∙ q) w
 
 pub seen-none : (st h x y : ℕ) (d : DrawMode) (s : List ℕ) {t : Bool} → t ≡ onScreen st h x y → t ≡ false
     → s ≡ draw st (seen st h (pointWrite x y d ∷ [])) s
 unfolding seen draw
-seen-none st h x y d s p q =
-    let o : onScreen st h x y ≡ false = cc in
-    rw o
+seen-none st h x y d s p q = rw (sym p ∙ q)
 
 -- ---- with its marks
 
 point-marked : (st h x y : ℕ) (d : DrawMode) (s e : List ℕ) {m : Marks} → m ≡ both (pointRect st h x y) → e ≡ draw st (seen st h (pointWrite x y d ∷ [])) s
     → drawn m e ≡ drawnOn st h (point st h x y d) s
 unfolding drawn drawnOn point
-point-marked st h x y d s e r w =
-    let o = ap (λ (k : Marks). k .owed) r ∙ sym (point-owes st h x y d) in
-    λ i. record { dirty = r i .dirty; owed = o i; screen = w i }
+point-marked st h x y d s e r w = λ i. record { dirty = r i .dirty; owed = ((λ j. r j .owed) ∙ sym (point-owes st h x y d)) i; screen = w i }
 
 pub point-on : (st h x y : ℕ) (d : DrawMode) (s e : List ℕ) {t : Bool} {m : Marks} → t ≡ onScreen st h x y → t ≡ true → m ≡ both (pixelRect x y)
     → e ≡ writePixel st s (pointWrite x y d) → drawn m e ≡ drawnOn st h (point st h x y d) s

@@ -16,8 +16,9 @@ use Rattle.model.specs.Rects.{In, inside, insideTests}
 use Rattle.model.specs.Marks.{whole, within, owes, Drawing, drawn, drawnOn}
 use Rattle.model.specs.Poke.{byteRect}
 use Rattle.model.specs.declared.Marks.{Marks}
-use Rattle.laws.specs.Tests.{if-cases, and-true, eq-or-ne, all-true, true-all, by-test}
+use Rattle.laws.specs.Tests.{if-cases, and-true, all-true, true-all, by-test, by-eq}
 use Rattle.laws.specs.Pixels.{Each, draw-other, length-draw}
+use Rattle.laws.specs.Rects.{inside-in, in-inside}
 
 -- two screens agree at every pixel that lies not in r
 abbrev pub AgreeOutside : ℕ → ℕ → Rect → List ℕ → List ℕ → Type 0
@@ -27,18 +28,6 @@ AgreeOutside st h r s t = (x y : ℕ) → x < 8 * st → y < h → (In r x y →
 pub whole-agrees : (st h : ℕ) (s t : List ℕ) → AgreeOutside st h (whole st h) s t
 whole-agrees st h s t x y hx hy n = absurd (n (omega arith))
 
--- the test that (x, y) lies in r
-pub inside-in : (r : Rect) (x y : ℕ) → inside r x y ≡ true → In r x y
-unfolding inside
-inside-in r x y e =
-    let a = all-true (insideTests r x y) e in
-    (leb-true (r .left) x (a .0), ltb-true x (r .right) (a .1 .0), leb-true (r .top) y (a .1 .1 .0), ltb-true y (r .bottom) (a .1 .1 .1 .0))
-
-pub in-inside : (r : Rect) (x y : ℕ) → In r x y → inside r x y ≡ true
-unfolding inside
-in-inside r x y i =
-    true-all (insideTests r x y) (le-leb (r .left) x (i .0), (lt-ltb x (r .right) (i .1), (le-leb (r .top) y (i .2), (lt-ltb y (r .bottom) (i .3), tt))))
-
 -- a write of the screen's width that lies in r is no pixel outside r
 away : (st : ℕ) (r : Rect) (ws : List PixelWrite) (x y : ℕ) → within r ws ≡ true → Each (λ w. w .x < 8 * st) ws → (In r x y → ⊥)
     → Each (λ w. (w .x < 8 * st) × ((x ≢ w .x) ⊎ (y ≢ w .y))) ws
@@ -47,23 +36,15 @@ away st r [] x y i e n = tt
 away st r (w ∷ ws) x y i e n =
     let p = and-true (inside r (w .x) (w .y)) (within r ws) i in
     let k = inside-in r (w .x) (w .y) (p .0) in
-    ((e .0, miss k (eq-or-ne x (w .x))), away st r ws x y (p .1) (e .1) n)
-  where
-    miss : In r (w .x) (w .y) → (x ≡ w .x) ⊎ (x ≢ w .x) → (x ≢ w .x) ⊎ (y ≢ w .y)
-    miss k (inl q) = inr (λ l. n (omega arith))
-    miss k (inr q) = inl q
+    ((e .0, by-eq x (w .x) (λ q. inr (λ l. n (omega arith))) inl), away st r ws x y (p .1) (e .1) n)
 
-pub draw-agrees : (st h : ℕ) (r : Rect) (ws : List PixelWrite) (s : List ℕ) → Each (λ w. w .x < 8 * st) ws → within r ws ≡ true
-    → AgreeOutside st h r s (draw st ws s)
-draw-agrees st h r ws s e w x y hx hy n = draw-other st ws s x y hx (away st r ws x y w e n)
-
--- and so it changes no pixel that it does not owe: no geometry of any shape is needed
+-- so a drawing changes no pixel that it does not owe: no geometry of any shape is needed
 pub owes-agrees : (st h : ℕ) (m : Rect) (ws : List PixelWrite) (s : List ℕ) → Each (λ w. w .x < 8 * st) ws
     → AgreeOutside st h (owes st h m ws) s (draw st ws s)
 unfolding owes
 owes-agrees st h m ws s e =
     if-cases (λ (r : Rect). AgreeOutside st h r s (draw st ws s)) (within m ws)
-    (λ w. draw-agrees st h m ws s e w) (λ w. whole-agrees st h s (draw st ws s))
+    (λ w x y hx hy n. draw-other st ws s x y hx (away st m ws x y w e n)) (λ w. whole-agrees st h s (draw st ws s))
 
 -- ---- the writes that fall on the screen
 
@@ -148,20 +129,12 @@ owes-mark st h r ws e = rw (within-seen st h r ws e)
 pub drawn-is : (st h : ℕ) (g : Drawing) (s e : List ℕ) (m : Marks) → within (g .owed) (g .writes) ≡ true
     → m .dirty ≡ g .dirty → m .owed ≡ g .owed → e ≡ draw st (seen st h (g .writes)) s → drawn m e ≡ drawnOn st h g s
 unfolding drawn drawnOn
-drawn-is st h g s e m w p q k =
-    let o : m .owed ≡ owes st h (g .owed) (seen st h (g .writes)) = q ∙ sym (owes-mark st h (g .owed) (g .writes) w) in
-    λ i. record { dirty = p i; owed = o i; screen = k i }
+drawn-is st h g s e m w p q k = λ i. record { dirty = p i; owed = (q ∙ sym (owes-mark st h (g .owed) (g .writes) w)) i; screen = k i }
 
 -- ---- a screen stays one
 
 pub screen-draw : (st h : ℕ) (ws : List PixelWrite) {s e : List ℕ} → Screen st h s → e ≡ draw st ws s → Screen st h e
-screen-draw st h ws {s} {e} r k = record {
-  wide = r .wide;
-  narrow = r .narrow;
-  high = r .high;
-  low = r .low;
-  sized = ap length k ∙ length-draw st ws s ∙ r .sized;
-}
+screen-draw st h ws {s} {e} r k = omega (arith, ap length k, length-draw st ws s)
 
 pub screen-write : (st h : ℕ) (w : PixelWrite) {s e : List ℕ} → Screen st h s → e ≡ writePixel st s w → Screen st h e
 unfolding draw
