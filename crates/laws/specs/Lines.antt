@@ -2,7 +2,7 @@
 use mathlib.Core.Path.{_≡_, refl, ap, ap₂, sym, _∙_}
 use mathlib.Core.Bool.{true, false, Bool, cond}
 use mathlib.Core.List.{List, _∷_, _++_, []}
-use mathlib.Core.Logic.{inr, inl}
+use mathlib.Core.Logic.{inr, inl, _⊎_}
 use Prim.Native.Nat.{ℕ, zero, suc, _+_, _-_, _*_, _≤_, _<_, min, _%_, max}
 use native.Mathlib.Omega.{arith}
 use native.Mathlib.Nat.{mul-le-mul-left, mul-le-mul-right, add-mul-mod-self-right}
@@ -18,7 +18,7 @@ use Rattle.model.specs.declared.Marks.{Marks}
 use Rattle.model.specs.Rects.{lowered, fits, none}
 use Rattle.model.specs.Marks.{within, drawn, drawnOn, Drawing, Drawn, owes}
 use Rattle.model.specs.Points.{pointWrite}
-use Rattle.laws.specs.Tests.{clash, tests, by-test, by-lt, if-cases}
+use Rattle.laws.specs.Tests.{clash, tests, by-test, by-lt, if-cases, either}
 use Rattle.laws.specs.Rects.{fits-passes}
 use Rattle.laws.specs.Writes.{within-none, within-more, drawn-is, drawn-append, OwesItsMark, owes-mark}
 use Rattle.laws.specs.Points.{both, bothLowered}
@@ -81,13 +81,11 @@ pub on-is : (st h x y : ℕ) → x < 8 * st → y < h → onScreen st h x y ≡ 
 unfolding onScreen
 on-is st h x y hx hy = rw (lt-ltb x (8 * st) hx, lt-ltb y h hy)
 
-pub off-beside : (st h x y : ℕ) → 8 * st ≤ x → onScreen st h x y ≡ false
+-- and what does not
+pub off-is : (st h x y : ℕ) → (8 * st ≤ x) ⊎ (h ≤ y) → onScreen st h x y ≡ false
 unfolding onScreen
-off-beside st h x y hx = rw (le-ltb x (8 * st) hx)
-
-pub off-below : (st h x y : ℕ) → x < 8 * st → h ≤ y → onScreen st h x y ≡ false
-unfolding onScreen
-off-below st h x y hx hy = rw (lt-ltb x (8 * st) hx, le-ltb y h hy)
+off-is st h x y (inl o) = rw (le-ltb x (8 * st) o)
+off-is st h x y (inr o) = by-test (ltb x (8 * st)) (λ e. rw (e, le-ltb y h o)) (λ e. rw e)
 
 -- ---- a run of a line
 
@@ -124,24 +122,16 @@ unfolding pixelColumn
 column-within r x y zero d a b e f = within-none r
 column-within r x y (suc n) d a b e f = within-more r _ (pixelColumn x (suc y) n d) (omega arith) (column-within r x (suc y) n d a b (omega arith) (omega arith))
 
-column-beside : (st h x y n : ℕ) (d : DrawMode) → 8 * st ≤ x → seen st h (pixelColumn x y n d) ≡ []
+column-off : (st h x y n : ℕ) (d : DrawMode) → (8 * st ≤ x) ⊎ (h ≤ y) → seen st h (pixelColumn x y n d) ≡ []
 unfolding pixelColumn seen
-column-beside st h x y zero d a = refl
-column-beside st h x y (suc n) d a = rw (off-beside st h x y a) (column-beside st h x (suc y) n d a)
-
-column-below : (st h x y n : ℕ) (d : DrawMode) → x < 8 * st → h ≤ y → seen st h (pixelColumn x y n d) ≡ []
-unfolding pixelColumn seen
-column-below st h x y zero d a b = refl
-column-below st h x y (suc n) d a b = rw (off-below st h x y a b) (column-below st h x (suc y) n d a (omega arith))
+column-off st h x y zero d o = refl
+column-off st h x y (suc n) d o = rw (off-is st h x y o) (column-off st h x (suc y) n d (either o inl (λ l. inr (omega arith))))
 
 -- m of the n pixels lie on the screen
 column-cut : (st h x y n m : ℕ) (d : DrawMode) → x < 8 * st → m ≤ n → y + m ≤ h → (m < n → y + m ≡ h) → seen st h (pixelColumn x y n d) ≡ pixelColumn x y m d
 unfolding pixelColumn seen
-column-cut st h x y zero zero d a b e f = refl
+column-cut st h x y n zero d a b e f = by-lt 0 n (λ l. column-off st h x y n d (inr (omega (arith, f l)))) (λ l. let z : n ≡ zero = omega arith in rw z)
 column-cut st h x y zero (suc m) d a b e f = absurd (omega arith)
-column-cut st h x y (suc n) zero d a b e f =
-    let l : h ≤ y = omega (arith, f (omega arith)) in
-    rw (off-below st h x y a l) (column-below st h x (suc y) n d a (omega arith))
 column-cut st h x y (suc n) (suc m) d a b e f =
     rw (on-is st h x y a (omega arith))
     (ap (λ (l : List PixelWrite). pointWrite x y d ∷ l) (column-cut st h x (suc y) n m d a (omega arith) (omega arith) (λ k. omega (arith, f (omega arith)))))
@@ -155,11 +145,11 @@ vertical-within r x top bottom d o a b e f = column-within r x top (suc (bottom 
 
 pub vertical-beside : (st h x top bottom : ℕ) (d : DrawMode) (s : List ℕ) → 8 * st ≤ x → s ≡ draw st (seen st h (vertical x top bottom d)) s
 unfolding vertical draw
-vertical-beside st h x top bottom d s a = rw (column-beside st h x top (suc (bottom - top)) d a)
+vertical-beside st h x top bottom d s a = rw (column-off st h x top (suc (bottom - top)) d (inl a))
 
 pub vertical-below : (st h x top bottom : ℕ) (d : DrawMode) (s : List ℕ) → x < 8 * st → h ≤ top → s ≡ draw st (seen st h (vertical x top bottom d)) s
 unfolding vertical draw
-vertical-below st h x top bottom d s a b = rw (column-below st h x top (suc (bottom - top)) d a b)
+vertical-below st h x top bottom d s a b = rw (column-off st h x top (suc (bottom - top)) d (inr b))
 
 -- on the screen: the pixels down to its last line
 pub vertical-seen : (st h x top bottom n : ℕ) (d : DrawMode) → x < 8 * st → top < h → top ≤ bottom → n ≡ min bottom (h - 1) - top + 1
