@@ -22,6 +22,7 @@ use Rattle.laws.specs.Tests.{clash, tests, by-test, by-lt, if-cases, eit
 use Rattle.laws.specs.Rects.{fits-passes}
 use Rattle.laws.specs.Writes.{within-none, within-more, drawn-is, drawn-append, OwesItsMark, owes-mark}
 use Rattle.laws.specs.Points.{both, bothLowered}
+use native.Mathlib.Numerals.{add-one, sub-one}
 
 -- the mode that a horizontal draws in
 unfoldable pub solid : DrawMode → DrawMode
@@ -47,10 +48,6 @@ unfolding boxRows
 rows-solid st h left right y zero d = refl
 rows-solid st h left right y (suc n) d = ap₂ _++_ (horizontal-solid st h left right y d) (rows-solid st h left right (suc y) n d)
 
-pub filled-solid : (st h left top right bottom : ℕ) (d : DrawMode) → filledBox st h left top right bottom (solid d) ≡ filledBox st h left top right bottom d
-unfolding filledBox
-filled-solid st h left top right bottom d = rows-solid st h left right top _ d
-
 -- a known mode is itself
 pub solid-known : (d : DrawMode) → isUnknown d ≡ false → solid d ≡ d
 unfolding isUnknown solid
@@ -67,7 +64,8 @@ module _ (st h : ℕ) {k : DrawMode} (d : DrawMode) (s e : List ℕ) (same : k �
 
   pub filled-in : (left top right bottom : ℕ) → e ≡ draw st (seen st h (filledBox st h left top right bottom k)) s
       → e ≡ draw st (seen st h (filledBox st h left top right bottom d)) s
-  filled-in left top right bottom w = cc (filled-solid st h left top right bottom d)
+  unfolding filledBox
+  filled-in left top right bottom w = cc (rows-solid st h left right top (suc (bottom - top)) d)
 
 -- Horizontal and vertical lines: where their writes lie, and which of them fall on the screen.
 
@@ -100,13 +98,6 @@ run-seen st h x y zero d a b = refl
 run-seen st h x y (suc n) d a b = rw (on-is st h x y (omega arith) b) (ap (λ (l : List PixelWrite). record { x = x; y = y; op = runOp d } ∷ l) (run-seen st h (suc x) y n d (omega arith) b))
 
 -- ---- a horizontal
-
--- clamped, it never lies beside or below the screen
-pub horizontal-seen : (st h left right y : ℕ) (d : DrawMode) → 0 < st → 0 < h → left ≤ right
-    → seen st h (horizontal st h left right y d) ≡ horizontal st h left right y d
-unfolding horizontal
-horizontal-seen st h left right y d hs hh o =
-    run-seen st h (clamp left (8 * st)) (clamp y h) (suc (clamp right (8 * st) - clamp left (8 * st))) d (omega arith) (omega arith)
 
 -- it lies in any rectangle that reaches, lowered, from its left to its right and has its line
 pub horizontal-within : (st h : ℕ) (r : Rect) (left right y : ℕ) (d : DrawMode) → left ≤ right
@@ -151,33 +142,27 @@ pub vertical-below : (st h x top bottom : ℕ) (d : DrawMode) (s : List ℕ) →
 unfolding vertical draw
 vertical-below st h x top bottom d s a b = rw (column-off st h x top (suc (bottom - top)) d (inr b))
 
--- on the screen: the pixels down to its last line
-pub vertical-seen : (st h x top bottom n : ℕ) (d : DrawMode) → x < 8 * st → top < h → top ≤ bottom → n ≡ min bottom (h - 1) - top + 1
-    → seen st h (vertical x top bottom d) ≡ pixelColumn x top n d
-unfolding vertical
-vertical-seen st h x top bottom n d a b o e = column-cut st h x top (suc (bottom - top)) n d a (omega arith) (omega arith) (λ k. omega arith)
-
 -- ---- as the code draws them
 
+-- clamped, a horizontal never lies beside or below the screen
 pub horizontal-drawn : (st h left right y : ℕ) (d : DrawMode) (s e : List ℕ) {a b l : ℕ} → Screen st h s → left ≤ right
     → a ≡ clamp left (8 * st) → b ≡ clamp right (8 * st) → l ≡ clamp y h → e ≡ draw st (pixelRun a l (suc (b - a)) d) s
     → e ≡ draw st (seen st h (horizontal st h left right y d)) s
 unfolding horizontal
-horizontal-drawn st h left right y d s e r o p q k w = cc (horizontal-seen st h left right y d (r .wide) (r .high) o)
+horizontal-drawn st h left right y d s e {a} {b} {l} r o p q k w = cc (run-seen st h a l (suc (b - a)) d (omega arith) (omega arith))
 
+-- of a vertical, the pixels down to the screen's last line are seen
 pub vertical-drawn : (st h x top bottom : ℕ) (d : DrawMode) (s e : List ℕ) {last : ℕ} → x < 8 * st → top < h → top ≤ bottom → last ≡ clamp bottom h
     → e ≡ draw st (pixelColumn x top (last - top + 1) d) s → e ≡ draw st (seen st h (vertical x top bottom d)) s
-vertical-drawn st h x top bottom d s e {last} a b o p w = cc (vertical-seen st h x top bottom _ d a b o (ap (λ (z : ℕ). z - top + 1) p))
+unfolding vertical
+vertical-drawn st h x top bottom d s e {last} a b o p w = cc (column-cut st h x top (suc (bottom - top)) (last - top + 1) d a (omega arith) (omega arith) (λ k. omega arith))
 
 -- what is left of a column, drawn on what stands, gives the whole
 pub column-turn : (st x y n : ℕ) (d : DrawMode) (s e t : List ℕ) → 0 < n → e ≡ writePixel st s (pointWrite x y d) → draw st (pixelColumn x y n d) s ≡ t
     → draw st (pixelColumn x (y + 1) (n - 1) d) e ≡ t
 unfolding pixelColumn draw
 column-turn st x y zero d s e t h w q = absurd (omega arith)
-column-turn st x y (suc n) d s e t h w q =
-    let a : y + 1 ≡ suc y = omega arith in
-    let b : suc n - 1 ≡ n = omega arith in
-    rw (w, a, b) q
+column-turn st x y (suc n) d s e t h w q = rw (w, add-one, sub-one) q
 
 pub column-end : (st x y n : ℕ) (d : DrawMode) (s t : List ℕ) → n ≤ 0 → draw st (pixelColumn x y n d) s ≡ t → s ≡ t
 unfolding pixelColumn draw
@@ -215,16 +200,11 @@ pub record Error (m dist k e s : ℕ) : Type 0 where
 pub error-turn : (m dist k e s : ℕ) → m < 256 → dist ≤ m → Error m dist k e s
     → Error m dist (suc k) (nextError m e dist) (stepped m e dist (s + 1) s)
 unfolding nextError stepped
-error-turn m dist k e s hm hd r =
-    by-test (leb m (errorSum e dist))
-    (λ t. rw t (record { below = omega (arith, tests); paid = omega (arith, tests) }))
-    (λ t. rw t (record { below = omega (arith, tests); paid = omega (arith, tests) }))
+error-turn m dist k e s hm hd r = by-test (leb m (errorSum e dist)) (λ t. rw t (omega (arith, tests))) (λ t. rw t (omega (arith, tests)))
 
 pub steps-le : (m dist k e s : ℕ) → k ≤ m → Error m dist k e s → s ≤ dist
 steps-le m dist k e s hk r =
-    by-lt dist s
-    (λ l. absurd (omega (arith, mul-le-mul-left {m = suc dist} {n = s} m l, mul-le-mul-right dist hk, r .below, r .paid)))
-    (λ l. l)
+    by-lt dist s (λ l. absurd (omega (arith, mul-le-mul-left {m = suc dist} {n = s} m l, mul-le-mul-right dist hk))) (λ l. l)
 
 -- a choice made inside a sum is a choice of sums
 stepped-by : (m e dist : ℕ) (f : ℕ → ℕ) (a b : ℕ) → stepped m e dist (f a) (f b) ≡ f (stepped m e dist a b)
@@ -256,9 +236,7 @@ module _ (p : Slope) (r : Rect) (x1 : ℕ) (at : ℕ → ℕ) (d : DrawMode)
       (error-turn m (p .distX) k ex s small hx a) (error-turn m (p .distY) k ey u small hy b)))
 
   pub slope-box : (y1 : ℕ) → 0 < p .distMax → y1 ≡ at 0 → within r (slope p (suc (p .distMax)) x1 y1 0 0 d) ≡ true
-  slope-box y1 o e =
-      let q : x1 ≡ x1 + 0 = omega arith in
-      cc (slope-within (suc (p .distMax)) 0 0 0 0 0 (omega arith) (record { below = o; paid = omega arith }) (record { below = o; paid = omega arith }))
+  slope-box y1 o e = let q : x1 ≡ x1 + 0 = omega arith in cc (slope-within (suc (p .distMax)) 0 0 0 0 0 (omega arith) (omega arith) (omega arith))
 
 -- u steps of 255 are u steps back
 back : (y u : ℕ) → u ≤ y → y < 256 → (y + 255 * u) % 256 ≡ y - u
@@ -326,8 +304,7 @@ pub slope-flat : (st h x1 y1 x2 y2 : ℕ) (d : DrawMode) (s e : List ℕ) {dy in
 unfolding sloped
 slope-flat st h x1 y1 x2 y2 d s e {dy} {inc} p r o w =
     let k : x2 - x1 ≡ max (x2 - x1) (max y1 y2 - min y1 y2) = omega arith in
-    let n : x2 - x1 + 1 ≡ suc (max (x2 - x1) (max y1 y2 - min y1 y2)) = omega arith in
-    w ∙ (λ i. draw st (seen st h (slope (slopeBy (x2 - x1) (p i) (k i) (r i)) (n i) x1 y1 0 0 d)) s)
+    cc (add-one (x2 - x1))
 
 -- more down than across
 pub slope-steep : (st h x1 y1 x2 y2 : ℕ) (d : DrawMode) (s e : List ℕ) {dy inc : ℕ} → dy ≡ max y1 y2 - min y1 y2 → inc ≡ cond (ltb y1 y2) 1 255 → x2 - x1 < dy
@@ -336,8 +313,7 @@ pub slope-steep : (st h x1 y1 x2 y2 : ℕ) (d : DrawMode) (s e : List ℕ) {dy i
 unfolding sloped
 slope-steep st h x1 y1 x2 y2 d s e {dy} {inc} p r o w =
     let k : dy ≡ max (x2 - x1) (max y1 y2 - min y1 y2) = omega arith in
-    let n : dy + 1 ≡ suc (max (x2 - x1) (max y1 y2 - min y1 y2)) = omega arith in
-    w ∙ (λ i. draw st (seen st h (slope (slopeBy (x2 - x1) (p i) (k i) (r i)) (n i) x1 y1 0 0 d)) s)
+    cc (add-one dy)
 
 pub slope-turn : (st h : ℕ) (p : Slope) (n x y ex ey : ℕ) (d : DrawMode) (s e t : List ℕ) {x′ y′ ex′ ey′ : ℕ} → 0 < n
     → e ≡ draw st (seen st h (pointWrite x y d ∷ [])) s
@@ -349,9 +325,7 @@ pub slope-turn : (st h : ℕ) (p : Slope) (n x y ex ey : ℕ) (d : DrawMode) (s 
     → draw st (seen st h (slope p (n - 1) x′ y′ ex′ ey′ d)) e ≡ t
 unfolding slope
 slope-turn st h p zero x y ex ey d s e t o w a b f g q = absurd (omega arith)
-slope-turn st h p (suc n) x y ex ey d s e t o w a b f g q =
-    let k : suc n - 1 ≡ n = omega arith in
-    (λ i. draw st (seen st h (slope p (k i) (a i) (b i) (f i) (g i) d)) (w i)) ∙ sym (drawn-append st h (pointWrite x y d ∷ []) _ s) ∙ q
+slope-turn st h p (suc n) x y ex ey d s e t o w a b f g q = cc (sub-one (suc n), drawn-append st h (pointWrite x y d ∷ []) _ s)
 
 pub slope-end : (st h : ℕ) (p : Slope) (n x y ex ey : ℕ) (d : DrawMode) (s t : List ℕ) → n ≤ 0
     → draw st (seen st h (slope p n x y ex ey d)) s ≡ t → s ≡ t
@@ -402,31 +376,31 @@ module _ (st h x1 y1 x2 y2 : ℕ) (d : DrawMode) (s : List ℕ) where
 -- ---- every line: its mark passes STATE, and no write lies outside what it owes
 
 module _ (st h x1 y1 x2 y2 : ℕ) (d : DrawMode) (hx1 : x1 < 256) (hy1 : y1 < 256) (hx2 : x2 < 256) (hy2 : y2 < 256) where
-  pub line-fits : fits 256 0 256 (line st h x1 y1 x2 y2 d .dirty) ≡ true
+  -- both at once, case by case
+  line-lies : (fits 256 0 256 (line st h x1 y1 x2 y2 d .dirty) ≡ true) × (within (line st h x1 y1 x2 y2 d .owed) (line st h x1 y1 x2 y2 d .writes) ≡ true)
   unfolding line horizontalLine verticalLine slopedLine
-  line-fits =
-      if-cases P (eqb y1 y2) (λ e. span-fits (min x1 x2) y1 (max x1 x2) y1 (omega arith) (omega arith) (omega arith) (omega arith))
-      (λ e. if-cases P (isUnknown d) (λ t. fits-passes 256 0 256 none (inl refl))
-      (λ t. if-cases P (eqb x1 x2) (λ k. span-fits x1 (min y1 y2) x1 (max y1 y2) (omega arith) (omega arith) (omega arith) (omega arith))
-      (λ k. if-cases P (ltb x2 x1) (λ l. span-fits x2 (min y2 y1) x1 (max y2 y1) (omega (arith, tests)) (omega arith) (omega arith) (omega arith))
-      (λ l. span-fits x1 (min y1 y2) x2 (max y1 y2) (omega (arith, tests)) (omega arith) (omega arith) (omega arith)))))
-    where
-      P : Drawing → Type 0
-      P g = fits 256 0 256 (g .dirty) ≡ true
-
-  pub line-within : within (line st h x1 y1 x2 y2 d .owed) (line st h x1 y1 x2 y2 d .writes) ≡ true
-  unfolding line horizontalLine verticalLine slopedLine
-  line-within =
+  line-lies =
       if-cases P (eqb y1 y2)
-      (λ e. horizontal-within st h (spanRect (min x1 x2) y1 (max x1 x2) y1) (min x1 x2) (max x1 x2) y1 d (omega arith) (omega arith) (omega arith) (omega arith) (omega arith))
-      (λ e. if-cases P (isUnknown d) (λ t. within-none none)
+      (λ e. (
+        span-fits (min x1 x2) y1 (max x1 x2) y1 (omega arith) (omega arith) (omega arith) (omega arith),
+        horizontal-within st h (spanRect (min x1 x2) y1 (max x1 x2) y1) (min x1 x2) (max x1 x2) y1 d (omega arith) (omega arith) (omega arith) (omega arith) (omega arith),
+      ))
+      (λ e. if-cases P (isUnknown d) (λ t. (fits-passes 256 0 256 none (inl refl), within-none none))
       (λ t. if-cases P (eqb x1 x2)
-      (λ k. vertical-within (spanRect x1 (min y1 y2) x1 (max y1 y2)) x1 (min y1 y2) (max y1 y2) d (omega arith) (omega arith) (omega arith) (omega arith) (omega arith))
-      (λ k. if-cases P (ltb x2 x1) (λ l. sloped-within x2 y2 x1 y1 d (ltb-true x2 x1 l) hx1 hy2 hy1)
-      (λ l. sloped-within x1 y1 x2 y2 d (omega (arith, tests)) hx2 hy1 hy2))))
+      (λ k. (
+        span-fits x1 (min y1 y2) x1 (max y1 y2) (omega arith) (omega arith) (omega arith) (omega arith),
+        vertical-within (spanRect x1 (min y1 y2) x1 (max y1 y2)) x1 (min y1 y2) (max y1 y2) d (omega arith) (omega arith) (omega arith) (omega arith) (omega arith),
+      ))
+      (λ k. if-cases P (ltb x2 x1) (λ l. slope-lies x2 y2 x1 y1 (omega (arith, tests)) hx1 hy2 hy1) (λ l. slope-lies x1 y1 x2 y2 (omega (arith, tests)) hx2 hy1 hy2))))
     where
       P : Drawing → Type 0
-      P g = within (g .owed) (g .writes) ≡ true
+      P g = (fits 256 0 256 (g .dirty) ≡ true) × (within (g .owed) (g .writes) ≡ true)
+
+      slope-lies : (a b c e : ℕ) → a < c → c < 256 → b < 256 → e < 256 → P (slopedLine a b c e d)
+      slope-lies a b c e o hc hb he = (span-fits a (min b e) c (max b e) (omega arith) (omega arith) (omega arith) (omega arith), sloped-within a b c e d o hc hb he)
+
+  pub line-fits : fits 256 0 256 (line st h x1 y1 x2 y2 d .dirty) ≡ true
+  line-fits = line-lies .0
 
   pub line-owes : OwesItsMark st h (line st h x1 y1 x2 y2 d)
-  line-owes = owes-mark st h (line st h x1 y1 x2 y2 d .owed) (line st h x1 y1 x2 y2 d .writes) line-within
+  line-owes = owes-mark st h (line st h x1 y1 x2 y2 d .owed) (line st h x1 y1 x2 y2 d .writes) (line-lies .1)
