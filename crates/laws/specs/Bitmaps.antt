@@ -20,11 +20,12 @@ use Rattle.model.specs.Rects.{none, fits}
 use Rattle.model.specs.Marks.{within, drawn, drawnOn}
 use Rattle.model.specs.Points.{pointOp, pointWrite}
 use Rattle.model.specs.Bitmaps.{paintOp, sourceStride, maxZero, visible, visibleRect, paintedPixel, paintedLine, paintedLines, bitmap}
-use Rattle.laws.specs.Tests.{tests, if-cases, by-lt}
+use Rattle.laws.specs.Tests.{tests, if-cases, by-lt, by-test}
 use Rattle.laws.specs.Rects.{fits-passes}
 use Rattle.laws.specs.Writes.{draw-append, seen-append, within-append, within-none, within-more, OwesItsMark, owes-mark, drawn-is}
 use Rattle.laws.specs.Points.{both}
 use Rattle.laws.specs.Lines.{on-is}
+use native.Mathlib.Numerals.{add-one}
 
 -- ---- a painted pixel is a point
 
@@ -38,18 +39,12 @@ paintAs Xor s = cond s Draw.Xor Draw.Unknown
 
 paint-point : (m : PaintMode) (s v : Bool) → pointOp (paintAs m s) v ≡ paintOp m s v
 unfolding pointOp paintOp xor
-paint-point Copy true v = refl
-paint-point Copy false v = refl
-paint-point Or true v = refl
-paint-point Or false v = refl
-paint-point Not true v = refl
-paint-point Not false v = refl
-paint-point And true v = refl
-paint-point And false v = refl
-paint-point Xor true true = refl
-paint-point Xor true false = refl
-paint-point Xor false true = refl
-paint-point Xor false false = refl
+paint-point Copy s v = by-test s (λ e. rw e) (λ e. rw e)
+paint-point Or s v = by-test s (λ e. rw e) (λ e. rw e)
+paint-point Not s v = by-test s (λ e. rw e) (λ e. rw e)
+paint-point And s v = by-test s (λ e. rw e) (λ e. rw e)
+paint-point Xor true v = by-test v (λ e. rw e) (λ e. rw e)
+paint-point Xor false v = by-test v (λ e. rw e) (λ e. rw e)
 
 paint-write : (x y : ℕ) (m : PaintMode) (s : Bool) → _≡_ {A = PixelWrite} (pointWrite x y (paintAs m s)) (record { x = x; y = y; op = paintOp m s })
 paint-write x y m s = λ i. record { x = x; y = y; op = λ v. paint-point m s v i }
@@ -65,10 +60,7 @@ max-sub n k = if-cases (λ (z : ℤ). maxZero z ≡ n - k) (ltb n k) (λ e. omeg
 
 pub visible-before : (z n size : ℕ) → visible (negsuc z) n size ≡ record { skip = z + 1; from = 0; to = min (n - (z + 1)) size }
 unfolding visible
-visible-before z n size =
-    let a : suc z ≡ z + 1 = omega arith in
-    let b : maxZero (subℕ n (suc z)) ≡ n - (z + 1) = max-sub n (suc z) ∙ ap (λ (k : ℕ). n - k) a in
-    λ i. record { skip = a i; from = 0; to = min (b i) size }
+visible-before z n size = rw (max-sub n (suc z), add-one z)
 
 pub visible-after : (z n size : ℕ) → visible (pos z) n size ≡ record { skip = 0; from = z; to = min (z + n) size }
 unfolding visible
@@ -102,11 +94,7 @@ module _ (k : ℕ) (source : List ℕ) (m : PaintMode) where
   pub line-turn : (st i j x y to : ℕ) (s e t : List ℕ) → x < to → e ≡ writePixel st s (paintedPixel k source m i j x y)
       → draw st (paintedLine k source m i j x y (to - x)) s ≡ t → draw st (paintedLine k source m (i + 1) j (x + 1) y (to - (x + 1))) e ≡ t
   unfolding paintedLine draw
-  line-turn st i j x y to s e t h w g =
-      let n : to - x ≡ suc (to - (x + 1)) = omega arith in
-      let a : i + 1 ≡ suc i = omega arith in
-      let c : x + 1 ≡ suc x = omega arith in
-      cc
+  line-turn st i j x y to s e t h w g = let n : to - x ≡ suc (to - (x + 1)) = omega arith in cc (add-one i, add-one x)
 
   pub line-end : (st i j x y to : ℕ) (s t : List ℕ) → to ≤ x → draw st (paintedLine k source m i j x y (to - x)) s ≡ t → s ≡ t
   unfolding paintedLine draw
@@ -142,11 +130,7 @@ module _ (k : ℕ) (source : List ℕ) (m : PaintMode) where
         → e ≡ draw st (paintedLine k source m (across .skip) j (across .from) y (across .to - across .from)) s
         → draw st (paintedLines k source m across j y (to - y)) s ≡ t → draw st (paintedLines k source m across (j + 1) (y + 1) (to - (y + 1))) e ≡ t
     unfolding paintedLines
-    lines-turn st j y to s e t h w g =
-        let n : to - y ≡ suc (to - (y + 1)) = omega arith in
-        let a : j + 1 ≡ suc j = omega arith in
-        let c : y + 1 ≡ suc y = omega arith in
-        cc (draw-append st _ _ s)
+    lines-turn st j y to s e t h w g = let n : to - y ≡ suc (to - (y + 1)) = omega arith in cc (add-one j, add-one y, draw-append st _ _ s)
 
     pub lines-end : (st j y to : ℕ) (s t : List ℕ) → to ≤ y → draw st (paintedLines k source m across j y (to - y)) s ≡ t → s ≡ t
     unfolding paintedLines draw
