@@ -10,7 +10,7 @@ use Rattle.model.specs.Geometry.{Geometry, width, height, screenBytes}
 use Rattle.model.specs.Bits.{bitAt}
 use Rattle.model.specs.Pixels.{bit}
 use Rattle.model.specs.Lists.{Differs, differs, sum, differing}
-use Rattle.laws.specs.Tests.{either, same-or-not}
+use Rattle.laws.specs.Tests.{either, same-or-not, by-test}
 
 -- ---- no pixel differs
 
@@ -21,10 +21,7 @@ sum-zero (suc n) f h = omega (arith, sum-zero n f (λ i l. h i (omega arith)), h
 
 pub differs-same : (a b : Bool) → a ≡ b → differs a b ≡ 0
 unfolding differs
-differs-same true true e = refl
-differs-same true false e = cc
-differs-same false true e = cc
-differs-same false false e = refl
+differs-same a b e = rw e (by-test b (λ t. rw t) (λ t. rw t))
 
 pub none-differ : (g : Geometry) (s p : List ℕ) → ((x y : ℕ) → x < width g → y < height g → Differs g s p x y → ⊥) → differing g s p ≡ 0
 unfolding differing
@@ -70,18 +67,12 @@ walk-sum [] q e = refl
 walk-sum (a ∷ p) [] e = absurd (omega arith)
 walk-sum (a ∷ p) (b ∷ q) e = cc (walk-sum p q (suc-inj e), sum-front (length p) (λ i. byteDiffers (getD (a ∷ p) i 0) (getD (b ∷ q) i 0)))
 
-div8 : (q r : ℕ) → r < 8 → (q * 8 + r) / 8 ≡ q
-div8 q r h = omega arith
-
-mod8 : (q r : ℕ) → r < 8 → (q * 8 + r) % 8 ≡ r
-mod8 q r h = omega arith
-
 line : (st y : ℕ) (s p : List ℕ) → sum (8 * st) (λ x. differs (bit st s x y) (bit st p x y)) ≡ sum st (λ q. byteDiffers (getD s (st * y + q) 0) (getD p (st * y + q) 0))
 unfolding bit byteDiffers
 line st y s p =
     ap (λ (n : ℕ). sum n (λ x. differs (bit st s x y) (bit st p x y))) (mul-comm 8 st)
     ∙ sum-mul st 8 (λ x. differs (bit st s x y) (bit st p x y))
-    ∙ sum-ext st _ _ (λ q hq. sum-ext 8 _ _ (λ r hr. rw (div8 q r hr, mod8 q r hr)))
+    ∙ sum-ext st _ _ (λ q hq. sum-ext 8 _ _ (λ r hr. let a : (q * 8 + r) / 8 ≡ q = omega arith in let b : (q * 8 + r) % 8 ≡ r = omega arith in rw (a, b)))
 
 pub differing-bytes : (g : Geometry) (s p : List ℕ) → length s ≡ screenBytes g → length p ≡ screenBytes g → differing g s p ≡ bytesDiffer s p
 unfolding differing

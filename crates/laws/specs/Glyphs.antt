@@ -1,12 +1,12 @@
 -- Codes: a table of rows searched from the first on.
 use mathlib.Core.Path.{_≡_, refl, sym, ap, _∙_}
-use mathlib.Core.Bool.{Bool, true, false, _&&_, and-assoc}
+use mathlib.Core.Bool.{Bool, true, false, _&&_, and-assoc, and-true}
 use mathlib.Core.List.{List, [], _∷_, _++_}
 use Prim.Native.Nat.{ℕ, zero, suc, _+_, _-_, _≤_, _<_, _*_}
 use native.Mathlib.Omega.{arith}
 use native.Mathlib.Nat.{mul-suc}
 use native.Mathlib.Numerals.{add-one}
-use lib.Dec.{leb, eqb}
+use lib.Dec.{leb, eqb, ltb}
 use lib.ListN.{length, getD, set, take, drop, length-set}
 use lib.Seq.{getD-take, getD-drop, drop-cons}
 use borrow.Author.Tests.{leb-true, eq-eqb, ne-eqb, lt-ltb, le-ltb, le-leb, lt-leb}
@@ -16,7 +16,7 @@ use Rattle.model.specs.declared.Glyph.{Glyph}
 use Rattle.model.specs.Bytes.{two, four}
 use Rattle.model.specs.Codes.{CodeRow, codes, emojiRows, inRow, indexIn, emojiIndex, extraFrom}
 use Rattle.model.specs.Glyphs.{glyphOr, Store, flipped, value, paint, fontsFit, columnStores, lineStores}
-use Rattle.laws.specs.Tests.{all-true, by-lt}
+use Rattle.laws.specs.Tests.{all-true, by-lt, tests}
 
 -- ---- rows
 
@@ -35,9 +35,7 @@ module _ {b : Bool} (r : CodeRow) (rs : List CodeRow) (before lead trail : ℕ) 
 -- a code of a row has its first trail or one after it
 pub row-first : {b : Bool} (row first last lead trail : ℕ) → b ≡ inRow (codes row first last) lead trail → b ≡ true → first ≤ trail
 unfolding inRow
-row-first row first last lead trail e t =
-    let a = all-true (eqb lead row ∷ leb first trail ∷ leb trail last ∷ []) (sym e ∙ t) in
-    leb-true first trail (a .1 .0)
+row-first row first last lead trail e t = omega (arith, tests, all-true (eqb lead row ∷ leb first trail ∷ leb trail last ∷ []) (sym e ∙ t))
 
 -- ---- the version, 0 or 1
 
@@ -110,6 +108,10 @@ room-next st place i e n l h =
     let q : e - i ≡ suc (e - (i + 1)) = omega arith in
     omega (arith, mul-suc st (e - (i + 1)), ap (λ (k : ℕ). st * k) q)
 
+-- a place before the last lies in the font where the last one does
+both-below : (i last n : ℕ) → i < last → (ltb i n && leb last n) ≡ leb last n
+both-below i last n l = by-lt i n (λ m. rw (lt-ltb i n m)) (λ m. rw (le-ltb i n m, lt-leb last n (omega arith)))
+
 -- ---- of one byte a line: bytes i up to e of a font
 
 module _ (st : ℕ) (font : List ℕ) (inverse : Bool) where
@@ -127,14 +129,10 @@ module _ (st : ℕ) (font : List ℕ) (inverse : Bool) where
   -- they lie in the font where the last one does
   pub column-fits : (place i h : ℕ) → fontsFit (columnStores st font place i inverse (suc h)) ≡ leb (i + suc h) (length font)
   unfolding columnStores fontsFit
-  column-fits place i zero =
-      by-lt i (length font) (λ l. rw (lt-ltb i (length font) l, le-leb (i + 1) (length font) (omega arith)))
-      (λ l. rw (le-ltb i (length font) l, lt-leb (i + 1) (length font) (omega arith)))
+  column-fits place i zero = cc (and-true (ltb i (length font)), add-one i)
   column-fits place i (suc h) =
       let q : i + 1 + suc h ≡ i + suc (suc h) = omega arith in
-      by-lt i (length font)
-      (λ l. rw (lt-ltb i (length font) l) (column-fits (place + st) (i + 1) h ∙ ap (λ (k : ℕ). leb k (length font)) q))
-      (λ l. rw (le-ltb i (length font) l, lt-leb (i + suc (suc h)) (length font) (omega arith)))
+      cc (column-fits (place + st) (i + 1) h, both-below i (i + suc (suc h)) (length font) (omega arith))
 
 -- ---- of two bytes a line
 
@@ -142,19 +140,12 @@ module _ (st : ℕ) (font : List ℕ) (il ir : Bool) where
   pub lines-fits : (left right i h : ℕ) → fontsFit (lineStores st font left right i il ir (suc h)) ≡ leb (i + 2 * suc h) (length font)
   unfolding lineStores fontsFit
   lines-fits left right i zero =
-      by-lt (i + 1) (length font)
-      (λ l. rw (lt-ltb i (length font) (omega arith), lt-ltb (i + 1) (length font) l, le-leb (i + 2) (length font) (omega arith)))
-      (λ l. by-lt i (length font)
-      (λ m. rw (lt-ltb i (length font) m, le-ltb (i + 1) (length font) l, lt-leb (i + 2) (length font) (omega arith)))
-      (λ m. rw (le-ltb i (length font) m, lt-leb (i + 2) (length font) (omega arith))))
+      let q : suc (i + 1) ≡ i + 2 = omega arith in
+      cc (and-true (ltb (i + 1) (length font)), both-below i (i + 2) (length font) (omega arith))
   lines-fits left right i (suc h) =
       let q : i + 2 + 2 * suc h ≡ i + 2 * suc (suc h) = omega arith in
-      by-lt (i + 1) (length font)
-      (λ l. rw (lt-ltb i (length font) (omega arith), lt-ltb (i + 1) (length font) l)
-      (lines-fits (left + st) (right + st) (i + 2) h ∙ ap (λ (k : ℕ). leb k (length font)) q))
-      (λ l. by-lt i (length font)
-      (λ m. rw (lt-ltb i (length font) m, le-ltb (i + 1) (length font) l, lt-leb (i + 2 * suc (suc h)) (length font) (omega arith)))
-      (λ m. rw (le-ltb i (length font) m, lt-leb (i + 2 * suc (suc h)) (length font) (omega arith))))
+      let last = i + 2 * suc (suc h) in
+      cc (lines-fits (left + st) (right + st) (i + 2) h, both-below (i + 1) last (length font) (omega arith), both-below i last (length font) (omega arith))
 
 -- a glyph by value: h lines of two bytes, from byte i of a part of a font on
 abbrev pub glyphLines : List ℕ → ℕ → ℕ → List (List ℕ)

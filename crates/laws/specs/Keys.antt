@@ -20,17 +20,10 @@ use Rattle.laws.specs.Tests.{if-cases}
 use Rattle.laws.specs.Layout.{word-at}
 use Rattle.laws.specs.Windows.{keys-part}
 
--- the key words, read where they stand
-pub keys-here : (v : Glass) (r : List ℕ) → Suits v → decode (geometry v) r .keys ≡ wordsAt 8 r (v .keys)
-unfolding decode
-keys-here v r z = keys-part (geometry v) r ∙ ap (wordsAt 8 r) (sym (z .is-keys))
-
 pub key-test : (v : Glass) (r : List ℕ) (a : ℕ) {w : ℕ} → Suits v → a < 256 → w ≡ four r (v .keys + 4 * (a / 32))
     → eqb (w / 2 ^ (a % 32) % 2) 1 ≡ isKey (decode (geometry v) r .keys) a
-unfolding isKey bitAt
-key-test v r a z h e =
-    let k = v .keys in
-    cc (word-at 8 r k (a / 32) (omega arith), lt-ltb a 256 h, keys-here v r z)
+unfolding isKey bitAt decode
+key-test v r a z h e = cc (word-at 8 r (v .keys) (a / 32) (omega arith), lt-ltb a 256 h, keys-part (geometry v) r, z .is-keys)
 
 pub no-key : (keys : List ℕ) (a : ℕ) → 256 ≤ a → false ≡ isKey keys a
 unfolding isKey

@@ -8,14 +8,14 @@ use native.Mathlib.Nat.{zero-mul, zero-add, suc-add, le-of-lt, mul-le-mul-right,
 use native.Mathlib.Omega.{arith}
 use native.Mathlib.Numerals.{add-one}
 use lib.ListN.{length, getD, set, take, drop, replicate, length-append, length-drop, length-replicate, replicate-append-replicate, drop-of-length-le, length-set, List·getD-eq-default}
-use lib.Seq.{getD-append-add, getD-drop, length-take-le, take-all, drop-append-le, drop-drop, drop-cons}
+use lib.Seq.{getD-append-add, getD-drop, length-take-le, take-all, drop-append-le, drop-drop, drop-cons, drop-at}
 use lib.Arith.{digits-lt}
 use lib.Dec.{leb, eqb, ltb}
 use borrow.Author.Tests.{eqb-true, eqb-false, leb-true, le-leb, ltb-true, ltb-false, not-true, not-false}
 use Rattle.model.specs.Memory.{withWindow, zeros}
 use Rattle.model.specs.Print.{scrolled, scrolledTimes, Page, scrollPage, nextRow, newlineOn, cellOf, writeCell, space, wrap, endRow, printByte, printPair, printBytes, clearUntil, clearFrom, clearAfter, printOn}
 use Rattle.laws.specs.Memory.{append-window}
-use Rattle.laws.specs.Tests.{by-lt, if-cases, and-true, and-false}
+use Rattle.laws.specs.Tests.{by-lt, if-cases, and-true, and-false, tests, either}
 use Rattle.laws.specs.Loops.{copy-turn, length-zeros}
 
 -- ---- the loop
@@ -63,18 +63,13 @@ times-once (suc n) k s h =
     let past = drop-append-le (n * k) (drop k s) (replicate k 0) (simp length-drop (omega arith)) in
     cc (drop-drop (n * k) k s, append-assoc (drop (k + n * k) s) (replicate k 0) (replicate (n * k) 0), replicate-append-replicate {A = ℕ} k (n * k) 0)
 
-drop-zeros : (k m : ℕ) → drop k (zeros m) ≡ zeros (m - k)
-unfolding zeros
-drop-zeros zero m = let e : m ≡ m - 0 = omega arith in ap zeros e
-drop-zeros (suc k) zero = let e : 0 ≡ 0 - suc k = omega arith in ap zeros e
-drop-zeros (suc k) (suc m) = let e : m - k ≡ suc m - suc k = omega arith in drop-zeros k m ∙ ap zeros e
-
 -- a blank screen stays blank
 blank-once : (k m : ℕ) → k ≤ m → scrolled k 0 (zeros m) ≡ zeros m
 unfolding scrolled zeros
 blank-once k m h =
-    let e : m - k + k ≡ m = omega arith in
-    ap (λ (x : List ℕ). x ++ zeros k) (drop-zeros k m) ∙ replicate-append-replicate (m - k) k 0 ∙ ap zeros e
+    let e : k + (m - k) ≡ m = omega arith in
+    let f : m - k + k ≡ m = omega arith in
+    cc (replicate-append-replicate {A = ℕ} k (m - k) 0, replicate-append-replicate {A = ℕ} (m - k) k 0, drop-at (zeros k) (zeros (m - k)) k (length-zeros k))
 
 blank-times : (n k m : ℕ) → k ≤ m → scrolledTimes n k (zeros m) ≡ zeros m
 unfolding scrolledTimes
@@ -134,38 +129,23 @@ module _ (rows columns : ℕ) where
   pub newline-sheet : (m n : ℕ) (p : Page) → n ≤ columns → Sheet rows columns m p → Sheet rows columns n (newlineOn rows columns p)
   unfolding newlineOn scrollPage nextRow
   newline-sheet m n p h s =
-      if-cases (Sheet rows columns n) (eqb (p .column) 0)
-      (λ e. let z = eqb-true (p .column) 0 e in record { wide = s .wide; text = s .text; flags = s .flags; row = s .row; room = omega arith })
+      let k = row-in (p .row) (s .row) in
+      if-cases (Sheet rows columns n) (eqb (p .column) 0) (λ e. omega (arith, tests))
       (λ e. if-cases (Sheet rows columns n) (eqb (p .row + 1) rows)
-      (λ f. record {
-        wide = s .wide;
-        text = length-scrolled columns 0 (p .text) (rw (s .text) (row-in (p .row) (s .row))) ∙ s .text;
-        flags = length-scrolled columns false (p .flags) (rw (s .flags) (row-in (p .row) (s .row))) ∙ s .flags;
-        row = s .row;
-        room = omega arith;
-      })
-      (λ f. let z = eqb-false (p .row + 1) rows f in
-      record { wide = s .wide; text = s .text; flags = s .flags; row = omega (arith, s .row); room = omega arith }))
+      (λ f. omega (arith, length-scrolled columns 0 (p .text) (omega arith), length-scrolled columns false (p .flags) (omega arith)))
+      (λ f. omega (arith, tests)))
 
   pub end-sheet : (p : Page) → Sheet rows columns 0 p → Sheet rows columns 1 (endRow rows columns p)
   unfolding endRow
   end-sheet p s =
-      if-cases (Sheet rows columns 1) (eqb (p .column) columns) (λ e. newline-sheet 0 1 p (omega (arith, s .wide)) s)
-      (λ e. let z = eqb-false (p .column) columns e in
-      record { wide = s .wide; text = s .text; flags = s .flags; row = s .row; room = omega (arith, s .room) })
+      if-cases (Sheet rows columns 1) (eqb (p .column) columns) (λ e. newline-sheet 0 1 p (omega arith) s) (λ e. omega (arith, tests))
 
   -- ---- print
 
   module _ (v : Bool) where
     pub write-sheet : (n b : ℕ) (p : Page) → Sheet rows columns (suc n) p → Sheet rows columns n (writeCell columns v b p)
     unfolding writeCell
-    write-sheet n b p s = record {
-      wide = s .wide;
-      text = length-set (p .text) (cellOf columns p) b ∙ s .text;
-      flags = length-set (p .flags) (cellOf columns p) v ∙ s .flags;
-      row = s .row;
-      room = omega (arith, s .room);
-    }
+    write-sheet n b p s = omega (arith, length-set (p .text) (cellOf columns p) b, length-set (p .flags) (cellOf columns p) v)
 
     pub wrap-sheet : (b : ℕ) (p : Page) → Sheet rows columns 1 p → Sheet rows columns 1 (wrap rows columns v b p)
     unfolding wrap
@@ -179,9 +159,7 @@ module _ (rows columns : ℕ) where
     wrap-pair b p h s =
         rw (le-leb 128 b h)
         (if-cases (Sheet rows columns 2) (eqb (p .column + 1) columns)
-        (λ e. newline-sheet 0 2 (writeCell columns v space p) (s .wide) (write-sheet 0 space p s))
-        (λ e. let z = eqb-false (p .column + 1) columns e in
-        record { wide = s .wide; text = s .text; flags = s .flags; row = s .row; room = omega (arith, s .room) }))
+        (λ e. newline-sheet 0 2 (writeCell columns v space p) (s .wide) (write-sheet 0 space p s)) (λ e. omega (arith, tests)))
 
     pub byte-sheet : (b : ℕ) (p : Page) → Sheet rows columns 1 p → Sheet rows columns 1 (printByte rows columns v b p)
     unfolding printByte
@@ -207,7 +185,7 @@ module _ (rows columns : ℕ) where
     print-sheet bs p s =
         let q = printBytes rows columns v bs p in
         let k = bytes-sheet bs p s in
-        record { wide = k .wide; text = length-clear (cellOf columns q) (q .text) ∙ k .text; flags = k .flags; row = k .row; room = k .room }
+        omega (arith, length-clear (cellOf columns q) (q .text))
 
 -- What the loops of printing do, turn by turn: the bytes of a text, and the clearing after them.
 
@@ -225,11 +203,8 @@ module _ (rows columns : ℕ) (v : Bool) where
       → printBytes rows columns v (drop i bs) p ≡ printBytes rows columns v (drop (i + 1) bs) (printByte rows columns v (getD bs i 0) p)
   byte-turn bs i p h e =
       let b = getD bs i 0 in
-      cc (drop-cons bs i 0 h, alone b (drop (suc i) bs) p (last (and-false (leb 128 b) (ltb (i + 1) (length bs)) e)), add-one i)
-    where
-      last : (leb 128 (getD bs i 0) ≡ false) ⊎ (ltb (i + 1) (length bs) ≡ false) → (leb 128 (getD bs i 0) ≡ false) ⊎ (drop (suc i) bs ≡ [])
-      last (inl f) = inl f
-      last (inr f) = inr (drop-of-length-le bs {i = suc i} (let z = ltb-false (i + 1) (length bs) f in omega arith))
+      let last = either (and-false (leb 128 b) (ltb (i + 1) (length bs)) e) inl (λ f. inr (drop-of-length-le bs {i = suc i} (omega (arith, tests)))) in
+      cc (drop-cons bs i 0 h, alone b (drop (suc i) bs) p last, add-one i)
 
   pub pair-turn : (bs : List ℕ) (i : ℕ) (p : Page) → (leb 128 (getD bs i 0) && ltb (i + 1) (length bs)) ≡ true
       → printBytes rows columns v (drop i bs) p ≡ printBytes rows columns v (drop (i + 2) bs) (printPair rows columns v (getD bs i 0) (getD bs (i + 1) 0) p)
