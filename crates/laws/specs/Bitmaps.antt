@@ -5,6 +5,7 @@ use mathlib.Core.Bool.{Bool, true, false, cond, xor}
 use mathlib.Core.List.{List, [], _∷_, _++_}
 use Prim.Native.Nat.{ℕ, zero, suc, _+_, _-_, _*_, _≤_, _<_, min}
 use native.Mathlib.Omega.{arith}
+use native.Mathlib.Numerals.{add-one}
 use lib.Dec.{ltb}
 use lib.IntN.{ℤ, pos, negsuc, subℕ}
 use borrow.Author.Tests.{lt-ltb, le-ltb}
@@ -25,7 +26,6 @@ use Rattle.laws.specs.Rects.{fits-passes}
 use Rattle.laws.specs.Writes.{draw-append, seen-append, within-append, within-none, within-more, OwesItsMark, owes-mark, drawn-is}
 use Rattle.laws.specs.Points.{both}
 use Rattle.laws.specs.Lines.{on-is}
-use native.Mathlib.Numerals.{add-one}
 
 -- ---- a painted pixel is a point
 

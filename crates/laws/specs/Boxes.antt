@@ -5,6 +5,7 @@ use mathlib.Core.List.{List, [], _∷_, _++_}
 use Prim.Native.Nat.{ℕ, zero, suc, _+_, _-_, _*_, _≤_, _<_, min, max}
 use native.Mathlib.Nat.{mul-le-mul-left}
 use native.Mathlib.Omega.{arith}
+use native.Mathlib.Numerals.{add-one, sub-one}
 use lib.Dec.{eqb, ltb}
 use lib.ListN.{length}
 use Rattle.model.specs.declared.Rect.{Rect}
@@ -21,7 +22,6 @@ use Rattle.laws.specs.Writes.{drawn-append, within-none, within-append, 
 use Rattle.laws.specs.Lines.{solid, horizontal-in, filled-in, span-fits, horizontal-within, horizontal-drawn, vertical-within}
 use Rattle.laws.specs.Points.{bothLowered}
 use Rattle.laws.specs.Runs.{maskedBytes, bytes-append, bytes-run, bytes-kept}
-use native.Mathlib.Numerals.{add-one, sub-one}
 
 -- ---- no write lies outside
 

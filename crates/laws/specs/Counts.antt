@@ -1,6 +1,6 @@
 -- The count of differing pixels: nought where none differs, and counted byte by byte the same number, by a walk over the two lists.
 use mathlib.Core.Path.{_≡_, refl, sym, ap, ap₂, _∙_}
-use mathlib.Core.Bool.{Bool, true, false}
+use mathlib.Core.Bool.{Bool}
 use mathlib.Core.List.{List, [], _∷_}
 use Prim.Native.Nat.{ℕ, zero, suc, _+_, _-_, _*_, _/_, _%_, _<_}
 use native.Mathlib.Nat.{add-suc, add-zero, suc-mul, zero-mul, mul-comm, suc-inj}

@@ -4,17 +4,16 @@ use mathlib.Core.Logic.{inl, inr}
 use mathlib.Core.Bool.{Bool, true, false, not, cond, _||_}
 use mathlib.Core.List.{List, [], _∷_, _++_}
 use Prim.Native.Nat.{ℕ, _+_, _-_, _*_, _≤_, _<_, max}
-use native.Mathlib.Nat.{zero-min}
 use native.Mathlib.Omega.{arith}
 use lib.Dec.{ltb, leb, eqb}
-use borrow.Author.Tests.{leb-true, le-ltb}
+use borrow.Author.Tests.{le-ltb}
 use Rattle.model.specs.declared.Rect.{Rect}
 use Rattle.model.specs.declared.DrawMode.{DrawMode}
 use Rattle.model.specs.Pixels.{PixelWrite, onScreen, seen, draw}
 use Rattle.model.specs.Rects.{none, fits, lowered, In}
-use Rattle.model.specs.Marks.{whole, within, owes, Drawing, drawn, drawnOn}
+use Rattle.model.specs.Marks.{whole, within, owes, drawn, drawnOn}
 use Rattle.model.specs.Points.{point, pointWrite}
-use Rattle.model.specs.Ellipses.{Part, parts, steps, up, down, corners, chord, chords, partWrites, partsWrites, wraps, ellipseMark, ellipseDrawn, isPoint, isNothing, ellipse, radiiFit, stepsFit, part}
+use Rattle.model.specs.Ellipses.{Part, parts, up, down, corners, chord, chords, partWrites, partsWrites, wraps, ellipseMark, ellipseDrawn, isPoint, isNothing, ellipse, radiiFit, stepsFit, part}
 use Rattle.model.specs.declared.Marks.{Marks}
 use Rattle.model.specs.Lines.{horizontal}
 use Rattle.laws.specs.Tests.{tests, if-cases, by-test, either, and-true, and-false, or-right, neither, clash}

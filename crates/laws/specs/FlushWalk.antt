@@ -1,12 +1,12 @@
 -- The walk of a flush: what is shown from a spot on, one step at a time. Reading is ahead by at most the row number.
-use mathlib.Core.Path.{_≡_, refl, sym, ap, _∙_}
+use mathlib.Core.Path.{_≡_, refl, sym, ap}
 use mathlib.Core.List.{List, [], _∷_}
 use Prim.Native.Nat.{ℕ, zero, suc, _+_, _-_, _*_, _≤_, _<_}
 use native.Mathlib.Nat.{mul-suc, suc-mul}
 use native.Mathlib.Numerals.{add-one}
 use native.Mathlib.Omega.{arith}
-use borrow.Author.Tests.{lt-ltb, le-ltb}
 use lib.Dec.{ltb}
+use borrow.Author.Tests.{lt-ltb, le-ltb}
 use Rattle.model.specs.declared.Spot.{Spot}
 use Rattle.model.specs.declared.CellKind.{CellKind}
 use Rattle.model.specs.declared.CellKind.the-variants.{Blank, Single, Pair, Code}

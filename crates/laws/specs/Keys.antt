@@ -5,11 +5,11 @@ use mathlib.Core.Bool.{Bool, true, false}
 use Prim.Native.Nat.{ℕ, zero, suc, _+_, _*_, _/_, _%_, _^_, _<_, _≤_}
 use native.Mathlib.Numerals.{add-one}
 use native.Mathlib.Omega.{arith}
-use borrow.Author.Tests.{lt-ltb, le-ltb}
 use lib.Dec.{eqb}
 use lib.ListN.{length, set, length-set}
+use borrow.Author.Tests.{lt-ltb, le-ltb}
 use Rattle.model.specs.Bits.{bitAt}
-use Rattle.model.specs.Bytes.{four, wordsAt}
+use Rattle.model.specs.Bytes.{four}
 use Rattle.model.specs.Geometry.{memoryBytes}
 use Rattle.model.specs.Memory.{zeros}
 use Rattle.model.specs.declared.glass.Glass.{Glass}

@@ -6,8 +6,9 @@ use mathlib.Core.Logic.{inr, inl, _⊎_}
 use Prim.Native.Nat.{ℕ, zero, suc, _+_, _-_, _*_, _≤_, _<_, min, _%_, max}
 use native.Mathlib.Omega.{arith}
 use native.Mathlib.Nat.{mul-le-mul-left, mul-le-mul-right, add-mul-mod-self-right}
+use native.Mathlib.Numerals.{add-one, sub-one}
 use lib.Dec.{leb, ltb, eqb}
-use borrow.Author.Tests.{lt-ltb, le-ltb, leb-true, le-leb, ltb-true, eq-eqb, ne-eqb}
+use borrow.Author.Tests.{lt-ltb, le-ltb, leb-true, le-leb, eq-eqb, ne-eqb}
 use Rattle.model.specs.declared.DrawMode.{DrawMode}
 use Rattle.model.specs.declared.DrawMode.the-variants.{Clear, Or, Xor, Unknown}
 use Rattle.model.specs.Pixels.{PixelWrite, draw, seen, Screen, onScreen, writePixel}
@@ -22,7 +23,6 @@ use Rattle.laws.specs.Tests.{clash, tests, by-test, by-lt, if-cases, eit
 use Rattle.laws.specs.Rects.{fits-passes}
 use Rattle.laws.specs.Writes.{within-none, within-more, drawn-is, drawn-append, OwesItsMark, owes-mark}
 use Rattle.laws.specs.Points.{both, bothLowered}
-use native.Mathlib.Numerals.{add-one, sub-one}
 
 -- the mode that a horizontal draws in
 unfoldable pub solid : DrawMode → DrawMode

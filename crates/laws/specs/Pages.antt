@@ -11,7 +11,7 @@ use lib.ListN.{length, getD, set, take, drop, replicate, length-append, length-d
 use lib.Seq.{getD-append-add, getD-drop, length-take-le, take-all, drop-append-le, drop-drop, drop-cons, drop-at}
 use lib.Arith.{digits-lt}
 use lib.Dec.{leb, eqb, ltb}
-use borrow.Author.Tests.{eqb-true, eqb-false, leb-true, le-leb, ltb-true, ltb-false, not-true, not-false}
+use borrow.Author.Tests.{eqb-false, leb-true, le-leb, ltb-true, not-true, not-false}
 use Rattle.model.specs.Memory.{withWindow, zeros}
 use Rattle.model.specs.Print.{scrolled, scrolledTimes, Page, scrollPage, nextRow, newlineOn, cellOf, writeCell, space, wrap, endRow, printByte, printPair, printBytes, clearUntil, clearFrom, clearAfter, printOn}
 use Rattle.laws.specs.Memory.{append-window}

@@ -9,7 +9,7 @@ use lib.Bits.{bitAnd, bitOr, bitXor}
 use lib.Dec.{ltb, eqb}
 use lib.IntN.{ℤ, pos, negsuc}
 use lib.ListN.{length, getD, set}
-use borrow.Author.Tests.{eqb-true, ltb-true, lt-ltb, le-ltb}
+use borrow.Author.Tests.{eqb-true, lt-ltb, le-ltb}
 use Rattle.model.specs.declared.Rect.{Rect}
 use Rattle.model.specs.declared.Marks.{Marks}
 use Rattle.model.specs.declared.DrawMode.{DrawMode}

@@ -1,19 +1,20 @@
 -- A run of pixels of a line done by bytes: a mask for the first byte, a mask for the last, whole bytes between them.
 -- `Run` says by pixels what such a run leaves; runs that meet are one run; two runs with the same change leave the same bytes.
-use mathlib.Core.Path.{_≡_, refl, sym, ap, ap₂, _∙_, subst⁻¹}
+use mathlib.Core.Path.{_≡_, refl, sym, ap, ap₂, _∙_}
 use mathlib.Core.Logic.{inl, inr}
 use mathlib.Core.Bool.{Bool, true, false, cond, _&&_, Bool·beq, and-true as and-yes, not, xor}
 use mathlib.Core.List.{List, [], _∷_, _++_}
 use Prim.Native.Nat.{ℕ, zero, suc, _+_, _-_, _*_, _/_, _%_, _^_, _≤_, _<_}
 use native.Mathlib.Nat.{div-le-self, add-zero, zero-add, suc-add, add-suc, mul-le-mul-left}
 use native.Mathlib.Omega.{arith}
+use native.Mathlib.Numerals.{add-one}
 use lib.Dec.{leb, ltb}
 use lib.Bits.{bitAnd, and-lt, bitXor, xor-lt, and-le-l, and-le-r}
 use lib.ListN.{length, getD, set, length-set}
 use lib.Seq.{getD-set-same, getD-set-other}
 use borrow.Author.Tests.{le-leb, lt-leb, lt-ltb, le-ltb}
 use Rattle.model.specs.Bits.{bitAt}
-use Rattle.model.specs.Pixels.{place, bit, put, PixelWrite, writePixel, draw, copyRun, Screen, seen}
+use Rattle.model.specs.Pixels.{place, bit, put, writePixel, draw, copyRun, Screen, seen}
 use Rattle.model.specs.Bytes.{Bytes}
 use Rattle.model.specs.declared.DrawMode.{DrawMode}
 use Rattle.model.specs.declared.DrawMode.the-variants.{Clear, Or, Xor, Unknown}
@@ -26,7 +27,6 @@ use Rattle.laws.specs.Pixels.{place-line, length-put, put-same, put-othe
 use Rattle.laws.specs.Writes.{draw-append, drawn-append, screen-draw}
 use Rattle.laws.specs.Points.{maskOf, seen-one, seen-none}
 use Rattle.laws.specs.Lines.{on-is, off-is}
-use native.Mathlib.Numerals.{add-one}
 
 -- ---- the masks
 

@@ -9,14 +9,14 @@ use lib.Arith.{digits-div, digits-mod}
 use lib.ListN.{set, length}
 use lib.Seq.{getD-set-other}
 use lib.Dec.{ltb}
-use borrow.Author.Tests.{ltb-true, leb-true, le-leb, lt-ltb}
+use borrow.Author.Tests.{ltb-true}
 use Rattle.model.specs.declared.Rect.{Rect}
 use Rattle.model.specs.Pixels.{bit, place, onScreen, PixelWrite, draw, seen, Screen, writePixel}
-use Rattle.model.specs.Rects.{In, inside, insideTests}
+use Rattle.model.specs.Rects.{In, inside}
 use Rattle.model.specs.Marks.{whole, within, owes, Drawing, drawn, drawnOn}
 use Rattle.model.specs.Poke.{byteRect}
 use Rattle.model.specs.declared.Marks.{Marks}
-use Rattle.laws.specs.Tests.{if-cases, and-true, all-true, true-all, by-test, by-eq}
+use Rattle.laws.specs.Tests.{if-cases, and-true, by-test, by-eq}
 use Rattle.laws.specs.Pixels.{Each, draw-other, length-draw}
 use Rattle.laws.specs.Rects.{inside-in, in-inside}
 
