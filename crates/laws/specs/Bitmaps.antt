@@ -18,14 +18,14 @@ use Rattle.model.specs.declared.PaintMode.{PaintMode}
 use Rattle.model.specs.declared.PaintMode.the-variants.{Copy, Or, Not, And, Xor}
 use Rattle.model.specs.Pixels.{PixelWrite, bit, writePixel, draw, seen}
 use Rattle.model.specs.Rects.{none, fits}
-use Rattle.model.specs.Marks.{within, drawn, drawnOn}
+use Rattle.model.specs.Marks.{within, drawn, drawnOn, whole}
 use Rattle.model.specs.Points.{pointOp, pointWrite}
 use Rattle.model.specs.Bitmaps.{paintOp, sourceStride, maxZero, visible, visibleRect, paintedPixel, paintedLine, paintedLines, bitmap}
 use Rattle.laws.specs.Tests.{tests, if-cases, by-lt, by-test}
 use Rattle.laws.specs.Rects.{fits-passes}
 use Rattle.laws.specs.Writes.{draw-append, seen-append, within-append, within-none, within-more, OwesItsMark, owes-mark, drawn-is}
 use Rattle.laws.specs.Points.{both}
-use Rattle.laws.specs.Lines.{on-is}
+use Rattle.laws.specs.Lines.{all-seen}
 
 -- ---- a painted pixel is a point
 
@@ -83,13 +83,6 @@ module _ (k : ℕ) (source : List ℕ) (m : PaintMode) where
   line-within r i j x y zero a b e f = within-none r
   line-within r i j x y (suc n) a b e f = within-more r _ (paintedLine k source m (suc i) j (suc x) y n) (omega arith) (line-within r (suc i) j (suc x) y n (omega arith) (omega arith) e f)
 
-  line-seen : (st h i j x y n : ℕ) → x + n ≤ 8 * st → y < h → seen st h (paintedLine k source m i j x y n) ≡ paintedLine k source m i j x y n
-  unfolding paintedLine seen
-  line-seen st h i j x y zero a b = refl
-  line-seen st h i j x y (suc n) a b =
-      rw (on-is st h x y (omega arith) b)
-      (ap (λ (l : List PixelWrite). paintedPixel k source m i j x y ∷ l) (line-seen st h (suc i) j (suc x) y n (omega arith) b))
-
   -- what is left of a line, painted on what stands, gives the whole
   pub line-turn : (st i j x y to : ℕ) (s e t : List ℕ) → x < to → e ≡ writePixel st s (paintedPixel k source m i j x y)
       → draw st (paintedLine k source m i j x y (to - x)) s ≡ t → draw st (paintedLine k source m (i + 1) j (x + 1) y (to - (x + 1))) e ≡ t
@@ -111,14 +104,6 @@ module _ (k : ℕ) (source : List ℕ) (m : PaintMode) where
         within-append r _ (paintedLines k source m across (suc j) (suc y) n)
         (line-within r (across .skip) j (across .from) y (across .to - across .from) a (omega arith) e (omega arith))
         (lines-within r (suc j) (suc y) n a o b (omega arith) (omega arith))
-
-    lines-seen : (st h j y n : ℕ) → across .from < across .to → across .to ≤ 8 * st → y + n ≤ h
-        → seen st h (paintedLines k source m across j y n) ≡ paintedLines k source m across j y n
-    unfolding paintedLines seen
-    lines-seen st h j y zero o a b = refl
-    lines-seen st h j y (suc n) o a b =
-        seen-append st h (paintedLine k source m (across .skip) j (across .from) y (across .to - across .from)) (paintedLines k source m across (suc j) (suc y) n)
-        ∙ (λ i. line-seen st h (across .skip) j (across .from) y (across .to - across .from) (omega arith) (omega arith) i ++ lines-seen st h (suc j) (suc y) n o a (omega arith) i)
 
     -- where the axis shows nothing there is no pixel
     lines-none : (j y n : ℕ) → across .to ≤ across .from → paintedLines k source m across j y n ≡ []
@@ -198,8 +183,8 @@ module _ (st h : ℕ) (source : List ℕ) (x y : ℤ) (w n : ℕ) (m : PaintMode
     bitmap-painted e {k} a b f g =
         let i : across .to ≤ 8 * st = rw p (visible-in x w (8 * st) (rw p at a) .1) in
         let j : down .to ≤ h = rw q (visible-in y n h (rw q at b) .1) in
-        same-bitmap e k (f ∙ ap both (sym (rect-visible across down a b)))
-        (g ∙ ap (λ (l : List PixelWrite). draw st l s) (sym (lines-seen (sourceStride w) source m across st h (down .skip) (down .from) (down .to - down .from) a i (omega arith))))
+        let in-screen = lines-within (sourceStride w) source m across (whole st h) (down .skip) (down .from) (down .to - down .from) (omega arith) a i (omega arith) (omega arith) in
+        same-bitmap e k (f ∙ ap both (sym (rect-visible across down a b))) (cc (all-seen st h (writes-of across down) in-screen))
 
     pub bitmap-beside : {k : Marks} → across .to ≤ across .from → k ≡ both none → drawn k s ≡ drawnOn st h (bitmap st h source x y w n m) s
     unfolding seen draw

@@ -54,17 +54,12 @@ unfolding advanced moves
 moved r radius a d l h = by-test (ltb ((fed radius a + 256 - r) % 256) 128) (λ e. rw e (inl (omega (arith, tests)))) (λ e. rw e (inr (omega (arith, tests))))
 
 x-moved : (r rx p : ℕ) (a : Axis) → OnX r rx (suc p) a → 0 < r → rx ≤ r → r ≤ 127 → AtX r rx p (advanced r rx a)
-x-moved r rx p a o z l h = either (moved r rx a (o .at .delta) l h) reached (λ m. rw (m .1, m .2) (omega arith))
-  where
-    some : (t : ℕ) → r ≤ t * r → 0 < t
-    some zero e = absurd (omega arith)
-    some (suc t) e = omega arith
-
-    reached : Reaches r rx a → AtX r rx p (advanced r rx a)
-    reached m =
-        let q : 0 < a .tmp = some (a .tmp) (omega arith) in
-        let e : suc (advanced r rx a .tmp) ≡ a .tmp = omega arith in
-        omega (arith, ap (λ (t : ℕ). t * r) e)
+x-moved r rx p a o z l h =
+    either (moved r rx a (o .at .delta) l h)
+    (λ m. by-lt 0 (a .tmp)
+    (λ s. let e : suc (advanced r rx a .tmp) ≡ a .tmp = omega arith in omega (arith, ap (λ (t : ℕ). t * r) e))
+    (λ s. let e : a .tmp ≡ 0 = omega arith in absurd (omega (arith, ap (λ (t : ℕ). t * r) e))))
+    (λ m. rw (m .1, m .2) (omega arith))
 
 -- the last step along x brings tmp to 0
 x-last : (r rx : ℕ) (a : Axis) → OnX r rx 1 a → 0 < r → rx ≤ r → r ≤ 127 → advanced r rx a .tmp ≡ 0
@@ -150,23 +145,21 @@ each-append : {A : Type 0} (P : A → Type 0) (l m : List A) → Each P l → Ea
 each-append P [] m a b = b
 each-append P (x ∷ l) m a b = (a .0, each-append P l m (a .1) b)
 
-module _ (r rx ry : ℕ) (q : Radii r rx ry) where
-  on-start : OnWay r rx ry (r + r) (start r rx)
-  unfolding start
-  on-start = record {
-    p = r - 1;
-    j = 0;
-    walking = record {
-      x = record { f = omega arith; neg = refl; inc = refl; at = record { delta = q .some; tmp = omega arith; on = omega (arith, ap (λ (n : ℕ). n * rx) whole) } };
-      y = record { f = omega arith; neg = refl; inc = refl; delta = q .some; tmp = omega arith; on = omega arith };
-      circle = omega (arith, ap (λ (n : ℕ). n * n) whole);
-    };
-    left = omega arith;
-  }
-    where
-      whole : suc (r - 1) ≡ r
-      whole = omega arith
+on-start : (r rx ry : ℕ) → Radii r rx ry → OnWay r rx ry (r + r) (start r rx)
+unfolding start
+on-start zero rx ry q = absurd (omega arith)
+on-start (suc p) rx ry q = record {
+  p = p;
+  j = 0;
+  walking = record {
+    x = record { f = omega arith; neg = refl; inc = refl; at = omega arith };
+    y = record { f = omega arith; neg = refl; inc = refl; delta = omega arith; tmp = omega arith; on = omega arith };
+    circle = omega arith;
+  };
+  left = omega arith;
+}
 
+module _ (r rx ry : ℕ) (q : Radii r rx ry) where
   -- ---- one step
 
   -- a step along y is made only before r

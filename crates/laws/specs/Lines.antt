@@ -16,11 +16,11 @@ use Rattle.model.specs.Lines.{isUnknown, runOp, pixelRun, horizontal, spanRect,
 use Rattle.model.specs.Boxes.{boxRows, filledBox}
 use Rattle.model.specs.declared.Rect.{Rect}
 use Rattle.model.specs.declared.Marks.{Marks}
-use Rattle.model.specs.Rects.{lowered, fits, none}
-use Rattle.model.specs.Marks.{within, drawn, drawnOn, Drawing, Drawn, owes}
+use Rattle.model.specs.Rects.{lowered, fits, none, inside}
+use Rattle.model.specs.Marks.{within, drawn, drawnOn, Drawing, Drawn, owes, whole}
 use Rattle.model.specs.Points.{pointWrite}
-use Rattle.laws.specs.Tests.{clash, tests, by-test, by-lt, if-cases, either}
-use Rattle.laws.specs.Rects.{fits-passes}
+use Rattle.laws.specs.Tests.{clash, tests, by-test, by-lt, if-cases, either, and-true}
+use Rattle.laws.specs.Rects.{fits-passes, inside-in}
 use Rattle.laws.specs.Writes.{within-none, within-more, drawn-is, drawn-append, OwesItsMark, owes-mark}
 use Rattle.laws.specs.Points.{both, bothLowered}
 
@@ -85,17 +85,21 @@ unfolding onScreen
 off-is st h x y (inl o) = rw (le-ltb x (8 * st) o)
 off-is st h x y (inr o) = by-test (ltb x (8 * st)) (λ e. rw (e, le-ltb y h o)) (λ e. rw e)
 
+-- all of a list does where it lies in the screen
+pub all-seen : (st h : ℕ) (ws : List PixelWrite) → within (whole st h) ws ≡ true → seen st h ws ≡ ws
+unfolding within seen
+all-seen st h [] e = refl
+all-seen st h (w ∷ ws) e =
+    let p = and-true (inside (whole st h) (w .x) (w .y)) (within (whole st h) ws) e in
+    let k = inside-in (whole st h) (w .x) (w .y) (p .0) in
+    rw (on-is st h (w .x) (w .y) (omega arith) (omega arith), all-seen st h ws (p .1))
+
 -- ---- a run of a line
 
 pub run-within : (r : Rect) (x y n : ℕ) (d : DrawMode) → r .left ≤ x → x + n ≤ r .right → r .top ≤ y → y < r .bottom → within r (pixelRun x y n d) ≡ true
 unfolding pixelRun
 run-within r x y zero d a b e f = within-none r
 run-within r x y (suc n) d a b e f = within-more r _ (pixelRun (suc x) y n d) (omega arith) (run-within r (suc x) y n d (omega arith) (omega arith) e f)
-
-pub run-seen : (st h x y n : ℕ) (d : DrawMode) → x + n ≤ 8 * st → y < h → seen st h (pixelRun x y n d) ≡ pixelRun x y n d
-unfolding pixelRun seen
-run-seen st h x y zero d a b = refl
-run-seen st h x y (suc n) d a b = rw (on-is st h x y (omega arith) b) (ap (λ (l : List PixelWrite). record { x = x; y = y; op = runOp d } ∷ l) (run-seen st h (suc x) y n d (omega arith) b))
 
 -- ---- a horizontal
 
@@ -149,7 +153,8 @@ pub horizontal-drawn : (st h left right y : ℕ) (d : DrawMode) (s e : List ℕ)
     → a ≡ clamp left (8 * st) → b ≡ clamp right (8 * st) → l ≡ clamp y h → e ≡ draw st (pixelRun a l (suc (b - a)) d) s
     → e ≡ draw st (seen st h (horizontal st h left right y d)) s
 unfolding horizontal
-horizontal-drawn st h left right y d s e {a} {b} {l} r o p q k w = cc (run-seen st h a l (suc (b - a)) d (omega arith) (omega arith))
+horizontal-drawn st h left right y d s e {a} {b} {l} r o p q k w =
+    cc (all-seen st h (pixelRun a l (suc (b - a)) d) (run-within (whole st h) a l (suc (b - a)) d (omega arith) (omega arith) (omega arith) (omega arith)))
 
 -- of a vertical, the pixels down to the screen's last line are seen
 pub vertical-drawn : (st h x top bottom : ℕ) (d : DrawMode) (s e : List ℕ) {last : ℕ} → x < 8 * st → top < h → top ≤ bottom → last ≡ clamp bottom h

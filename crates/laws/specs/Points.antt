@@ -22,14 +22,9 @@ use Rattle.model.specs.Marks.{drawn, drawnOn, within, owes}
 use Rattle.model.specs.Points.{pointOp, pixelRect, pointWrite, pointRect, point, isSet}
 use Rattle.laws.specs.Tests.{if-cases, by-test, by-lt, and-true, tests}
 use Rattle.laws.specs.Pixels.{place-lt}
-use Rattle.laws.specs.Bits.{every-at, or-is, and-is, flip-is, see-is}
+use Rattle.laws.specs.Bits.{every-at, see-is, every₂-at}
 use Rattle.laws.specs.Rects.{fits-passes, in-inside}
 use Rattle.laws.specs.Writes.{OwesItsMark}
-
--- a bit made what it is
-pub withBit-own : (b k : ℕ) → withBit b k (bitAt b k) ≡ b
-unfolding withBit
-withBit-own b k = by-test (bitAt b k) (λ e. rw (e, e)) (λ e. rw (e, e))
 
 -- the mask of pixel x in its byte
 abbrev pub maskOf : ℕ → ℕ
@@ -42,12 +37,16 @@ pointByte Or b m = bitOr b m
 pointByte Xor b m = bitXor b m
 pointByte Unknown b m = b
 
+-- it is the pixel's change, computed over 256 bytes by 8 bits
+abbrev pointRule : DrawMode → ℕ → ℕ → Bool
+pointRule d b k = eqb (pointByte d b (128 / 2 ^ k)) (withBit b (7 - k) (pointOp d (bitAt b (7 - k))))
+
 point-byte : (d : DrawMode) (b k : ℕ) → b < 256 → k < 8 → pointByte d b (128 / 2 ^ k) ≡ withBit b (7 - k) (pointOp d (bitAt b (7 - k)))
-unfolding pointByte pointOp
-point-byte Clear b k hb hk = and-is b k hb hk
-point-byte Or b k hb hk = or-is b k hb hk
-point-byte Xor b k hb hk = flip-is b k hb hk
-point-byte Unknown b k hb hk = sym (withBit-own b (7 - k))
+unfolding pointByte pointOp withBit bitAt
+point-byte Clear b k hb hk = eqb-true _ _ (every₂-at 256 8 (pointRule Clear) refl b k hb hk)
+point-byte Or b k hb hk = eqb-true _ _ (every₂-at 256 8 (pointRule Or) refl b k hb hk)
+point-byte Xor b k hb hk = eqb-true _ _ (every₂-at 256 8 (pointRule Xor) refl b k hb hk)
+point-byte Unknown b k hb hk = eqb-true _ _ (every₂-at 256 8 (pointRule Unknown) refl b k hb hk)
 
 pub plotted : (st x y : ℕ) (d : DrawMode) (s : List ℕ) {m v : ℕ} → Bytes s → m ≡ maskOf x → v ≡ pointByte d (getD s (place st x y) 0) m
     → set s (place st x y) v ≡ writePixel st s (pointWrite x y d)
