@@ -57,9 +57,9 @@ pub rows-turn : (st h left right y n : ℕ) (d : DrawMode) (s e t : List ℕ) {a
     → draw st (seen st h (boxRows st h left right y n d)) s ≡ t
     → draw st (seen st h (boxRows st h left right (y + 1) (n - 1) d)) e ≡ t
 unfolding boxRows
-rows-turn st h left right y zero d s e t r o k p q w v u = absurd (omega arith)
-rows-turn st h left right y (suc n) d s e t r o k p q w v u =
-    cc (sub-one (suc n), add-one y, horizontal-drawn st h left right y d s e r o p q w v, drawn-append st h (horizontal st h left right y d) _ s)
+rows-turn st h left right y n d s e t r o k p q w v u =
+    let more : n ≡ suc (n - 1) = omega arith in
+    cc (add-one y, horizontal-drawn st h left right y d s e r o p q w v, drawn-append st h (horizontal st h left right y d) _ s)
 
 pub rows-start : (st h left top right bottom : ℕ) (d : DrawMode) (s : List ℕ)
     → draw st (seen st h (boxRows st h left right top (bottom - top + 1) d)) s ≡ draw st (seen st h (filledBox st h left top right bottom d)) s
@@ -68,8 +68,7 @@ rows-start st h left top right bottom d s = rw (add-one (bottom - top))
 
 pub rows-end : (st h left right y n : ℕ) (d : DrawMode) (s t : List ℕ) → n ≤ 0 → draw st (seen st h (boxRows st h left right y n d)) s ≡ t → s ≡ t
 unfolding boxRows seen draw
-rows-end st h left right y zero d s t o u = u
-rows-end st h left right y (suc n) d s t o u = absurd (omega arith)
+rows-end st h left right y n d s t o u = let z : n ≡ zero = omega arith in rw z at u
 
 -- ---- a filled box as wide as the screen: its lines are whole bytes, one after another
 

@@ -1,4 +1,4 @@
--- Ellipses: the mark passes STATE, no write on the screen lies outside what is owed, and a shape that RADIUS lets pass is never ENDLESS.
+-- Ellipses: the mark passes STATE, no write on the screen lies outside what is owed, a shape that RADIUS lets pass is never ENDLESS, and the code draws what is defined.
 use mathlib.Core.Path.{_≡_, refl, sym, ap, ap₂, _∙_}
 use mathlib.Core.Logic.{inl, inr}
 use mathlib.Core.Bool.{Bool, true, false, not, cond, _||_}

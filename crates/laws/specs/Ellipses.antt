@@ -162,15 +162,12 @@ on-start (suc p) rx ry q = record {
 module _ (r rx ry : ℕ) (q : Radii r rx ry) where
   -- ---- one step
 
-  -- a step along y is made only before r
-  y-before : (m p j : ℕ) → Circle true m p j r → j < r
-  y-before m p j c = by-lt j r (λ l. l) (λ l. absurd (omega (arith, mul-le-mul l l)))
-
+  -- along y: only before r
   step-y : (p j : ℕ) (w : Walk) → Walking r rx ry (suc p) j w → w .neg ≡ true → (j < r) × Walking r rx ry (suc p) (suc j) (yStep r ry w)
   unfolding yStep turned
   step-y p j w k n =
       let c : Circle true (w .fxy) (suc p) j r = rw n at (k .circle) in
-      let l : j < r = y-before (w .fxy) (suc p) j c in
+      let l : j < r = by-lt j r (λ l. l) (λ l. absurd (omega (arith, mul-le-mul l l))) in
       (l, rw (y-straight r ry j (w .y) (k .y) l (q .most))
       (record { x = k .x; y = y-on r ry j (w .y) (k .y) l (q .y) (q .most); circle = y-circle (w .fxy) (w .y .f) (suc p) j r (k .y .f) c }))
 

@@ -1,4 +1,4 @@
--- Codes: a table of rows searched from the first on.
+-- Glyphs: where a code's glyph stands, and how its bytes are stored on the screen.
 use mathlib.Core.Path.{_≡_, refl, sym, ap, _∙_}
 use mathlib.Core.Bool.{Bool, true, false, _&&_, and-assoc, and-true}
 use mathlib.Core.List.{List, [], _∷_, _++_}
@@ -17,6 +17,8 @@ use Rattle.model.specs.Bytes.{two, four}
 use Rattle.model.specs.Codes.{CodeRow, codes, emojiRows, inRow, indexIn, emojiIndex, extraFrom}
 use Rattle.model.specs.Glyphs.{glyphOr, Store, flipped, value, paint, fontsFit, columnStores, lineStores}
 use Rattle.laws.specs.Tests.{all-true, by-lt, tests}
+
+-- Codes: a table of rows searched from the first on.
 
 -- ---- rows
 

@@ -1,4 +1,4 @@
--- Horizontals and fills draw Unknown as Xor: what is made of them is the same drawing in either mode.
+-- Lines: horizontal and vertical ones, sloped ones, and `draw_line`, which draws one of them or nothing.
 use mathlib.Core.Path.{_≡_, refl, ap, ap₂, sym, _∙_}
 use mathlib.Core.Bool.{true, false, Bool, cond}
 use mathlib.Core.List.{List, _∷_, _++_, []}
@@ -23,6 +23,8 @@ use Rattle.laws.specs.Tests.{clash, tests, by-test, by-lt, if-cases, eit
 use Rattle.laws.specs.Rects.{fits-passes, inside-in}
 use Rattle.laws.specs.Writes.{within-none, within-more, drawn-is, drawn-append, OwesItsMark, owes-mark}
 use Rattle.laws.specs.Points.{both, bothLowered}
+
+-- Horizontals and fills draw Unknown as Xor: what is made of them is the same drawing in either mode.
 
 -- the mode that a horizontal draws in
 unfoldable pub solid : DrawMode → DrawMode
@@ -166,13 +168,11 @@ vertical-drawn st h x top bottom d s e {last} a b o p w = cc (column-cut st h x 
 pub column-turn : (st x y n : ℕ) (d : DrawMode) (s e t : List ℕ) → 0 < n → e ≡ writePixel st s (pointWrite x y d) → draw st (pixelColumn x y n d) s ≡ t
     → draw st (pixelColumn x (y + 1) (n - 1) d) e ≡ t
 unfolding pixelColumn draw
-column-turn st x y zero d s e t h w q = absurd (omega arith)
-column-turn st x y (suc n) d s e t h w q = rw (w, add-one, sub-one) q
+column-turn st x y n d s e t h w q = let l : n ≡ suc (n - 1) = omega arith in cc (add-one y)
 
 pub column-end : (st x y n : ℕ) (d : DrawMode) (s t : List ℕ) → n ≤ 0 → draw st (pixelColumn x y n d) s ≡ t → s ≡ t
 unfolding pixelColumn draw
-column-end st x y zero d s t h q = q
-column-end st x y (suc n) d s t h q = absurd (omega arith)
+column-end st x y n d s t h q = let z : n ≡ zero = omega arith in rw z at q
 
 -- ---- with their marks
 
@@ -329,14 +329,12 @@ pub slope-turn : (st h : ℕ) (p : Slope) (n x y ex ey : ℕ) (d : DrawMode) (s 
     → draw st (seen st h (slope p n x y ex ey d)) s ≡ t
     → draw st (seen st h (slope p (n - 1) x′ y′ ex′ ey′ d)) e ≡ t
 unfolding slope
-slope-turn st h p zero x y ex ey d s e t o w a b f g q = absurd (omega arith)
-slope-turn st h p (suc n) x y ex ey d s e t o w a b f g q = cc (sub-one (suc n), drawn-append st h (pointWrite x y d ∷ []) _ s)
+slope-turn st h p n x y ex ey d s e t o w a b f g q = let l : n ≡ suc (n - 1) = omega arith in cc (drawn-append st h (pointWrite x y d ∷ []) _ s)
 
 pub slope-end : (st h : ℕ) (p : Slope) (n x y ex ey : ℕ) (d : DrawMode) (s t : List ℕ) → n ≤ 0
     → draw st (seen st h (slope p n x y ex ey d)) s ≡ t → s ≡ t
 unfolding slope seen draw
-slope-end st h p zero x y ex ey d s t o q = q
-slope-end st h p (suc n) x y ex ey d s t o q = absurd (omega arith)
+slope-end st h p n x y ex ey d s t o q = let z : n ≡ zero = omega arith in rw z at q
 
 pub sloped-marked : (st h x1 y1 x2 y2 : ℕ) (d : DrawMode) (s e : List ℕ) {m : Marks} {a b : ℕ} → x1 < x2 → x2 < 256 → y1 < 256 → y2 < 256
     → a ≡ min y1 y2 → b ≡ max y1 y2 → m ≡ both (spanRect x1 a x2 b) → e ≡ draw st (seen st h (sloped x1 y1 x2 y2 d)) s

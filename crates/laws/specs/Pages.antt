@@ -1,4 +1,4 @@
--- Scrolling: the loop that moves bytes up, several scrolls at once, and flags.
+-- The page of text: how it scrolls, that it stays a page whatever is printed, and what the loops of printing do.
 use mathlib.Core.Path.{_≡_, refl, sym, ap, _∙_}
 use mathlib.Core.List.{List, _++_, append-nil, append-assoc, [], _∷_}
 use mathlib.Core.Bool.{Bool, false, _&&_, true, not}
@@ -17,6 +17,8 @@ use Rattle.model.specs.Print.{scrolled, scrolledTimes, Page, scrollPage, nextRo
 use Rattle.laws.specs.Memory.{append-window}
 use Rattle.laws.specs.Tests.{by-lt, if-cases, and-true, and-false, tests, either}
 use Rattle.laws.specs.Loops.{copy-turn, length-zeros}
+
+-- Scrolling: the loop that moves bytes up, several scrolls at once, and flags.
 
 -- ---- the loop
 
@@ -117,9 +119,6 @@ unfolding clearFrom
 length-clear i t = length-until (length t - suc i) (suc i) (set t i 0) ∙ length-set t i 0
 
 module _ (rows columns : ℕ) where
-  row-in : (r : ℕ) → r < rows → columns ≤ rows * columns
-  row-in r h = let k : 1 * columns ≤ rows * columns = mul-le-mul-right {m = 1} {n = rows} columns (omega arith) in rw one-mul at k
-
   -- the next cell lies on the page
   pub cell-in : (n : ℕ) (p : Page) → Sheet rows columns (suc n) p → cellOf columns p < rows * columns
   cell-in n p s = digits-lt {r = p .column} {c = columns} (s .row) (omega (arith, s .room))
@@ -129,7 +128,7 @@ module _ (rows columns : ℕ) where
   pub newline-sheet : (m n : ℕ) (p : Page) → n ≤ columns → Sheet rows columns m p → Sheet rows columns n (newlineOn rows columns p)
   unfolding newlineOn scrollPage nextRow
   newline-sheet m n p h s =
-      let k = row-in (p .row) (s .row) in
+      let one-row = mul-le-mul-right {m = 1} {n = rows} columns (omega arith) in
       if-cases (Sheet rows columns n) (eqb (p .column) 0) (λ e. omega (arith, tests))
       (λ e. if-cases (Sheet rows columns n) (eqb (p .row + 1) rows)
       (λ f. omega (arith, length-scrolled columns 0 (p .text) (omega arith), length-scrolled columns false (p .flags) (omega arith)))

@@ -1,4 +1,4 @@
--- What a drawing owes: its mark, or the whole screen where it writes outside that.
+-- Pixel writes: what a drawing owes, and lists of writes.
 use mathlib.Core.Path.{_≡_, ap, _∙_, refl, sym}
 use mathlib.Core.Logic.{_≢_, _⊎_, inl, inr}
 use mathlib.Core.Bool.{true, _&&_}
@@ -19,6 +19,8 @@ use Rattle.model.specs.declared.Marks.{Marks}
 use Rattle.laws.specs.Tests.{if-cases, and-true, by-test, by-eq}
 use Rattle.laws.specs.Pixels.{Each, draw-other, length-draw}
 use Rattle.laws.specs.Rects.{inside-in, in-inside}
+
+-- What a drawing owes: its mark, or the whole screen where it writes outside that.
 
 -- two screens agree at every pixel that lies not in r
 abbrev pub AgreeOutside : ℕ → ℕ → Rect → List ℕ → List ℕ → Type 0
