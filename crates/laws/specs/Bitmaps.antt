@@ -1,6 +1,6 @@
 -- Bitmaps: a painted pixel is a point in a draw mode; where the clipped lines lie; the lines as loops paint them; the marks.
 use mathlib.Core.Path.{_≡_, refl, sym, ap, _∙_}
-use mathlib.Core.Logic.{inl, inr}
+use mathlib.Core.Logic.{inl, inr, _⊎_}
 use mathlib.Core.Bool.{Bool, true, false, cond, xor}
 use mathlib.Core.List.{List, [], _∷_, _++_}
 use Prim.Native.Nat.{ℕ, zero, suc, _+_, _-_, _*_, _≤_, _<_, min}
@@ -130,26 +130,28 @@ rect-visible : (across down : Visible) → across .from < across .to → down .f
 unfolding visibleRect
 rect-visible across down a b = rw (lt-ltb (across .from) (across .to) a, lt-ltb (down .from) (down .to) b)
 
-rect-beside : (across down : Visible) → across .to ≤ across .from → visibleRect across down ≡ none
-unfolding visibleRect
-rect-beside across down a = rw (le-ltb (across .from) (across .to) a)
-
-rect-below : (across down : Visible) → across .from < across .to → down .to ≤ down .from → visibleRect across down ≡ none
-unfolding visibleRect
-rect-below across down a b = rw (lt-ltb (across .from) (across .to) a, le-ltb (down .from) (down .to) b)
-
 module _ (st h : ℕ) (source : List ℕ) (x y : ℤ) (w n : ℕ) (m : PaintMode) where
   abbrev writes-of : Visible → Visible → List PixelWrite
   writes-of across down = paintedLines (sourceStride w) source m across (down .skip) (down .from) (down .to - down .from)
 
+  -- where an axis shows nothing there is no mark and no write
+  hidden : (across down : Visible) → (across .to ≤ across .from) ⊎ (down .to ≤ down .from) → (visibleRect across down ≡ none) × (writes-of across down ≡ [])
+  unfolding visibleRect paintedLines
+  hidden across down (inl o) = (rw (le-ltb (across .from) (across .to) o), lines-none (sourceStride w) source m across (down .skip) (down .from) (down .to - down .from) o)
+  hidden across down (inr o) =
+      let e : down .to - down .from ≡ zero = omega arith in
+      (by-test (ltb (across .from) (across .to)) (λ t. rw (t, le-ltb (down .from) (down .to) o)) (λ t. rw t), rw e)
+
+  by-visible : {P : Type 0} (across down : Visible) → (across .from < across .to → down .from < down .to → P)
+      → ((visibleRect across down ≡ none) × (writes-of across down ≡ []) → P) → P
+  by-visible across down f g =
+      by-lt (across .from) (across .to) (λ a. by-lt (down .from) (down .to) (f a) (λ b. g (hidden across down (inr b)))) (λ a. g (hidden across down (inl a)))
+
   within-visible : (across down : Visible) → within (visibleRect across down) (writes-of across down) ≡ true
-  unfolding paintedLines
   within-visible across down =
-      by-lt (across .from) (across .to)
-      (λ a. by-lt (down .from) (down .to)
-      (λ b. rw (rect-visible across down a b) (lines-within (sourceStride w) source m across (visibleMark across down) (down .skip) (down .from) (down .to - down .from) (omega arith) a (omega arith) (omega arith) (omega arith)))
-      (λ b. let e : down .to - down .from ≡ zero = omega arith in rw e (within-none (visibleRect across down))))
-      (λ a. rw (lines-none (sourceStride w) source m across (down .skip) (down .from) (down .to - down .from) a) (within-none (visibleRect across down)))
+      by-visible across down
+      (λ a b. rw (rect-visible across down a b) (lines-within (sourceStride w) source m across (visibleMark across down) (down .skip) (down .from) (down .to - down .from) (omega arith) a (omega arith) (omega arith) (omega arith)))
+      (λ o. rw (o .1) (within-none (visibleRect across down)))
 
   -- no write lies outside what the bitmap owes
   pub bitmap-owes : OwesItsMark st h (bitmap st h source x y w n m)
@@ -163,11 +165,7 @@ module _ (st h : ℕ) (source : List ℕ) (x y : ℤ) (w n : ℕ) (m : PaintMode
       let across = visible x w (8 * st) in
       let down = visible y n h in
       fits-passes 256 0 256 (visibleRect across down)
-      (by-lt (across .from) (across .to)
-      (λ o. by-lt (down .from) (down .to)
-      (λ u. rw (rect-visible across down o u) (inr (omega (arith, visible-in x w (8 * st) o, visible-in y n h u))))
-      (λ u. inl (rect-below across down o u)))
-      (λ o. inl (rect-beside across down o)))
+      (by-visible across down (λ o u. rw (rect-visible across down o u) (inr (omega (arith, visible-in x w (8 * st) o, visible-in y n h u)))) (λ o. inl (o .0)))
 
   module _ (s : List ℕ) {across down : Visible} (p : across ≡ visible x w (8 * st)) (q : down ≡ visible y n h) where
     same-bitmap : (e : List ℕ) (k : Marks) → k ≡ both (visibleRect across down) → e ≡ draw st (seen st h (writes-of across down)) s
@@ -186,12 +184,12 @@ module _ (st h : ℕ) (source : List ℕ) (x y : ℤ) (w n : ℕ) (m : PaintMode
         let in-screen = lines-within (sourceStride w) source m across (whole st h) (down .skip) (down .from) (down .to - down .from) (omega arith) a i (omega arith) (omega arith) in
         same-bitmap e k (f ∙ ap both (sym (rect-visible across down a b))) (cc (all-seen st h (writes-of across down) in-screen))
 
-    pub bitmap-beside : {k : Marks} → across .to ≤ across .from → k ≡ both none → drawn k s ≡ drawnOn st h (bitmap st h source x y w n m) s
+    bitmap-hidden : {k : Marks} → (across .to ≤ across .from) ⊎ (down .to ≤ down .from) → k ≡ both none → drawn k s ≡ drawnOn st h (bitmap st h source x y w n m) s
     unfolding seen draw
-    bitmap-beside {k} a f =
-        same-bitmap s k (f ∙ ap both (sym (rect-beside across down a)))
-        (rw (lines-none (sourceStride w) source m across (down .skip) (down .from) (down .to - down .from) a))
+    bitmap-hidden {k} o f = let z = hidden across down o in same-bitmap s k (f ∙ ap both (sym (z .0))) (rw (z .1))
+
+    pub bitmap-beside : {k : Marks} → across .to ≤ across .from → k ≡ both none → drawn k s ≡ drawnOn st h (bitmap st h source x y w n m) s
+    bitmap-beside a f = bitmap-hidden (inl a) f
 
     pub bitmap-below : {k : Marks} → across .from < across .to → down .to ≤ down .from → k ≡ both none → drawn k s ≡ drawnOn st h (bitmap st h source x y w n m) s
-    unfolding paintedLines seen draw
-    bitmap-below {k} a b f = same-bitmap s k (f ∙ ap both (sym (rect-below across down a b))) (let e : down .to - down .from ≡ zero = omega arith in rw e)
+    bitmap-below a b f = bitmap-hidden (inr b) f

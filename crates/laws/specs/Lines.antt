@@ -212,9 +212,9 @@ steps-le m dist k e s hk r =
     by-lt dist s (λ l. absurd (omega (arith, mul-le-mul-left {m = suc dist} {n = s} m l, mul-le-mul-right dist hk))) (λ l. l)
 
 -- a choice made inside a sum is a choice of sums
-stepped-by : (m e dist : ℕ) (f : ℕ → ℕ) (a b : ℕ) → stepped m e dist (f a) (f b) ≡ f (stepped m e dist a b)
+stepped-by : (m e dist : ℕ) (f : ℕ → ℕ) (a b : ℕ) {c : ℕ} → c ≡ f a → stepped m e dist c (f b) ≡ f (stepped m e dist a b)
 unfolding stepped
-stepped-by m e dist f a b = by-test (leb m (errorSum e dist)) (λ t. rw t) (λ t. rw t)
+stepped-by m e dist f a b k = by-test (leb m (errorSum e dist)) (λ t. rw t k) (λ t. rw t)
 
 -- `at u` is the line after u steps
 module _ (p : Slope) (r : Rect) (x1 : ℕ) (at : ℕ → ℕ) (d : DrawMode)
@@ -230,15 +230,10 @@ module _ (p : Slope) (r : Rect) (x1 : ℕ) (at : ℕ → ℕ) (d : DrawMode)
       let m = p .distMax in
       let l : s ≤ p .distX = steps-le m (p .distX) k ex s (omega arith) a in
       let i = reach u (steps-le m (p .distY) k ey u (omega arith) b) in
-      let across : stepped m ex (p .distX) (x1 + s + 1) (x1 + s) ≡ x1 + stepped m ex (p .distX) (s + 1) s
-      = ap (λ (z : ℕ). stepped m ex (p .distX) z (x1 + s)) (omega arith) ∙ stepped-by m ex (p .distX) (λ z. x1 + z) (s + 1) s in
-      let down : stepped m ey (p .distY) ((at u + p .incY) % 256) (at u) ≡ at (stepped m ey (p .distY) (u + 1) u)
-      = ap (λ (z : ℕ). stepped m ey (p .distY) z (at u)) (step u) ∙ stepped-by m ey (p .distY) at (u + 1) u in
+      let next : x1 + s + 1 ≡ x1 + (s + 1) = omega arith in
       within-more r _ _ (omega arith)
-      (rw (across, down)
-      (slope-within n (suc k) (stepped m ex (p .distX) (s + 1) s) (stepped m ey (p .distY) (u + 1) u)
-      (nextError m ex (p .distX)) (nextError m ey (p .distY)) (omega arith)
-      (error-turn m (p .distX) k ex s small hx a) (error-turn m (p .distY) k ey u small hy b)))
+      (rw (stepped-by m ex (p .distX) (λ z. x1 + z) (s + 1) s next, stepped-by m ey (p .distY) at (u + 1) u (step u))
+      (slope-within n (suc k) _ _ _ _ (omega arith) (error-turn m (p .distX) k ex s small hx a) (error-turn m (p .distY) k ey u small hy b)))
 
   pub slope-box : (y1 : ℕ) → 0 < p .distMax → y1 ≡ at 0 → within r (slope p (suc (p .distMax)) x1 y1 0 0 d) ≡ true
   slope-box y1 o e = let q : x1 ≡ x1 + 0 = omega arith in cc (slope-within (suc (p .distMax)) 0 0 0 0 0 (omega arith) (omega arith) (omega arith))
