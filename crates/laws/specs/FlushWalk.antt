@@ -2,7 +2,7 @@
 use mathlib.Core.Path.{_≡_, refl, sym, ap}
 use mathlib.Core.List.{List, [], _∷_}
 use Prim.Native.Nat.{ℕ, zero, suc, _+_, _-_, _*_, _≤_, _<_}
-use native.Mathlib.Nat.{mul-suc, suc-mul}
+use native.Mathlib.Nat.{mul-suc, suc-mul, sub-zero}
 use native.Mathlib.Numerals.{add-one}
 use native.Mathlib.Omega.{arith}
 use lib.Dec.{ltb}
@@ -86,5 +86,4 @@ module _ (st n : ℕ) where
     rest-end s h = over (placesLeft st n s) s h
 
     pub rest-start : walk st n text (n * st) (spot 0 0 0) ≡ rest (spot 0 0 0)
-    rest-start = let r : n - 0 ≡ n = omega arith in
-        let q : n * st ≡ (n - 0) * st - 0 = omega (arith, ap (λ (x : ℕ). x * st) r) in ap (λ (k : ℕ). walk st n text k (spot 0 0 0)) q
+    rest-start = simp sub-zero

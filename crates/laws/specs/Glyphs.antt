@@ -55,15 +55,11 @@ index-v2 (suc n) lead trail e h = h
 module _ (list : List ℕ) (code : ℕ) where
   pub extra-here : {f : Found} (i k n : ℕ) → k < n → two list i ≡ code → f ≡ At (four list (i + 2)) → f ≡ extraFrom list code i (n - k)
   unfolding extraFrom
-  extra-here i k n l e h =
-      let q : n - k ≡ suc (n - (k + 1)) = omega arith in
-      rw q (rw (eq-eqb (two list i) code e) h)
+  extra-here i k n l e h = let q : n - k ≡ suc (n - (k + 1)) = omega arith in rw (q, eq-eqb (two list i) code e) h
 
   pub extra-past : {f : Found} (i k n : ℕ) → k < n → (two list i ≡ code → ⊥) → f ≡ extraFrom list code i (n - k) → f ≡ extraFrom list code (i + 6) (n - (k + 1))
   unfolding extraFrom
-  extra-past {f} i k n l e h =
-      let q : n - k ≡ suc (n - (k + 1)) = omega arith in
-      h ∙ ap (extraFrom list code i) q ∙ rw (ne-eqb (two list i) code e)
+  extra-past i k n l e h = let q : n - k ≡ suc (n - (k + 1)) = omega arith in cc (ne-eqb (two list i) code e)
 
   pub extra-end : (i k n : ℕ) → n ≤ k → Nothing ≡ extraFrom list code i (n - k)
   unfolding extraFrom
@@ -100,15 +96,14 @@ fits-append (w ∷ a) b = cc (fits-append a b, and-assoc _ _ _)
 
 -- ---- places: a glyph whose last line lies on a screen of n bytes
 
+line-more : (st i e : ℕ) → i < e → st * (e - i) ≡ st * (e - (i + 1)) + st
+line-more st i e l = let q : e - i ≡ suc (e - (i + 1)) = omega arith in rw q (mul-suc st (e - (i + 1)))
+
 pub room-here : (st place i e n : ℕ) → i < e → place + st * (e - i) < n + st → place < n
-room-here st place i e n l h =
-    let q : e - i ≡ suc (e - (i + 1)) = omega arith in
-    omega (arith, mul-suc st (e - (i + 1)), ap (λ (k : ℕ). st * k) q)
+room-here st place i e n l h = omega (arith, line-more st i e l)
 
 pub room-next : (st place i e n : ℕ) → i < e → place + st * (e - i) < n + st → (place + st) + st * (e - (i + 1)) < n + st
-room-next st place i e n l h =
-    let q : e - i ≡ suc (e - (i + 1)) = omega arith in
-    omega (arith, mul-suc st (e - (i + 1)), ap (λ (k : ℕ). st * k) q)
+room-next st place i e n l h = omega (arith, line-more st i e l)
 
 -- a place before the last lies in the font where the last one does
 both-below : (i last n : ℕ) → i < last → (ltb i n && leb last n) ≡ leb last n
@@ -120,13 +115,11 @@ module _ (st : ℕ) (font : List ℕ) (inverse : Bool) where
   pub column-turn : (place i e : ℕ) (s : List ℕ) → i < e
       → paint (columnStores st font place i inverse (e - i)) s ≡ paint (columnStores st font (place + st) (i + 1) inverse (e - (i + 1))) (set s place (flipped inverse (getD font i 0)))
   unfolding columnStores paint
-  column-turn place i e s l =
-      let q : e - i ≡ suc (e - (i + 1)) = omega arith in
-      ap (λ (h : ℕ). paint (columnStores st font place i inverse h) s) q
+  column-turn place i e s l = let q : e - i ≡ suc (e - (i + 1)) = omega arith in rw q
 
   pub column-end : (place i e : ℕ) (s : List ℕ) → e ≤ i → paint (columnStores st font place i inverse (e - i)) s ≡ s
   unfolding columnStores paint
-  column-end place i e s l = let q : e - i ≡ 0 = omega arith in ap (λ (h : ℕ). paint (columnStores st font place i inverse h) s) q
+  column-end place i e s l = let q : e - i ≡ 0 = omega arith in rw q
 
   -- they lie in the font where the last one does
   pub column-fits : (place i h : ℕ) → fontsFit (columnStores st font place i inverse (suc h)) ≡ leb (i + suc h) (length font)
