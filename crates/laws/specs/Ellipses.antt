@@ -167,9 +167,11 @@ module _ (r rx ry : ℕ) (q : Radii r rx ry) where
   unfolding yStep turned
   step-y p j w k n =
       let c : Circle true (w .fxy) (suc p) j r = rw n at (k .circle) in
-      let l : j < r = by-lt j r (λ l. l) (λ l. absurd (omega (arith, mul-le-mul l l))) in
-      (l, rw (y-straight r ry j (w .y) (k .y) l (q .most))
-      (record { x = k .x; y = y-on r ry j (w .y) (k .y) l (q .y) (q .most); circle = y-circle (w .fxy) (w .y .f) (suc p) j r (k .y .f) c }))
+      let l : j < r = by-lt j r (λ l. l) (λ l. absurd (omega (arith, mul-le-mul l l))) in (
+        l,
+        rw (y-straight r ry j (w .y) (k .y) l (q .most))
+            (record { x = k .x; y = y-on r ry j (w .y) (k .y) l (q .y) (q .most); circle = y-circle (w .fxy) (w .y .f) (suc p) j r (k .y .f) c }),
+      )
 
   step-x : (p j : ℕ) (w : Walk) → Walking r rx ry (suc (suc p)) j w → w .neg ≡ false → Walking r rx ry (suc p) j (xStep r rx w)
   unfolding xStep turned

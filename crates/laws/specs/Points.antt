@@ -84,49 +84,47 @@ bothLowered st h r = record { dirty = r; owed = lowered (8 * st) h r }
 pub lowered-both : (st h : ℕ) {r m o : Rect} → m ≡ r → o ≡ lowered (8 * st) h m → _≡_ {A = Marks} (record { dirty = m; owed = o }) (bothLowered st h r)
 lowered-both st h {r} {m} {o} p q = let k : o ≡ lowered (8 * st) h r = q ∙ ap (lowered (8 * st) h) p in λ i. record { dirty = p i; owed = k i }
 
--- a point's write lies in what it marks
-pub point-within : (st h x y : ℕ) (d : DrawMode) → within (pointRect st h x y) (seen st h (pointWrite x y d ∷ [])) ≡ true
-unfolding within seen pointRect
-point-within st h x y d = by-test (onScreen st h x y) (λ e. rw (e, in-inside (pixelRect x y) x y (omega arith))) (λ e. rw e)
-
-pub point-owes : (st h x y : ℕ) (d : DrawMode) → OwesItsMark st h (point st h x y d)
-unfolding point owes
-point-owes st h x y d = rw (point-within st h x y d)
-
--- and STATE lets it pass in dirty
+-- STATE lets a point's mark pass in dirty
 pub point-fits : (st h x y : ℕ) → x < 256 → y < 256 → fits 256 0 256 (pointRect st h x y) ≡ true
 unfolding pointRect
 point-fits st h x y hx hy =
     if-cases (λ (r : Rect). fits 256 0 256 r ≡ true) (onScreen st h x y)
     (λ e. fits-passes 256 0 256 (pixelRect x y) (inr (omega arith))) (λ e. fits-passes 256 0 256 none (inl refl))
 
--- one write, where it falls on the screen
-pub seen-one : (st h x y : ℕ) (d : DrawMode) (s e : List ℕ) {t : Bool} → t ≡ onScreen st h x y → t ≡ true → e ≡ writePixel st s (pointWrite x y d)
-    → e ≡ draw st (seen st h (pointWrite x y d ∷ [])) s
-unfolding seen draw
-seen-one st h x y d s e p q w = rw (sym p ∙ q) w
+module _ (st h x y : ℕ) (d : DrawMode) where
+  -- its write lies in that mark
+  pub point-within : within (pointRect st h x y) (seen st h (pointWrite x y d ∷ [])) ≡ true
+  unfolding within seen pointRect
+  point-within = by-test (onScreen st h x y) (λ e. rw (e, in-inside (pixelRect x y) x y (omega arith))) (λ e. rw e)
 
-pub seen-none : (st h x y : ℕ) (d : DrawMode) (s : List ℕ) {t : Bool} → t ≡ onScreen st h x y → t ≡ false
-    → s ≡ draw st (seen st h (pointWrite x y d ∷ [])) s
-unfolding seen draw
-seen-none st h x y d s p q = rw (sym p ∙ q)
+  pub point-owes : OwesItsMark st h (point st h x y d)
+  unfolding point owes
+  point-owes = rw point-within
 
--- ---- with its marks
+  module _ (s : List ℕ) where
+    -- one write, where it falls on the screen
+    pub seen-one : (e : List ℕ) {t : Bool} → t ≡ onScreen st h x y → t ≡ true → e ≡ writePixel st s (pointWrite x y d) → e ≡ draw st (seen st h (pointWrite x y d ∷ [])) s
+    unfolding seen draw
+    seen-one e p q w = rw (sym p ∙ q) w
 
-point-marked : (st h x y : ℕ) (d : DrawMode) (s e : List ℕ) {m : Marks} → m ≡ both (pointRect st h x y) → e ≡ draw st (seen st h (pointWrite x y d ∷ [])) s
-    → drawn m e ≡ drawnOn st h (point st h x y d) s
-unfolding drawn drawnOn point
-point-marked st h x y d s e r w = λ i. record { dirty = r i .dirty; owed = ((λ j. r j .owed) ∙ sym (point-owes st h x y d)) i; screen = w i }
+    pub seen-none : {t : Bool} → t ≡ onScreen st h x y → t ≡ false → s ≡ draw st (seen st h (pointWrite x y d ∷ [])) s
+    unfolding seen draw
+    seen-none p q = rw (sym p ∙ q)
 
-pub point-on : (st h x y : ℕ) (d : DrawMode) (s e : List ℕ) {t : Bool} {m : Marks} → t ≡ onScreen st h x y → t ≡ true → m ≡ both (pixelRect x y)
-    → e ≡ writePixel st s (pointWrite x y d) → drawn m e ≡ drawnOn st h (point st h x y d) s
-unfolding pointRect
-point-on st h x y d s e p q r w = point-marked st h x y d s e (rw (sym p ∙ q) r) (seen-one st h x y d s e p q w)
+    -- ---- with its marks
 
-pub point-off : (st h x y : ℕ) (d : DrawMode) (s : List ℕ) {t : Bool} {m : Marks} → t ≡ onScreen st h x y → t ≡ false → m ≡ both none
-    → drawn m s ≡ drawnOn st h (point st h x y d) s
-unfolding pointRect
-point-off st h x y d s p q r = point-marked st h x y d s s (rw (sym p ∙ q) r) (seen-none st h x y d s p q)
+    point-marked : (e : List ℕ) {m : Marks} → m ≡ both (pointRect st h x y) → e ≡ draw st (seen st h (pointWrite x y d ∷ [])) s → drawn m e ≡ drawnOn st h (point st h x y d) s
+    unfolding drawn drawnOn point
+    point-marked e r w = λ i. record { dirty = r i .dirty; owed = ((λ j. r j .owed) ∙ sym point-owes) i; screen = w i }
+
+    pub point-on : (e : List ℕ) {t : Bool} {m : Marks} → t ≡ onScreen st h x y → t ≡ true → m ≡ both (pixelRect x y)
+        → e ≡ writePixel st s (pointWrite x y d) → drawn m e ≡ drawnOn st h (point st h x y d) s
+    unfolding pointRect
+    point-on e p q r w = point-marked e (rw (sym p ∙ q) r) (seen-one e p q w)
+
+    pub point-off : {t : Bool} {m : Marks} → t ≡ onScreen st h x y → t ≡ false → m ≡ both none → drawn m s ≡ drawnOn st h (point st h x y d) s
+    unfolding pointRect
+    point-off p q r = point-marked s (rw (sym p ∙ q) r) (seen-none p q)
 
 -- ---- a signed coordinate
 
