@@ -67,19 +67,16 @@ walk-sum [] q e = refl
 walk-sum (a ∷ p) [] e = absurd (omega arith)
 walk-sum (a ∷ p) (b ∷ q) e = cc (walk-sum p q (suc-inj e), sum-front (length p) (λ i. byteDiffers (getD (a ∷ p) i 0) (getD (b ∷ q) i 0)))
 
-line : (st y : ℕ) (s p : List ℕ) → sum (8 * st) (λ x. differs (bit st s x y) (bit st p x y)) ≡ sum st (λ q. byteDiffers (getD s (st * y + q) 0) (getD p (st * y + q) 0))
+line : (st y : ℕ) (s p : List ℕ) → sum (8 * st) (λ x. differs (bit st s x y) (bit st p x y)) ≡ sum st (λ q. byteDiffers (getD s (y * st + q) 0) (getD p (y * st + q) 0))
 unfolding bit byteDiffers
 line st y s p =
     ap (λ (n : ℕ). sum n (λ x. differs (bit st s x y) (bit st p x y))) (mul-comm 8 st)
     ∙ sum-mul st 8 (λ x. differs (bit st s x y) (bit st p x y))
-    ∙ sum-ext st _ _ (λ q hq. sum-ext 8 _ _ (λ r hr. let a : (q * 8 + r) / 8 ≡ q = omega arith in let b : (q * 8 + r) % 8 ≡ r = omega arith in rw (a, b)))
+    ∙ sum-ext st _ _ (λ q hq. sum-ext 8 _ _ (λ r hr. let a : (q * 8 + r) / 8 ≡ q = omega arith in let b : (q * 8 + r) % 8 ≡ r = omega arith in rw (a, b, mul-comm st y)))
 
 pub differing-bytes : (g : Geometry) (s p : List ℕ) → length s ≡ screenBytes g → length p ≡ screenBytes g → differing g s p ≡ bytesDiffer s p
 unfolding differing
 differing-bytes g s p hs hp =
-    let st : ℕ = g .stride in
     let f : ℕ → ℕ = λ i. byteDiffers (getD s i 0) (getD p i 0) in
-    let turned : (y : ℕ) → y < height g → sum st (λ q. f (st * y + q)) ≡ sum st (λ q. f (y * st + q)) =
-    λ y hy. sum-ext st _ _ (λ q hq. ap (λ (n : ℕ). f (n + q)) (mul-comm st y)) in
-    sum-ext (height g) _ _ (λ y hy. line st y s p ∙ turned y hy) ∙ sym (sum-mul (height g) st f)
-    ∙ ap (λ (n : ℕ). sum n f) (mul-comm (height g) st ∙ sym hs) ∙ sym (walk-sum s p (hs ∙ sym hp))
+    sum-ext (height g) _ _ (λ y hy. line (g .stride) y s p) ∙ sym (sum-mul (height g) (g .stride) f)
+    ∙ ap (λ (n : ℕ). sum n f) (mul-comm (height g) (g .stride) ∙ sym hs) ∙ sym (walk-sum s p (hs ∙ sym hp))

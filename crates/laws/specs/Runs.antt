@@ -216,14 +216,11 @@ run-bytes st y k l s p q hl e hq inner outer = record {
 pub run-put : (st y x : ℕ) (op : ℕ → Bool → Bool) (p : List ℕ) → x < 8 * st → place st x y < length p → Bytes p
     → Run st y x (suc x) op p (put st p x y (op x (bit st p x y)))
 run-put st y x op p hx hi hp = record {
-  sized = length-put st p x y v;
-  bytes = bytes-put st p x y v hp;
-  within = λ x′ l u. let e : x′ ≡ x = omega arith in rw e (put-same st p x y v hi);
-  others = λ x′ y′ hx′ n. put-other st p x y v x′ y′ hx hx′ (by-eq x′ x (λ e. inr (λ f. n (f, omega arith, omega arith))) inl);
+  sized = length-put st p x y _;
+  bytes = bytes-put st p x y _ hp;
+  within = λ x′ l u. let e : x′ ≡ x = omega arith in rw e (put-same st p x y _ hi);
+  others = λ x′ y′ hx′ n. put-other st p x y _ x′ y′ hx hx′ (by-eq x′ x (λ e. inr (λ f. n (f, omega arith, omega arith))) inl);
 }
-  where
-    v : Bool
-    v = op x (bit st p x y)
 
 -- n pixels from a on, up to b, copied from the screen s
 pub run-copyRun : (st y a b n : ℕ) (s p : List ℕ) → a + n ≡ b → b ≤ 8 * st → st * y + st ≤ length p → Bytes p
