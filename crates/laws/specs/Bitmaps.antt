@@ -18,7 +18,7 @@ use Rattle.model.specs.declared.PaintMode.{PaintMode}
 use Rattle.model.specs.declared.PaintMode.the-variants.{Copy, Or, Not, And, Xor}
 use Rattle.model.specs.Pixels.{PixelWrite, bit, writePixel, draw, seen}
 use Rattle.model.specs.Rects.{none, fits}
-use Rattle.model.specs.Marks.{within, drawn, drawnOn, whole}
+use Rattle.model.specs.Marks.{within, drawn, drawnOn, whole, Drawing}
 use Rattle.model.specs.Points.{pointOp, pointWrite}
 use Rattle.model.specs.Bitmaps.{paintOp, sourceStride, maxZero, visible, visibleRect, paintedPixel, paintedLine, paintedLines, bitmap}
 use Rattle.laws.specs.Tests.{tests, if-cases, by-lt, by-test}
@@ -168,25 +168,24 @@ module _ (st h : ℕ) (source : List ℕ) (x y : ℤ) (w n : ℕ) (m : PaintMode
       (by-visible across down (λ o u. rw (rect-visible across down o u) (inr (omega (arith, visible-in x w (8 * st) o, visible-in y n h u)))) (λ o. inl (o .0)))
 
   module _ (s : List ℕ) {across down : Visible} (p : across ≡ visible x w (8 * st)) (q : down ≡ visible y n h) where
-    same-bitmap : (e : List ℕ) (k : Marks) → k ≡ both (visibleRect across down) → e ≡ draw st (seen st h (writes-of across down)) s
+    same-bitmap : (e : List ℕ) {k : Marks} → k ≡ both (visibleRect across down) → e ≡ draw st (seen st h (writes-of across down)) s
         → drawn k e ≡ drawnOn st h (bitmap st h source x y w n m) s
     unfolding bitmap
-    same-bitmap e k f g =
-        drawn-is st h (record { writes = writes-of across down; dirty = visibleRect across down; owed = visibleRect across down }) s e k
-        (within-visible across down) (λ i. f i .dirty) (λ i. f i .owed) g
-        ∙ (λ i. drawnOn st h (record { writes = writes-of (p i) (q i); dirty = visibleRect (p i) (q i); owed = visibleRect (p i) (q i) }) s)
+    same-bitmap e f g =
+        let as-drawing : Visible → Visible → Drawing = λ a b. record { writes = writes-of a b; dirty = visibleRect a b; owed = visibleRect a b } in
+        drawn-is st h (as-drawing across down) s e (within-visible across down) f g ∙ (λ i. drawnOn st h (as-drawing (p i) (q i)) s)
 
     pub bitmap-painted : (e : List ℕ) {k : Marks} → across .from < across .to → down .from < down .to → k ≡ both (visibleMark across down)
         → e ≡ draw st (writes-of across down) s → drawn k e ≡ drawnOn st h (bitmap st h source x y w n m) s
-    bitmap-painted e {k} a b f g =
+    bitmap-painted e a b f g =
         let i : across .to ≤ 8 * st = rw p (visible-in x w (8 * st) (rw p at a) .1) in
         let j : down .to ≤ h = rw q (visible-in y n h (rw q at b) .1) in
         let in-screen = lines-within (sourceStride w) source m across (whole st h) (down .skip) (down .from) (down .to - down .from) (omega arith) a i (omega arith) (omega arith) in
-        same-bitmap e k (f ∙ ap both (sym (rect-visible across down a b))) (cc (all-seen st h (writes-of across down) in-screen))
+        same-bitmap e (f ∙ ap both (sym (rect-visible across down a b))) (cc (all-seen st h (writes-of across down) in-screen))
 
     bitmap-hidden : {k : Marks} → (across .to ≤ across .from) ⊎ (down .to ≤ down .from) → k ≡ both none → drawn k s ≡ drawnOn st h (bitmap st h source x y w n m) s
     unfolding seen draw
-    bitmap-hidden {k} o f = let z = hidden across down o in same-bitmap s k (f ∙ ap both (sym (z .0))) (rw (z .1))
+    bitmap-hidden o f = let z = hidden across down o in same-bitmap s (f ∙ ap both (sym (z .0))) (rw (z .1))
 
     pub bitmap-beside : {k : Marks} → across .to ≤ across .from → k ≡ both none → drawn k s ≡ drawnOn st h (bitmap st h source x y w n m) s
     bitmap-beside a f = bitmap-hidden (inl a) f

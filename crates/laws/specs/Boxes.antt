@@ -142,7 +142,7 @@ module _ (st h x1 y1 x2 y2 : ℕ) (d : DrawMode) (s e : List ℕ) {l t r b : ℕ
   same-box : (fill : Bool) → e ≡ draw st (seen st h (boxOf st h l t r b fill d .writes)) s → drawn m e ≡ drawnOn st h (box st h x1 y1 x2 y2 fill d) s
   unfolding box boxOf
   same-box fill w =
-      drawn-is st h (boxOf st h l t r b fill d) s e m (box-within st h l t r b d (omega arith) (omega arith) fill) (λ i. marks i .dirty) (λ i. marks i .owed) w
+      drawn-is st h (boxOf st h l t r b fill d) s e (box-within st h l t r b d (omega arith) (omega arith) fill) marks w
       ∙ (λ i. drawnOn st h (boxOf st h (pl i) (pt i) (pr i) (pb i) fill d) s)
 
   pub box-filled : {fill : Bool} {k : DrawMode} → fill ≡ true → k ≡ solid d → e ≡ draw st (seen st h (filledBox st h l t r b k)) s → drawn m e ≡ drawnOn st h (box st h x1 y1 x2 y2 fill d) s

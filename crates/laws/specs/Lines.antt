@@ -181,18 +181,15 @@ pub horizontal-marked : (st h left right y : ℕ) (d : DrawMode) (s e : List ℕ
     → drawn m e ≡ drawnOn st h (horizontalLine st h left right y d) s
 unfolding horizontalLine
 horizontal-marked st h left right y d s e l same p w =
-    drawn-is st h (horizontalLine st h left right y d) s e _
-    (horizontal-within st h (spanRect left y right y) left right y d l (omega arith) (omega arith) (omega arith) (omega arith))
-    (λ i. p i .dirty) (λ i. p i .owed) (horizontal-in st h d s e same left right y w)
+    let lies = horizontal-within st h (spanRect left y right y) left right y d l (omega arith) (omega arith) (omega arith) (omega arith) in
+    drawn-is st h (horizontalLine st h left right y d) s e lies p (horizontal-in st h d s e same left right y w)
 
 pub vertical-marked : (st h x top bottom : ℕ) (d : DrawMode) (s e : List ℕ) {m : Marks} → top ≤ bottom
     → m ≡ both (spanRect x top x bottom) → e ≡ draw st (seen st h (vertical x top bottom d)) s
     → drawn m e ≡ drawnOn st h (verticalLine x top bottom d) s
 unfolding verticalLine
 vertical-marked st h x top bottom d s e l p w =
-    drawn-is st h (verticalLine x top bottom d) s e _
-    (vertical-within (spanRect x top x bottom) x top bottom d l (omega arith) (omega arith) (omega arith) (omega arith))
-    (λ i. p i .dirty) (λ i. p i .owed) w
+    drawn-is st h (verticalLine x top bottom d) s e (vertical-within (spanRect x top x bottom) x top bottom d l (omega arith) (omega arith) (omega arith) (omega arith)) p w
 
 -- Lines that are neither horizontal nor vertical: no pixel lies outside the box of the ends, though the error sums wrap.
 -- After k turns a coordinate with distance `dist` has made s steps, and its error sum e has e + m * s ≤ k * dist, where m is the longer distance: a turn
@@ -336,8 +333,7 @@ pub sloped-marked : (st h x1 y1 x2 y2 : ℕ) (d : DrawMode) (s e : List ℕ) {m 
     → drawn m e ≡ drawnOn st h (slopedLine x1 y1 x2 y2 d) s
 unfolding slopedLine
 sloped-marked st h x1 y1 x2 y2 d s e o hx h1 h2 p q r w =
-    let k = r ∙ (λ i. both (spanRect x1 (p i) x2 (q i))) in
-    drawn-is st h (slopedLine x1 y1 x2 y2 d) s e _ (sloped-within x1 y1 x2 y2 d o hx h1 h2) (λ i. k i .dirty) (λ i. k i .owed) w
+    drawn-is st h (slopedLine x1 y1 x2 y2 d) s e (sloped-within x1 y1 x2 y2 d o hx h1 h2) (r ∙ (λ i. both (spanRect x1 (p i) x2 (q i)))) w
 
 -- `draw_line`: every line is horizontal, vertical, sloped or nothing; what holds of these holds of it.
 

@@ -128,10 +128,10 @@ unfolding owes
 owes-mark st h r ws e = rw (within-seen st h r ws e)
 
 -- and a function that returns the mark without a test answers as the definition says
-pub drawn-is : (st h : ℕ) (g : Drawing) (s e : List ℕ) (m : Marks) → within (g .owed) (g .writes) ≡ true
-    → m .dirty ≡ g .dirty → m .owed ≡ g .owed → e ≡ draw st (seen st h (g .writes)) s → drawn m e ≡ drawnOn st h g s
+pub drawn-is : (st h : ℕ) (g : Drawing) (s e : List ℕ) {m : Marks} → within (g .owed) (g .writes) ≡ true → m ≡ record { dirty = g .dirty; owed = g .owed }
+    → e ≡ draw st (seen st h (g .writes)) s → drawn m e ≡ drawnOn st h g s
 unfolding drawn drawnOn
-drawn-is st h g s e m w p q k = λ i. record { dirty = p i; owed = (q ∙ sym (owes-mark st h (g .owed) (g .writes) w)) i; screen = k i }
+drawn-is st h g s e w p k = λ i. record { dirty = p i .dirty; owed = ((λ j. p j .owed) ∙ sym (owes-mark st h (g .owed) (g .writes) w)) i; screen = k i }
 
 -- ---- a screen stays one
 
