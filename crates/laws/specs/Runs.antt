@@ -20,13 +20,14 @@ use Rattle.model.specs.declared.DrawMode.{DrawMode}
 use Rattle.model.specs.declared.DrawMode.the-variants.{Clear, Or, Xor, Unknown}
 use Rattle.model.specs.Points.{pointOp, pointWrite}
 use Rattle.model.specs.Lines.{isUnknown, runOp, pixelRun}
-use Rattle.laws.specs.Tests.{by-lt, by-eq, clash, by-test, tests, and-true}
+use Rattle.laws.specs.Tests.{by-lt, by-eq, clash, by-test, tests, and-true, either}
 use Rattle.laws.specs.Bits.{same-bool, every-at, every₂-at}
 use Rattle.laws.specs.Bytes.{bitAt-and, Masked, bytes-set, bytes-put, screens-equal, bitAt-xor, bitAt-not}
 use Rattle.laws.specs.Pixels.{place-line, length-put, put-same, put-other}
 use Rattle.laws.specs.Writes.{draw-append, drawn-append, screen-draw}
 use Rattle.laws.specs.Points.{maskOf, seen-one, seen-none}
 use Rattle.laws.specs.Lines.{on-is, off-is}
+use Rattle.laws.specs.Rects.{decIn}
 
 -- ---- the masks
 
@@ -143,16 +144,9 @@ run-line st y a b op p p₁ p₂ p₃ l hb f g h =
 pub run-equal : (st y a b : ℕ) (op : ℕ → Bool → Bool) (p q r : List ℕ) → 0 < st → Run st y a b op p q → Run st y a b op p r → q ≡ r
 run-equal st y a b op p q r hst f g =
     screens-equal st q r hst (f .sized ∙ sym (g .sized)) (f .bytes) (g .bytes)
-    (λ x y′ hx.
-    by-run x y′
-    (λ i. rw (i .0) (f .within x (i .1) (i .2) ∙ sym (g .within x (i .1) (i .2))))
-    (λ n. f .others x y′ hx n ∙ sym (g .others x y′ hx n)))
-  where
-    by-run : {P : Type 0} (x y′ : ℕ) → (InRun y a b x y′ → P) → ((InRun y a b x y′ → ⊥) → P) → P
-    by-run x y′ s t =
-        by-eq y′ y
-        (λ e. by-lt x a (λ l. t (λ i. omega arith)) (λ l. by-lt x b (λ u. s (e, l, u)) (λ u. t (λ i. omega arith))))
-        (λ d. t (λ i. d (i .0)))
+    (λ x y′ hx. either (decIn (record { left = a; top = y; right = b; bottom = y + 1 }) x y′)
+    (λ i. let e : y′ ≡ y = omega arith in rw e (f .within x (i .0) (i .1) ∙ sym (g .within x (i .0) (i .1))))
+    (λ n. let o : InRun y a b x y′ → ⊥ = λ i. n (omega arith) in f .others x y′ hx o ∙ sym (g .others x y′ hx o)))
 
 -- ---- a run within one byte, by its mask
 
