@@ -13,11 +13,10 @@ pub mod Flags
 pub mod Record
 pub mod States
 pub mod Windows
-pub mod Loops
 pub mod Owed
 pub mod Panels
 pub mod StateTest
-pub mod Keys
+pub mod Loops
 pub mod RecordTable
 pub mod Glasses
 pub mod Pendings

@@ -19,8 +19,7 @@ use Rattle.model.specs.Calls.{Lent, lent}
 use Rattle.model.specs.Lists.{marks, opens, affected}
 use Rattle.laws.specs.Tests.{true-all}
 use Rattle.laws.specs.Writes.{whole-agrees}
-use Rattle.laws.specs.Loops.{length-zeros}
-use Rattle.laws.specs.Keys.{length-withKeys}
+use Rattle.laws.specs.Loops.{length-zeros, length-withKeys}
 use Rattle.laws.specs.Record.{head-tells}
 use Rattle.laws.specs.Flags.{length-no-flags}
 use Rattle.laws.specs.Updates.{flags-formed}
