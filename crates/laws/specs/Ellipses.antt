@@ -127,9 +127,8 @@ pub record OnWay (r rx ry n : ℕ) (w : Walk) : Type 0 where
   pub left : n ≡ suc p + (r - j)
 
 -- the next step is the last, or one fewer are left
-pub data Next (r rx ry n : ℕ) (w : Walk) : Type 0 where
-  ends : ended (step r rx ry w) ≡ true → Next r rx ry n w
-  goes : (m : ℕ) → ended (step r rx ry w) ≡ false → n ≡ suc m → OnWay r rx ry m (step r rx ry w) → Next r rx ry n w
+abbrev Next : ℕ → ℕ → ℕ → ℕ → Walk → Type 0
+Next r rx ry n w = (ended (step r rx ry w) ≡ true) ⊎ ((m : ℕ) × (ended (step r rx ry w) ≡ false) × (n ≡ suc m) × OnWay r rx ry m (step r rx ry w))
 
 step-is : (r rx ry : ℕ) (w : Walk) {t : Bool} → w .neg ≡ t → step r rx ry w ≡ cond t (yStep r ry w) (xStep r rx w)
 unfolding step
@@ -180,12 +179,12 @@ module _ (r rx ry : ℕ) (q : Radii r rx ry) where
       (record { x = x-on r rx p (w .x) (k .x) (q .some) (q .x) (q .most); y = k .y; circle = x-circle (w .fxy) (w .x .f) (suc p) j r (k .x .f) (rw n at (k .circle)) })
 
   goes-on : (n p j : ℕ) (w : Walk) → Walking r rx ry (suc p) j (step r rx ry w) → n ≡ suc (suc p + (r - j)) → Next r rx ry n w
-  goes-on n p j w k e = by-test (ended (step r rx ry w)) ends (λ t. goes _ t e (record { p = p; j = j; walking = k; left = refl }))
+  goes-on n p j w k e = by-test (ended (step r rx ry w)) inl (λ t. inr (suc p + (r - j), t, e, record { p = p; j = j; walking = k; left = refl }))
 
   -- a step along x, from p + 1: the last where p is 0
   next-x : (n p j : ℕ) (w : Walk) → Walking r rx ry (suc p) j w → n ≡ suc p + (r - j) → w .neg ≡ false → Next r rx ry n w
   unfolding xStep ended
-  next-x n zero j w k l e = ends (rw (step-is r rx ry w e) (eq-eqb _ 0 (x-last r rx (w .x) (k .x) (q .some) (q .x) (q .most))))
+  next-x n zero j w k l e = inl (rw (step-is r rx ry w e) (eq-eqb _ 0 (x-last r rx (w .x) (k .x) (q .some) (q .x) (q .most))))
   next-x n (suc p) j w k l e = goes-on n p j w (rw (step-is r rx ry w e) (step-x p j w k e)) (omega arith)
 
   next-y : (n p j : ℕ) (w : Walk) → Walking r rx ry (suc p) j w → n ≡ suc p + (r - j) → w .neg ≡ true → Next r rx ry n w
@@ -199,11 +198,8 @@ module _ (r rx ry : ℕ) (q : Radii r rx ry) where
   counted : (k n : ℕ) (w : Walk) → OnWay r rx ry n w → stepsFrom k r rx ry w ≤ n
   unfolding stepsFrom
   counted zero n w o = omega arith
-  counted (suc k) n w o = go (next n w o) (λ m o′. counted k m (step r rx ry w) o′)
-    where
-      go : Next r rx ry n w → ((m : ℕ) → OnWay r rx ry m (step r rx ry w) → stepsFrom k r rx ry (step r rx ry w) ≤ m) → stepsFrom (suc k) r rx ry w ≤ n
-      go (ends t) f = rw t (omega (arith, o .left))
-      go (goes m t e o′) f = rw t (omega (arith, f m o′))
+  counted (suc k) n w o =
+      either (next n w o) (λ t. rw t (omega (arith, o .left))) (λ g. rw (g .1) (omega (arith, counted k (g .0) (step r rx ry w) (g .3), g .2)))
 
   -- ---- no part exceeds a radius
 
@@ -224,12 +220,8 @@ module _ (r rx ry : ℕ) (q : Radii r rx ry) where
   unfolding partsFrom
   parts-from zero n w o = tt
   parts-from (suc k) n w o =
-      each-append (Inner rx ry) (stepParts r rx ry w) _ (step-parts n w o) (go (next n w o) (λ m o′. parts-from k m (step r rx ry w) o′))
-    where
-      go : Next r rx ry n w → ((m : ℕ) → OnWay r rx ry m (step r rx ry w) → AllInner rx ry (partsFrom k r rx ry (step r rx ry w)))
-          → AllInner rx ry (cond (ended (step r rx ry w)) [] (partsFrom k r rx ry (step r rx ry w)))
-      go (ends t) f = rw t tt
-      go (goes m t e o′) f = rw t (f m o′)
+      each-append (Inner rx ry) (stepParts r rx ry w) _ (step-parts n w o)
+      (either (next n w o) (λ t. rw t tt) (λ g. rw (g .1) (parts-from k (g .0) (step r rx ry w) (g .3))))
 
 -- the radii of an ellipse that is walked
 pub record Round (rx ry : ℕ) : Type 0 where
@@ -322,24 +314,18 @@ module _ (st h x y r rx ry : ℕ) (fill : Bool) (d : DrawMode) where
   painting-turn : Radii r rx ry → (w : Walk) (s e t : List ℕ) → Painting st h x y r rx ry fill d w s t
       → e ≡ painted st h x y fill d (stepParts r rx ry w) s → ended (step r rx ry w) ≡ false
       → Painting st h x y r rx ry fill d (step r rx ry w) e t × (stepsLeft r (step r rx ry w) < stepsLeft r w)
-  painting-turn q w s e t k p f = go (next r rx ry q (k .left) w (k .way)) (k .most) (k .rest) (k .enough)
-    where
-      go : Next r rx ry (k .left) w → (n : ℕ) → painted st h x y fill d (partsFrom n r rx ry w) s ≡ t → k .left ≤ n
-          → Painting st h x y r rx ry fill d (step r rx ry w) e t × (stepsLeft r (step r rx ry w) < stepsLeft r w)
-      go (ends g) n u l = clash (ended (step r rx ry w)) g f
-      go (goes m g c o) zero u l = absurd (omega arith)
-      go (goes m g c o) (suc n) u l = (
-        record { most = n; left = m; way = o; enough = omega arith; rest = rw f at (turned-rest n w s e t p u) },
-        omega (arith, left-is r rx ry (k .left) w (k .way), left-is r rx ry m (step r rx ry w) o),
-      )
+  painting-turn q w s e t k p f =
+      either (next r rx ry q (k .left) w (k .way)) (λ g. clash (ended (step r rx ry w)) g f)
+      (λ g. let n : k .most ≡ suc (k .most - 1) = omega (arith, k .enough, g .2) in (
+        record { most = k .most - 1; left = g .0; way = g .3; enough = omega (arith, k .enough, g .2); rest = rw f at (turned-rest (k .most - 1) w s e t p (rw n at (k .rest))) },
+        omega (arith, left-is r rx ry (k .left) w (k .way), left-is r rx ry (g .0) (step r rx ry w) (g .3), g .2),
+      ))
 
   painting-end : (w : Walk) (s e t : List ℕ) → Painting st h x y r rx ry fill d w s t
       → e ≡ painted st h x y fill d (stepParts r rx ry w) s → ended (step r rx ry w) ≡ true → e ≡ t
-  painting-end w s e t k p f = go (k .most) (k .rest) (k .enough)
-    where
-      go : (n : ℕ) → painted st h x y fill d (partsFrom n r rx ry w) s ≡ t → k .left ≤ n → e ≡ t
-      go zero u l = absurd (omega (arith, k .way .left))
-      go (suc n) u l = sym (painted-none st h x y fill d e) ∙ (rw f at (turned-rest n w s e t p u))
+  painting-end w s e t k p f =
+      let n : k .most ≡ suc (k .most - 1) = omega (arith, k .enough, k .way .left) in
+      sym (painted-none st h x y fill d e) ∙ (rw f at (turned-rest (k .most - 1) w s e t p (rw n at (k .rest))))
 
   -- the same of what the code has: ps are drawn and were not the last, and a step gave v and qs
   module _ (q : Radii r rx ry) {w v : Walk} {ps qs : List Part} {b c : Bool} {s e t : List ℕ} (k : LeftToDraw st h x y r rx ry fill d b w ps s t)
