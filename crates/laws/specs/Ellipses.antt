@@ -305,27 +305,27 @@ module _ (st h x y r rx ry : ℕ) (fill : Bool) (d : DrawMode) where
       record { last = λ z. clash false z refl; more = λ z. rw (f, g) (record { most = mostSteps; left = r + r; way = on-start r rx ry q; enough = omega arith; rest = cc }) }
 
   -- a step's parts drawn, the rest is left
-  turned-rest : (n : ℕ) (w : Walk) (s e t : List ℕ) → e ≡ painted st h x y fill d (stepParts r rx ry w) s
-      → painted st h x y fill d (partsFrom (suc n) r rx ry w) s ≡ t
-      → painted st h x y fill d (cond (ended (step r rx ry w)) [] (partsFrom n r rx ry (step r rx ry w))) e ≡ t
+  turned-rest : (w : Walk) (s e t : List ℕ) (k : Painting st h x y r rx ry fill d w s t) → e ≡ painted st h x y fill d (stepParts r rx ry w) s
+      → painted st h x y fill d (cond (ended (step r rx ry w)) [] (partsFrom (k .most - 1) r rx ry (step r rx ry w))) e ≡ t
   unfolding partsFrom
-  turned-rest n w s e t k u = cc (painted-append st h x y fill d _ _ s)
+  turned-rest w s e t k p =
+      let n : k .most ≡ suc (k .most - 1) = omega (arith, k .enough, k .way .left) in
+      let u = rw n at (k .rest) in
+      cc (painted-append st h x y fill d _ _ s)
 
   painting-turn : Radii r rx ry → (w : Walk) (s e t : List ℕ) → Painting st h x y r rx ry fill d w s t
       → e ≡ painted st h x y fill d (stepParts r rx ry w) s → ended (step r rx ry w) ≡ false
       → Painting st h x y r rx ry fill d (step r rx ry w) e t × (stepsLeft r (step r rx ry w) < stepsLeft r w)
   painting-turn q w s e t k p f =
       either (next r rx ry q (k .left) w (k .way)) (λ g. clash (ended (step r rx ry w)) g f)
-      (λ g. let n : k .most ≡ suc (k .most - 1) = omega (arith, k .enough, g .2) in (
-        record { most = k .most - 1; left = g .0; way = g .3; enough = omega (arith, k .enough, g .2); rest = rw f at (turned-rest (k .most - 1) w s e t p (rw n at (k .rest))) },
+      (λ g. (
+        record { most = k .most - 1; left = g .0; way = g .3; enough = omega (arith, k .enough, g .2); rest = rw f at (turned-rest w s e t k p) },
         omega (arith, left-is r rx ry (k .left) w (k .way), left-is r rx ry (g .0) (step r rx ry w) (g .3), g .2),
       ))
 
   painting-end : (w : Walk) (s e t : List ℕ) → Painting st h x y r rx ry fill d w s t
       → e ≡ painted st h x y fill d (stepParts r rx ry w) s → ended (step r rx ry w) ≡ true → e ≡ t
-  painting-end w s e t k p f =
-      let n : k .most ≡ suc (k .most - 1) = omega (arith, k .enough, k .way .left) in
-      sym (painted-none st h x y fill d e) ∙ (rw f at (turned-rest (k .most - 1) w s e t p (rw n at (k .rest))))
+  painting-end w s e t k p f = sym (painted-none st h x y fill d e) ∙ (rw f at (turned-rest w s e t k p))
 
   -- the same of what the code has: ps are drawn and were not the last, and a step gave v and qs
   module _ (q : Radii r rx ry) {w v : Walk} {ps qs : List Part} {b c : Bool} {s e t : List ℕ} (k : LeftToDraw st h x y r rx ry fill d b w ps s t)
