@@ -2,7 +2,7 @@
 use mathlib.Core.Path.{_≡_, refl, sym, ap, _∙_}
 use mathlib.Core.Logic.{inl, inr, _⊎_}
 use mathlib.Core.Bool.{Bool, true, false, cond, xor}
-use mathlib.Core.List.{List, [], _∷_, _++_}
+use mathlib.Core.List.{List, []}
 use Prim.Native.Nat.{ℕ, zero, suc, _+_, _-_, _*_, _≤_, _<_, min}
 use native.Mathlib.Omega.{arith}
 use native.Mathlib.Numerals.{add-one}
@@ -23,7 +23,7 @@ use Rattle.model.specs.Points.{pointOp, pointWrite}
 use Rattle.model.specs.Bitmaps.{paintOp, sourceStride, maxZero, visible, visibleRect, paintedPixel, paintedLine, paintedLines, bitmap}
 use Rattle.laws.specs.Tests.{tests, if-cases, by-lt, by-test}
 use Rattle.laws.specs.Rects.{fits-passes}
-use Rattle.laws.specs.Writes.{draw-append, seen-append, within-append, within-none, within-more, OwesItsMark, owes-mark, drawn-is}
+use Rattle.laws.specs.Writes.{draw-append, within-append, within-none, within-more, OwesItsMark, owes-mark, drawn-is}
 use Rattle.laws.specs.Points.{both}
 use Rattle.laws.specs.Lines.{all-seen}
 

@@ -1,14 +1,14 @@
 -- The cursor: where it stands, which one a blink inverts, and which one is shown afterwards.
-use mathlib.Core.Path.{_≡_, sym, ap, _∙_}
+use mathlib.Core.Path.{_≡_}
 use mathlib.Core.Bool.{true}
 use mathlib.Core.List.{List}
 use Prim.Native.Nat.{ℕ, _+_, _-_, _*_, _<_, _≤_}
 use native.Mathlib.Omega.{arith}
 use lib.Arith.{digits-lt}
 use lib.Dec.{eqb, leb}
-use lib.ListN.{getD, drop}
+use lib.ListN.{getD}
 use lib.Seq.{getD-take, getD-drop}
-use borrow.Author.Tests.{eq-eqb, ne-eqb, eqb-false, le-leb, lt-leb}
+use borrow.Author.Tests.{eq-eqb, ne-eqb, le-leb, lt-leb}
 use Rattle.model.specs.declared.DrawMode.the-variants.{Xor}
 use Rattle.model.specs.declared.Head.{Head}
 use Rattle.model.specs.Geometry.{Geometry, glyphHeight, columns, cells}

@@ -1,14 +1,14 @@
 -- The page of text: how it scrolls, that it stays a page whatever is printed, and what the loops of printing do.
 use mathlib.Core.Path.{_≡_, refl, sym, ap, _∙_}
-use mathlib.Core.List.{List, _++_, append-nil, append-assoc, [], _∷_}
+use mathlib.Core.List.{List, _++_, append-nil, [], _∷_}
 use mathlib.Core.Bool.{Bool, false, _&&_, true, not}
 use mathlib.Core.Logic.{_⊎_, inl, inr}
 use Prim.Native.Nat.{ℕ, zero, suc, _+_, _-_, _*_, _<_, _≤_, min}
-use native.Mathlib.Nat.{zero-mul, zero-add, suc-add, le-of-lt, mul-le-mul-right, le-mul-of-pos-right, mul-comm, one-mul}
+use native.Mathlib.Nat.{zero-mul, zero-add, mul-le-mul-right}
 use native.Mathlib.Omega.{arith}
 use native.Mathlib.Numerals.{add-one}
-use lib.ListN.{length, getD, set, take, drop, replicate, length-append, length-drop, length-replicate, replicate-append-replicate, drop-of-length-le, length-set, List·getD-eq-default}
-use lib.Seq.{getD-append-add, getD-drop, length-take-le, take-all, drop-append-le, drop-drop, drop-cons, drop-at}
+use lib.ListN.{length, getD, set, take, drop, replicate, length-append, length-drop, length-replicate, drop-of-length-le, length-set, List·getD-eq-default}
+use lib.Seq.{getD-append-add, getD-drop, length-take-le, take-all, drop-cons, ext-getD}
 use lib.Arith.{digits-lt}
 use lib.Dec.{leb, eqb, ltb}
 use borrow.Author.Tests.{eqb-false, leb-true, le-leb, ltb-true, not-true, not-false}
@@ -55,48 +55,33 @@ unfolding scrolledTimes
 length-times zero k s h = refl
 length-times (suc n) k s h = length-times n k (scrolled k 0 s) (rw (length-scrolled k 0 s h) h) ∙ length-scrolled k 0 s h
 
--- n scrolls by k are one by n * k
-times-once : (n k : ℕ) (s : List ℕ) → n * k ≤ length s → scrolledTimes n k s ≡ scrolled (n * k) 0 s
-unfolding scrolledTimes scrolled
-times-once zero k s h = rw zero-mul (sym (append-nil s))
-times-once (suc n) k s h =
-    let e : k + n * k ≡ suc n * k = omega arith in
-    let rest = times-once n k (scrolled k 0 s) (rw (length-scrolled k 0 s (omega arith)) (omega arith)) in
-    let past = drop-append-le (n * k) (drop k s) (replicate k 0) (simp length-drop (omega arith)) in
-    cc (drop-drop (n * k) k s, append-assoc (drop (k + n * k) s) (replicate k 0) (replicate (n * k) 0), replicate-append-replicate {A = ℕ} k (n * k) 0)
+-- past the end of a list every element reads as 0, so zeros after it change nothing that is read
+zeros-after : (l : List ℕ) (k i : ℕ) → getD (l ++ replicate k 0) i 0 ≡ getD l i 0
+zeros-after [] zero i = refl
+zeros-after [] (suc k) zero = refl
+zeros-after [] (suc k) (suc i) = zeros-after [] k i
+zeros-after (x ∷ l) k zero = refl
+zeros-after (x ∷ l) k (suc i) = zeros-after l k i
 
--- a blank screen stays blank
-blank-once : (k m : ℕ) → k ≤ m → scrolled k 0 (zeros m) ≡ zeros m
-unfolding scrolled zeros
-blank-once k m h =
-    let e : k + (m - k) ≡ m = omega arith in
-    let f : m - k + k ≡ m = omega arith in
-    cc (replicate-append-replicate {A = ℕ} k (m - k) 0, replicate-append-replicate {A = ℕ} (m - k) k 0, drop-at (zeros k) (zeros (m - k)) k (length-zeros k))
+scrolled-at : (k : ℕ) (s : List ℕ) (i : ℕ) → getD (scrolled k 0 s) i 0 ≡ getD s (k + i) 0
+unfolding scrolled
+scrolled-at k s i = zeros-after (drop k s) k i ∙ getD-drop k s i 0
 
-blank-times : (n k m : ℕ) → k ≤ m → scrolledTimes n k (zeros m) ≡ zeros m
+times-at : (n k : ℕ) (s : List ℕ) (i : ℕ) → getD (scrolledTimes n k s) i 0 ≡ getD s (n * k + i) 0
 unfolding scrolledTimes
-blank-times zero k m h = refl
-blank-times (suc n) k m h = ap (scrolledTimes n k) (blank-once k m h) ∙ blank-times n k m h
-
-times-add : (n j k : ℕ) (s : List ℕ) → scrolledTimes (n + j) k s ≡ scrolledTimes j k (scrolledTimes n k s)
-unfolding scrolledTimes
-times-add zero j k s = rw zero-add
-times-add (suc n) j k s = rw suc-add (times-add n j k (scrolled k 0 s))
-
--- all the rows scrolled away: nothing is left
-all-gone : (k : ℕ) (s : List ℕ) → length s ≡ k → scrolled k 0 s ≡ zeros k
-unfolding scrolled zeros
-all-gone k s h = ap (λ (x : List ℕ). x ++ replicate k 0) (drop-of-length-le s {i = k} (omega arith))
+times-at zero k s i = rw (zero-mul, zero-add)
+times-at (suc n) k s i = let e : k + (n * k + i) ≡ suc n * k + i = omega arith in cc (times-at n k (scrolled k 0 s) i, scrolled-at k s (n * k + i))
 
 -- on a screen of m text rows: after m scrolls nothing changes
 pub times-most : (n m k : ℕ) (s : List ℕ) → length s ≡ m * k → 0 < m → scrolledTimes n k s ≡ scrolled (min n m * k) 0 s
 times-most n m k s h p =
-    by-lt n m
-    (λ l. let e : n ≡ min n m = omega arith in times-once n k s (rw h (mul-le-mul-right k (le-of-lt l))) ∙ ap (λ (x : ℕ). scrolled (x * k) 0 s) e)
-    (λ l. let e : n ≡ m + (n - m) = omega arith in
-    let f : m ≡ min n m = omega arith in
-    let g : k ≤ m * k = rw (mul-comm m k) (le-mul-of-pos-right k p) in
-    cc (times-add m (n - m) k s, times-once m k s (rw h (omega arith)), all-gone (m * k) s h, blank-times (n - m) k (m * k) g))
+    let some = mul-le-mul-right {m = 1} {n = m} k p in
+    let fits = mul-le-mul-right {m = min n m} {n = m} k (omega arith) in
+    ext-getD 0 _ _ (length-times n k s (omega arith) ∙ sym (length-scrolled (min n m * k) 0 s (omega arith)))
+    (λ i l. by-lt n m
+    (λ o. let e : n ≡ min n m = omega arith in cc (times-at n k s i, scrolled-at (min n m * k) s i))
+    (λ o. let e : m ≡ min n m = omega arith in
+    cc (times-at n k s i, scrolled-at (min n m * k) s i, List·getD-eq-default s 0 {n = n * k + i} (omega (arith, mul-le-mul-right k o)), List·getD-eq-default s 0 {n = m * k + i} (omega arith))))
 
 -- Pages: whatever is printed, a page keeps its size, its next cell lies on it, and each step scrolls at most once.
 
