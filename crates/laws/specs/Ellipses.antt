@@ -310,7 +310,7 @@ module _ (st h x y r rx ry : ℕ) (fill : Bool) (d : DrawMode) where
   unfolding partsFrom
   turned-rest w s e t k p =
       let n : k .most ≡ suc (k .most - 1) = omega (arith, k .enough, k .way .left) in
-        cc (painted-append st h x y fill d _ _ s)
+      cc (painted-append st h x y fill d _ _ s)
 
   painting-turn : Radii r rx ry → (w : Walk) (s e t : List ℕ) → Painting st h x y r rx ry fill d w s t
       → e ≡ painted st h x y fill d (stepParts r rx ry w) s → ended (step r rx ry w) ≡ false

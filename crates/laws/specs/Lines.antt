@@ -5,7 +5,7 @@ use mathlib.Core.List.{List, _∷_, _++_, []}
 use mathlib.Core.Logic.{inr, inl, _⊎_}
 use Prim.Native.Nat.{ℕ, zero, suc, _+_, _-_, _*_, _≤_, _<_, min, _%_, max}
 use native.Mathlib.Omega.{arith}
-use native.Mathlib.Nat.{mul-le-mul-left, mul-le-mul-right, add-mul-mod-self-right}
+use native.Mathlib.Nat.{mul-le-mul-left, mul-le-mul-right}
 use native.Mathlib.Numerals.{add-one}
 use lib.Dec.{leb, ltb, eqb}
 use borrow.Author.Tests.{lt-ltb, le-ltb, leb-true, le-leb, eq-eqb, ne-eqb}
@@ -235,13 +235,7 @@ module _ (p : Slope) (r : Rect) (x1 : ℕ) (at : ℕ → ℕ) (d : DrawMode)
   pub slope-box : (y1 : ℕ) → 0 < p .distMax → y1 ≡ at 0 → within r (slope p (suc (p .distMax)) x1 y1 0 0 d) ≡ true
   slope-box y1 o e = let q : x1 ≡ x1 + 0 = omega arith in cc (slope-within (suc (p .distMax)) 0 0 0 0 0 (omega arith) (omega arith) (omega arith))
 
--- u steps of 255 are u steps back
-back : (y u : ℕ) → u ≤ y → y < 256 → (y + 255 * u) % 256 ≡ y - u
-back y u l h =
-    let e : y + 255 * u ≡ (y - u) + u * 256 = omega arith in
-    ap (λ (z : ℕ). z % 256) e ∙ add-mul-mod-self-right (y - u) u 256 ∙ omega arith
-
--- in one of the two directions
+-- in one of the two directions: u steps of 255 are u steps back
 pub sloped-within : (x1 y1 x2 y2 : ℕ) (d : DrawMode) → x1 < x2 → x2 < 256 → y1 < 256 → y2 < 256
     → within (spanRect x1 (min y1 y2) x2 (max y1 y2)) (sloped x1 y1 x2 y2 d) ≡ true
 unfolding sloped
@@ -252,7 +246,7 @@ sloped-within x1 y1 x2 y2 d o hx h1 h2 =
     (λ u. rw (lt-ltb y1 y2 l) (omega arith)) (λ u k. omega arith) y1 (omega arith) (omega arith))
     (λ l. slope-box (slopeOf x1 y1 x2 y2) (spanRect x1 (min y1 y2) x2 (max y1 y2)) x1 (λ u. (y1 + 255 * u) % 256) d
     (omega arith) (omega arith) (omega arith) (omega arith) (omega arith)
-    (λ u. rw (le-ltb y1 y2 l) (omega arith)) (λ u k. omega (arith, back y1 u (omega arith) h1)) y1 (omega arith) (omega arith))
+    (λ u. rw (le-ltb y1 y2 l) (omega arith)) (λ u k. let e : (y1 + 255 * u) % 256 ≡ y1 - u = omega arith in omega arith) y1 (omega arith) (omega arith))
 
 -- ---- the choice, as the code makes it
 
