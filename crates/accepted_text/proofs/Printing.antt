@@ -23,12 +23,11 @@ use Rattle.model.specs.Print.{Page, scrolledTimes, newlineOn, isInverse, printO
 use Rattle.model.specs.Calls.{print, newline, lent, answered, withPage, done}
 use Rattle.laws.specs.Memory.{length-withWindow}
 use Rattle.laws.specs.Parts.{part-back}
-use Rattle.laws.specs.Scrolls.{length-times}
+use Rattle.laws.specs.Pages.{length-times, Sheet, newline-sheet}
 use Rattle.laws.specs.Flags.{HasFlags, flags-read}
 use Rattle.laws.specs.Record.{has-flags, part-passes}
 use Rattle.laws.specs.StateTest.{flags-room, flags-part}
 use Rattle.laws.specs.Updates.{flags-known, flags-state}
-use Rattle.laws.specs.Pages.{Sheet, newline-sheet}
 use Rattle.laws.specs.Texts.{screen-rows, row-room, page-sheet}
 use Rattle.laws.specs.States.{well-formed}
 use Rattle.record.specs.Update.{updated}

@@ -12,7 +12,7 @@ use Rattle.model.specs.Codes.{indexIn, emojiIndex, gbRow, gbIndex, extraFrom, e
 use Rattle.model.specs.declared.Glyph.{Glyph}
 use Rattle.model.specs.declared.Glyph.the-variants.{Emoji, Gb, Extra, Hexadecimal}
 use Rattle.model.specs.Glyphs.{glyphOr, glyphOf}
-use Rattle.laws.specs.Codes.{found-at, found-nothing}
+use Rattle.laws.specs.Glyphs.{found-at, found-nothing}
 use Rattle.flush.specs.Choice.{extraGlyph, otherGlyph}
 use Rattle.laws.specs.Tests.{tests, all-true}
 

@@ -1,10 +1,11 @@
 -- Bitmaps: a painted pixel is a point in a draw mode; where the clipped lines lie; the lines as loops paint them; the marks.
 use mathlib.Core.Path.{_≡_, refl, sym, ap, _∙_}
-use mathlib.Core.Logic.{inl, inr}
+use mathlib.Core.Logic.{inl, inr, _⊎_}
 use mathlib.Core.Bool.{Bool, true, false, cond, xor}
-use mathlib.Core.List.{List, [], _∷_, _++_}
+use mathlib.Core.List.{List, []}
 use Prim.Native.Nat.{ℕ, zero, suc, _+_, _-_, _*_, _≤_, _<_, min}
 use native.Mathlib.Omega.{arith}
+use native.Mathlib.Numerals.{add-one}
 use lib.Dec.{ltb}
 use lib.IntN.{ℤ, pos, negsuc, subℕ}
 use borrow.Author.Tests.{lt-ltb, le-ltb}
@@ -17,14 +18,14 @@ use Rattle.model.specs.declared.PaintMode.{PaintMode}
 use Rattle.model.specs.declared.PaintMode.the-variants.{Copy, Or, Not, And, Xor}
 use Rattle.model.specs.Pixels.{PixelWrite, bit, writePixel, draw, seen}
 use Rattle.model.specs.Rects.{none, fits}
-use Rattle.model.specs.Marks.{within, drawn, drawnOn}
+use Rattle.model.specs.Marks.{within, drawn, drawnOn, whole, Drawing}
 use Rattle.model.specs.Points.{pointOp, pointWrite}
 use Rattle.model.specs.Bitmaps.{paintOp, sourceStride, maxZero, visible, visibleRect, paintedPixel, paintedLine, paintedLines, bitmap}
-use Rattle.laws.specs.Tests.{tests, if-cases, by-lt}
+use Rattle.laws.specs.Tests.{tests, if-cases, by-lt, by-test}
 use Rattle.laws.specs.Rects.{fits-passes}
-use Rattle.laws.specs.Writes.{draw-append, seen-append, within-append, within-none, within-more, OwesItsMark, owes-mark, drawn-is}
+use Rattle.laws.specs.Writes.{draw-append, within-append, within-none, within-more, OwesItsMark, owes-mark, drawn-is}
 use Rattle.laws.specs.Points.{both}
-use Rattle.laws.specs.Lines.{on-is}
+use Rattle.laws.specs.Lines.{all-seen}
 
 -- ---- a painted pixel is a point
 
@@ -38,18 +39,12 @@ paintAs Xor s = cond s Draw.Xor Draw.Unknown
 
 paint-point : (m : PaintMode) (s v : Bool) → pointOp (paintAs m s) v ≡ paintOp m s v
 unfolding pointOp paintOp xor
-paint-point Copy true v = refl
-paint-point Copy false v = refl
-paint-point Or true v = refl
-paint-point Or false v = refl
-paint-point Not true v = refl
-paint-point Not false v = refl
-paint-point And true v = refl
-paint-point And false v = refl
-paint-point Xor true true = refl
-paint-point Xor true false = refl
-paint-point Xor false true = refl
-paint-point Xor false false = refl
+paint-point Copy s v = by-test s (λ e. rw e) (λ e. rw e)
+paint-point Or s v = by-test s (λ e. rw e) (λ e. rw e)
+paint-point Not s v = by-test s (λ e. rw e) (λ e. rw e)
+paint-point And s v = by-test s (λ e. rw e) (λ e. rw e)
+paint-point Xor true v = by-test v (λ e. rw e) (λ e. rw e)
+paint-point Xor false v = by-test v (λ e. rw e) (λ e. rw e)
 
 paint-write : (x y : ℕ) (m : PaintMode) (s : Bool) → _≡_ {A = PixelWrite} (pointWrite x y (paintAs m s)) (record { x = x; y = y; op = paintOp m s })
 paint-write x y m s = λ i. record { x = x; y = y; op = λ v. paint-point m s v i }
@@ -65,10 +60,7 @@ max-sub n k = if-cases (λ (z : ℤ). maxZero z ≡ n - k) (ltb n k) (λ e. omeg
 
 pub visible-before : (z n size : ℕ) → visible (negsuc z) n size ≡ record { skip = z + 1; from = 0; to = min (n - (z + 1)) size }
 unfolding visible
-visible-before z n size =
-    let a : suc z ≡ z + 1 = omega arith in
-    let b : maxZero (subℕ n (suc z)) ≡ n - (z + 1) = max-sub n (suc z) ∙ ap (λ (k : ℕ). n - k) a in
-    λ i. record { skip = a i; from = 0; to = min (b i) size }
+visible-before z n size = rw (max-sub n (suc z), add-one z)
 
 pub visible-after : (z n size : ℕ) → visible (pos z) n size ≡ record { skip = 0; from = z; to = min (z + n) size }
 unfolding visible
@@ -91,22 +83,11 @@ module _ (k : ℕ) (source : List ℕ) (m : PaintMode) where
   line-within r i j x y zero a b e f = within-none r
   line-within r i j x y (suc n) a b e f = within-more r _ (paintedLine k source m (suc i) j (suc x) y n) (omega arith) (line-within r (suc i) j (suc x) y n (omega arith) (omega arith) e f)
 
-  line-seen : (st h i j x y n : ℕ) → x + n ≤ 8 * st → y < h → seen st h (paintedLine k source m i j x y n) ≡ paintedLine k source m i j x y n
-  unfolding paintedLine seen
-  line-seen st h i j x y zero a b = refl
-  line-seen st h i j x y (suc n) a b =
-      rw (on-is st h x y (omega arith) b)
-      (ap (λ (l : List PixelWrite). paintedPixel k source m i j x y ∷ l) (line-seen st h (suc i) j (suc x) y n (omega arith) b))
-
   -- what is left of a line, painted on what stands, gives the whole
   pub line-turn : (st i j x y to : ℕ) (s e t : List ℕ) → x < to → e ≡ writePixel st s (paintedPixel k source m i j x y)
       → draw st (paintedLine k source m i j x y (to - x)) s ≡ t → draw st (paintedLine k source m (i + 1) j (x + 1) y (to - (x + 1))) e ≡ t
   unfolding paintedLine draw
-  line-turn st i j x y to s e t h w g =
-      let n : to - x ≡ suc (to - (x + 1)) = omega arith in
-      let a : i + 1 ≡ suc i = omega arith in
-      let c : x + 1 ≡ suc x = omega arith in
-      cc
+  line-turn st i j x y to s e t h w g = let n : to - x ≡ suc (to - (x + 1)) = omega arith in cc (add-one i, add-one x)
 
   pub line-end : (st i j x y to : ℕ) (s t : List ℕ) → to ≤ x → draw st (paintedLine k source m i j x y (to - x)) s ≡ t → s ≡ t
   unfolding paintedLine draw
@@ -124,14 +105,6 @@ module _ (k : ℕ) (source : List ℕ) (m : PaintMode) where
         (line-within r (across .skip) j (across .from) y (across .to - across .from) a (omega arith) e (omega arith))
         (lines-within r (suc j) (suc y) n a o b (omega arith) (omega arith))
 
-    lines-seen : (st h j y n : ℕ) → across .from < across .to → across .to ≤ 8 * st → y + n ≤ h
-        → seen st h (paintedLines k source m across j y n) ≡ paintedLines k source m across j y n
-    unfolding paintedLines seen
-    lines-seen st h j y zero o a b = refl
-    lines-seen st h j y (suc n) o a b =
-        seen-append st h (paintedLine k source m (across .skip) j (across .from) y (across .to - across .from)) (paintedLines k source m across (suc j) (suc y) n)
-        ∙ (λ i. line-seen st h (across .skip) j (across .from) y (across .to - across .from) (omega arith) (omega arith) i ++ lines-seen st h (suc j) (suc y) n o a (omega arith) i)
-
     -- where the axis shows nothing there is no pixel
     lines-none : (j y n : ℕ) → across .to ≤ across .from → paintedLines k source m across j y n ≡ []
     unfolding paintedLines paintedLine
@@ -142,11 +115,7 @@ module _ (k : ℕ) (source : List ℕ) (m : PaintMode) where
         → e ≡ draw st (paintedLine k source m (across .skip) j (across .from) y (across .to - across .from)) s
         → draw st (paintedLines k source m across j y (to - y)) s ≡ t → draw st (paintedLines k source m across (j + 1) (y + 1) (to - (y + 1))) e ≡ t
     unfolding paintedLines
-    lines-turn st j y to s e t h w g =
-        let n : to - y ≡ suc (to - (y + 1)) = omega arith in
-        let a : j + 1 ≡ suc j = omega arith in
-        let c : y + 1 ≡ suc y = omega arith in
-        cc (draw-append st _ _ s)
+    lines-turn st j y to s e t h w g = let n : to - y ≡ suc (to - (y + 1)) = omega arith in cc (add-one j, add-one y, draw-append st _ _ s)
 
     pub lines-end : (st j y to : ℕ) (s t : List ℕ) → to ≤ y → draw st (paintedLines k source m across j y (to - y)) s ≡ t → s ≡ t
     unfolding paintedLines draw
@@ -161,26 +130,28 @@ rect-visible : (across down : Visible) → across .from < across .to → down .f
 unfolding visibleRect
 rect-visible across down a b = rw (lt-ltb (across .from) (across .to) a, lt-ltb (down .from) (down .to) b)
 
-rect-beside : (across down : Visible) → across .to ≤ across .from → visibleRect across down ≡ none
-unfolding visibleRect
-rect-beside across down a = rw (le-ltb (across .from) (across .to) a)
-
-rect-below : (across down : Visible) → across .from < across .to → down .to ≤ down .from → visibleRect across down ≡ none
-unfolding visibleRect
-rect-below across down a b = rw (lt-ltb (across .from) (across .to) a, le-ltb (down .from) (down .to) b)
-
 module _ (st h : ℕ) (source : List ℕ) (x y : ℤ) (w n : ℕ) (m : PaintMode) where
   abbrev writes-of : Visible → Visible → List PixelWrite
   writes-of across down = paintedLines (sourceStride w) source m across (down .skip) (down .from) (down .to - down .from)
 
+  -- where an axis shows nothing there is no mark and no write
+  hidden : (across down : Visible) → (across .to ≤ across .from) ⊎ (down .to ≤ down .from) → (visibleRect across down ≡ none) × (writes-of across down ≡ [])
+  unfolding visibleRect paintedLines
+  hidden across down (inl o) = (rw (le-ltb (across .from) (across .to) o), lines-none (sourceStride w) source m across (down .skip) (down .from) (down .to - down .from) o)
+  hidden across down (inr o) =
+      let e : down .to - down .from ≡ zero = omega arith in
+      (by-test (ltb (across .from) (across .to)) (λ t. rw (t, le-ltb (down .from) (down .to) o)) (λ t. rw t), rw e)
+
+  by-visible : {P : Type 0} (across down : Visible) → (across .from < across .to → down .from < down .to → P)
+      → ((visibleRect across down ≡ none) × (writes-of across down ≡ []) → P) → P
+  by-visible across down f g =
+      by-lt (across .from) (across .to) (λ a. by-lt (down .from) (down .to) (f a) (λ b. g (hidden across down (inr b)))) (λ a. g (hidden across down (inl a)))
+
   within-visible : (across down : Visible) → within (visibleRect across down) (writes-of across down) ≡ true
-  unfolding paintedLines
   within-visible across down =
-      by-lt (across .from) (across .to)
-      (λ a. by-lt (down .from) (down .to)
-      (λ b. rw (rect-visible across down a b) (lines-within (sourceStride w) source m across (visibleMark across down) (down .skip) (down .from) (down .to - down .from) (omega arith) a (omega arith) (omega arith) (omega arith)))
-      (λ b. let e : down .to - down .from ≡ zero = omega arith in rw e (within-none (visibleRect across down))))
-      (λ a. rw (lines-none (sourceStride w) source m across (down .skip) (down .from) (down .to - down .from) a) (within-none (visibleRect across down)))
+      by-visible across down
+      (λ a b. rw (rect-visible across down a b) (lines-within (sourceStride w) source m across (visibleMark across down) (down .skip) (down .from) (down .to - down .from) (omega arith) a (omega arith) (omega arith) (omega arith)))
+      (λ o. rw (o .1) (within-none (visibleRect across down)))
 
   -- no write lies outside what the bitmap owes
   pub bitmap-owes : OwesItsMark st h (bitmap st h source x y w n m)
@@ -194,35 +165,30 @@ module _ (st h : ℕ) (source : List ℕ) (x y : ℤ) (w n : ℕ) (m : PaintMode
       let across = visible x w (8 * st) in
       let down = visible y n h in
       fits-passes 256 0 256 (visibleRect across down)
-      (by-lt (across .from) (across .to)
-      (λ o. by-lt (down .from) (down .to)
-      (λ u. rw (rect-visible across down o u) (inr (omega (arith, visible-in x w (8 * st) o, visible-in y n h u))))
-      (λ u. inl (rect-below across down o u)))
-      (λ o. inl (rect-beside across down o)))
+      (by-visible across down (λ o u. rw (rect-visible across down o u) (inr (omega (arith, visible-in x w (8 * st) o, visible-in y n h u)))) (λ o. inl (o .0)))
 
   module _ (s : List ℕ) {across down : Visible} (p : across ≡ visible x w (8 * st)) (q : down ≡ visible y n h) where
-    same-bitmap : (e : List ℕ) (k : Marks) → k ≡ both (visibleRect across down) → e ≡ draw st (seen st h (writes-of across down)) s
+    same-bitmap : (e : List ℕ) {k : Marks} → k ≡ both (visibleRect across down) → e ≡ draw st (seen st h (writes-of across down)) s
         → drawn k e ≡ drawnOn st h (bitmap st h source x y w n m) s
     unfolding bitmap
-    same-bitmap e k f g =
-        drawn-is st h (record { writes = writes-of across down; dirty = visibleRect across down; owed = visibleRect across down }) s e k
-        (within-visible across down) (λ i. f i .dirty) (λ i. f i .owed) g
-        ∙ (λ i. drawnOn st h (record { writes = writes-of (p i) (q i); dirty = visibleRect (p i) (q i); owed = visibleRect (p i) (q i) }) s)
+    same-bitmap e f g =
+        let as-drawing : Visible → Visible → Drawing = λ a b. record { writes = writes-of a b; dirty = visibleRect a b; owed = visibleRect a b } in
+        drawn-is st h (as-drawing across down) s e (within-visible across down) f g ∙ (λ i. drawnOn st h (as-drawing (p i) (q i)) s)
 
     pub bitmap-painted : (e : List ℕ) {k : Marks} → across .from < across .to → down .from < down .to → k ≡ both (visibleMark across down)
         → e ≡ draw st (writes-of across down) s → drawn k e ≡ drawnOn st h (bitmap st h source x y w n m) s
-    bitmap-painted e {k} a b f g =
+    bitmap-painted e a b f g =
         let i : across .to ≤ 8 * st = rw p (visible-in x w (8 * st) (rw p at a) .1) in
         let j : down .to ≤ h = rw q (visible-in y n h (rw q at b) .1) in
-        same-bitmap e k (f ∙ ap both (sym (rect-visible across down a b)))
-        (g ∙ ap (λ (l : List PixelWrite). draw st l s) (sym (lines-seen (sourceStride w) source m across st h (down .skip) (down .from) (down .to - down .from) a i (omega arith))))
+        let in-screen = lines-within (sourceStride w) source m across (whole st h) (down .skip) (down .from) (down .to - down .from) (omega arith) a i (omega arith) (omega arith) in
+        same-bitmap e (f ∙ ap both (sym (rect-visible across down a b))) (cc (all-seen st h (writes-of across down) in-screen))
+
+    bitmap-hidden : {k : Marks} → (across .to ≤ across .from) ⊎ (down .to ≤ down .from) → k ≡ both none → drawn k s ≡ drawnOn st h (bitmap st h source x y w n m) s
+    unfolding seen draw
+    bitmap-hidden o f = let z = hidden across down o in same-bitmap s (f ∙ ap both (sym (z .0))) (rw (z .1))
 
     pub bitmap-beside : {k : Marks} → across .to ≤ across .from → k ≡ both none → drawn k s ≡ drawnOn st h (bitmap st h source x y w n m) s
-    unfolding seen draw
-    bitmap-beside {k} a f =
-        same-bitmap s k (f ∙ ap both (sym (rect-beside across down a)))
-        (rw (lines-none (sourceStride w) source m across (down .skip) (down .from) (down .to - down .from) a))
+    bitmap-beside a f = bitmap-hidden (inl a) f
 
     pub bitmap-below : {k : Marks} → across .from < across .to → down .to ≤ down .from → k ≡ both none → drawn k s ≡ drawnOn st h (bitmap st h source x y w n m) s
-    unfolding paintedLines seen draw
-    bitmap-below {k} a b f = same-bitmap s k (f ∙ ap both (sym (rect-below across down a b))) (let e : down .to - down .from ≡ zero = omega arith in rw e)
+    bitmap-below a b f = bitmap-hidden (inr b) f

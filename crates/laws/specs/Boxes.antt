@@ -5,6 +5,7 @@ use mathlib.Core.List.{List, [], _∷_, _++_}
 use Prim.Native.Nat.{ℕ, zero, suc, _+_, _-_, _*_, _≤_, _<_, min, max}
 use native.Mathlib.Nat.{mul-le-mul-left}
 use native.Mathlib.Omega.{arith}
+use native.Mathlib.Numerals.{add-one}
 use lib.Dec.{eqb, ltb}
 use lib.ListN.{length}
 use Rattle.model.specs.declared.Rect.{Rect}
@@ -18,10 +19,9 @@ use Rattle.model.specs.Lines.{isUnknown, spanRect, pixelRun, clamp, horizontal,
 use Rattle.model.specs.Boxes.{boxRows, filledBox, outline, boxOf, box}
 use Rattle.laws.specs.Tests.{tests, by-test, all-true}
 use Rattle.laws.specs.Writes.{drawn-append, within-none, within-append, OwesItsMark, owes-mark, drawn-is, screen-draw}
-use Rattle.laws.specs.Solid.{solid, horizontal-in, filled-in}
+use Rattle.laws.specs.Lines.{solid, horizontal-in, filled-in, span-fits, horizontal-within, horizontal-drawn, vertical-within}
 use Rattle.laws.specs.Points.{bothLowered}
 use Rattle.laws.specs.Runs.{maskedBytes, bytes-append, bytes-run, bytes-kept}
-use Rattle.laws.specs.Lines.{span-fits, horizontal-within, horizontal-drawn, vertical-within}
 
 -- ---- no write lies outside
 
@@ -35,29 +35,20 @@ rows-within st h r left right y (suc n) d o a b e f =
     (rows-within st h r left right (suc y) n d o a b (omega arith) (omega arith))
 
 module _ (st h left top right bottom : ℕ) (d : DrawMode) (across : left ≤ right) (down : top ≤ bottom) where
-  filled-within : within (lowered (8 * st) h (spanRect left top right bottom)) (filledBox st h left top right bottom d) ≡ true
-  unfolding filledBox
-  filled-within = rows-within st h (spanRect left top right bottom) left right top (suc (bottom - top)) d across (omega arith) (omega arith) (omega arith) (omega arith)
-
-  sides-within : within (lowered (8 * st) h (spanRect left top right bottom)) (vertical left top bottom d ++ vertical right top bottom d) ≡ true
-  unfolding lowered
-  sides-within =
-      within-append _ (vertical left top bottom d) (vertical right top bottom d)
-      (vertical-within _ left top bottom d down (omega arith) (omega arith) (omega arith) (omega arith))
-      (vertical-within _ right top bottom d down (omega arith) (omega arith) (omega arith) (omega arith))
-
-  outline-within : within (lowered (8 * st) h (spanRect left top right bottom)) (outline st h left top right bottom d) ≡ true
-  unfolding outline
-  outline-within =
-      within-append _ (horizontal st h left right top d) _
-      (horizontal-within st h (spanRect left top right bottom) left right top d across (omega arith) (omega arith) (omega arith) (omega arith))
-      (within-append _ (horizontal st h left right bottom d) _
-      (horizontal-within st h (spanRect left top right bottom) left right bottom d across (omega arith) (omega arith) (omega arith) (omega arith))
-      (by-test (isUnknown d) (λ t. rw t (within-none _)) (λ t. rw t sides-within)))
-
   pub box-within : (fill : Bool) → within (lowered (8 * st) h (spanRect left top right bottom)) (cond fill (filledBox st h left top right bottom d) (outline st h left top right bottom d)) ≡ true
-  box-within true = filled-within
-  box-within false = outline-within
+  unfolding filledBox outline lowered
+  box-within true = rows-within st h (spanRect left top right bottom) left right top (suc (bottom - top)) d across (omega arith) (omega arith) (omega arith) (omega arith)
+  box-within false =
+      within-append _ (horizontal st h left right top d) _ (level top (omega arith) (omega arith))
+      (within-append _ (horizontal st h left right bottom d) _ (level bottom (omega arith) (omega arith))
+      (by-test (isUnknown d) (λ t. rw t (within-none _))
+      (λ t. rw t (within-append _ (vertical left top bottom d) (vertical right top bottom d) (upright left (omega arith) (omega arith)) (upright right (omega arith) (omega arith))))))
+    where
+      level : (y : ℕ) → top ≤ y → y ≤ bottom → within (lowered (8 * st) h (spanRect left top right bottom)) (horizontal st h left right y d) ≡ true
+      level y a b = horizontal-within st h (spanRect left top right bottom) left right y d across (omega arith) (omega arith) a (omega arith)
+
+      upright : (x : ℕ) → left ≤ x → x ≤ right → within (lowered (8 * st) h (spanRect left top right bottom)) (vertical x top bottom d) ≡ true
+      upright x a b = vertical-within _ x top bottom d down (omega arith) (omega arith) (omega arith) (omega arith)
 
 -- ---- a filled box, row after row: what is left of it, drawn on what stands, gives the whole
 
@@ -66,24 +57,18 @@ pub rows-turn : (st h left right y n : ℕ) (d : DrawMode) (s e t : List ℕ) {a
     → draw st (seen st h (boxRows st h left right y n d)) s ≡ t
     → draw st (seen st h (boxRows st h left right (y + 1) (n - 1) d)) e ≡ t
 unfolding boxRows
-rows-turn st h left right y zero d s e t r o k p q w v u = absurd (omega arith)
-rows-turn st h left right y (suc n) d s e t r o k p q w v u =
-    let i : suc n - 1 ≡ n = omega arith in
-    let j : y + 1 ≡ suc y = omega arith in
-    let f = horizontal-drawn st h left right y d s e r o p q w v in
-    (λ k. draw st (seen st h (boxRows st h left right (j k) (i k) d)) (f k)) ∙ sym (drawn-append st h (horizontal st h left right y d) _ s) ∙ u
+rows-turn st h left right y n d s e t r o k p q w v u =
+    let more : n ≡ suc (n - 1) = omega arith in
+    cc (add-one y, horizontal-drawn st h left right y d s e r o p q w v, drawn-append st h (horizontal st h left right y d) _ s)
 
 pub rows-start : (st h left top right bottom : ℕ) (d : DrawMode) (s : List ℕ)
     → draw st (seen st h (boxRows st h left right top (bottom - top + 1) d)) s ≡ draw st (seen st h (filledBox st h left top right bottom d)) s
 unfolding filledBox
-rows-start st h left top right bottom d s =
-    let i : bottom - top + 1 ≡ suc (bottom - top) = omega arith in
-    ap (λ (n : ℕ). draw st (seen st h (boxRows st h left right top n d)) s) i
+rows-start st h left top right bottom d s = rw (add-one (bottom - top))
 
 pub rows-end : (st h left right y n : ℕ) (d : DrawMode) (s t : List ℕ) → n ≤ 0 → draw st (seen st h (boxRows st h left right y n d)) s ≡ t → s ≡ t
 unfolding boxRows seen draw
-rows-end st h left right y zero d s t o u = u
-rows-end st h left right y (suc n) d s t o u = absurd (omega arith)
+rows-end st h left right y n d s t o u = let z : n ≡ zero = omega arith in rw z at u
 
 -- ---- a filled box as wide as the screen: its lines are whole bytes, one after another
 
@@ -134,47 +119,39 @@ module _ (st h left top right bottom : ℕ) (d : DrawMode) {k : DrawMode} (s s�
   sides : (ws : List PixelWrite) (e : List ℕ) → e ≡ draw st (seen st h ws) s₂
       → e ≡ draw st (seen st h (horizontal st h left right top d ++ (horizontal st h left right bottom d ++ ws))) s
   sides ws e w =
-      w ∙ ap (draw st (seen st h ws)) (horizontal-in st h d s₁ s₂ same left right bottom second) ∙ sym (drawn-append st h (horizontal st h left right bottom d) ws s₁)
-      ∙ ap (draw st (seen st h (horizontal st h left right bottom d ++ ws))) (horizontal-in st h d s s₁ same left right top first)
-      ∙ sym (drawn-append st h (horizontal st h left right top d) (horizontal st h left right bottom d ++ ws) s)
+      let a = horizontal-in st h d s s₁ same left right top first in
+      let b = horizontal-in st h d s₁ s₂ same left right bottom second in
+      cc (drawn-append st h (horizontal st h left right bottom d) ws s₁, drawn-append st h (horizontal st h left right top d) (horizontal st h left right bottom d ++ ws) s)
 
   pub outline-unknown : {t : Bool} → t ≡ isUnknown d → t ≡ true → s₂ ≡ draw st (seen st h (outline st h left top right bottom d)) s
   unfolding outline seen draw
-  outline-unknown p q = let u : isUnknown d ≡ true = sym p ∙ q in rw u (sides [] s₂ refl)
+  outline-unknown p q = rw (sym p ∙ q) (sides [] s₂ refl)
 
   pub outline-drawn : (s₃ e : List ℕ) {t : Bool} → t ≡ isUnknown d → t ≡ false
       → s₃ ≡ draw st (seen st h (vertical left top bottom d)) s₂ → e ≡ draw st (seen st h (vertical right top bottom d)) s₃
       → e ≡ draw st (seen st h (outline st h left top right bottom d)) s
   unfolding outline
   outline-drawn s₃ e p q w v =
-      let u : isUnknown d ≡ false = sym p ∙ q in
-      rw u (sides (vertical left top bottom d ++ vertical right top bottom d) e
-      (v ∙ ap (draw st (seen st h (vertical right top bottom d))) w ∙ sym (drawn-append st h (vertical left top bottom d) (vertical right top bottom d) s₂)))
+      rw (sym p ∙ q) (sides (vertical left top bottom d ++ vertical right top bottom d) e (cc (drawn-append st h (vertical left top bottom d) (vertical right top bottom d) s₂)))
 
 -- ---- with its marks
-
-box-marked : (st h left top right bottom : ℕ) (fill : Bool) (d : DrawMode) (s e : List ℕ) (m : Marks) → left ≤ right → top ≤ bottom
-    → m ≡ bothLowered st h (spanRect left top right bottom) → e ≡ draw st (seen st h (boxOf st h left top right bottom fill d .writes)) s
-    → drawn m e ≡ drawnOn st h (boxOf st h left top right bottom fill d) s
-unfolding boxOf
-box-marked st h left top right bottom fill d s e m o u p w =
-    drawn-is st h (boxOf st h left top right bottom fill d) s e m (box-within st h left top right bottom d o u fill) (λ i. p i .dirty) (λ i. p i .owed) w
 
 module _ (st h x1 y1 x2 y2 : ℕ) (d : DrawMode) (s e : List ℕ) {l t r b : ℕ} {m : Marks}
     (pl : l ≡ min x1 x2) (pt : t ≡ min y1 y2) (pr : r ≡ max x1 x2) (pb : b ≡ max y1 y2)
     (marks : m ≡ bothLowered st h (spanRect l t r b)) where
-  same-box : (fill : Bool) → drawnOn st h (boxOf st h l t r b fill d) s ≡ drawnOn st h (box st h x1 y1 x2 y2 fill d) s
-  unfolding box
-  same-box fill = λ i. drawnOn st h (boxOf st h (pl i) (pt i) (pr i) (pb i) fill d) s
+  same-box : (fill : Bool) → e ≡ draw st (seen st h (boxOf st h l t r b fill d .writes)) s → drawn m e ≡ drawnOn st h (box st h x1 y1 x2 y2 fill d) s
+  unfolding box boxOf
+  same-box fill w =
+      drawn-is st h (boxOf st h l t r b fill d) s e (box-within st h l t r b d (omega arith) (omega arith) fill) marks w
+      ∙ (λ i. drawnOn st h (boxOf st h (pl i) (pt i) (pr i) (pb i) fill d) s)
 
   pub box-filled : {fill : Bool} {k : DrawMode} → fill ≡ true → k ≡ solid d → e ≡ draw st (seen st h (filledBox st h l t r b k)) s → drawn m e ≡ drawnOn st h (box st h x1 y1 x2 y2 fill d) s
   unfolding boxOf
-  box-filled {fill} f k w =
-      rw f (box-marked st h l t r b true d s e m (omega arith) (omega arith) marks (filled-in st h d s e k l t r b w) ∙ same-box true)
+  box-filled {fill} f k w = rw f (same-box true (filled-in st h d s e k l t r b w))
 
   pub box-outlined : {fill : Bool} → fill ≡ false → e ≡ draw st (seen st h (outline st h l t r b d)) s → drawn m e ≡ drawnOn st h (box st h x1 y1 x2 y2 fill d) s
   unfolding boxOf
-  box-outlined {fill} f w = rw f (box-marked st h l t r b false d s e m (omega arith) (omega arith) marks w ∙ same-box false)
+  box-outlined {fill} f w = rw f (same-box false w)
 
 -- ---- every box: its mark passes STATE, and no write lies outside what it owes
 

@@ -14,7 +14,7 @@ use Rattle.model.specs.Bits.{bitAt}
 use Rattle.model.specs.Pixels.{bit, put, place}
 use Rattle.model.specs.Bytes.{Bytes}
 use Rattle.laws.specs.Tests.{by-lt, by-eq}
-use Rattle.laws.specs.Tables.{same-bool, allBelow, every-at, every₂-at, withBit-lt}
+use Rattle.laws.specs.Bits.{same-bool, allBelow, every-at, every₂-at, withBit-lt}
 
 -- ---- an operation that works bit by bit
 

@@ -1,14 +1,14 @@
 -- The cursor: where it stands, which one a blink inverts, and which one is shown afterwards.
-use mathlib.Core.Path.{_≡_, sym, ap, _∙_}
+use mathlib.Core.Path.{_≡_}
 use mathlib.Core.Bool.{true}
 use mathlib.Core.List.{List}
 use Prim.Native.Nat.{ℕ, _+_, _-_, _*_, _<_, _≤_}
 use native.Mathlib.Omega.{arith}
-use borrow.Author.Tests.{eq-eqb, ne-eqb, eqb-false, le-leb, lt-leb}
 use lib.Arith.{digits-lt}
 use lib.Dec.{eqb, leb}
-use lib.ListN.{getD, drop}
+use lib.ListN.{getD}
 use lib.Seq.{getD-take, getD-drop}
+use borrow.Author.Tests.{eq-eqb, ne-eqb, le-leb, lt-leb}
 use Rattle.model.specs.declared.DrawMode.the-variants.{Xor}
 use Rattle.model.specs.declared.Head.{Head}
 use Rattle.model.specs.Geometry.{Geometry, glyphHeight, columns, cells}
@@ -17,7 +17,7 @@ use Rattle.model.specs.Memory.{window}
 use Rattle.model.specs.Marks.{drawnOn}
 use Rattle.model.specs.Boxes.{box}
 use Rattle.model.specs.Cursor.{cursorFor, blinkOf, blinkNext, cursorBox, underCursor}
-use Rattle.laws.specs.Tests.{if-cases}
+use Rattle.laws.specs.Tests.{if-cases, tests}
 use Rattle.laws.specs.Record.{Numbers}
 
 -- ---- where it stands
@@ -29,9 +29,7 @@ module _ {g : Geometry} {h : Head} (n : Numbers g h) where
   -- the cell's byte in memory
   pub byte-of : (m : List ℕ) → getD m (h .text + (h .row * columns g + h .column)) 0 ≡ underCursor g h m
   unfolding window
-  byte-of m =
-      let at = h .row * columns g + h .column in
-      sym (getD-take (cells g) (drop (h .text) m) at 0 cell-of ∙ getD-drop (h .text) m at 0)
+  byte-of m = let l = cell-of in rw (getD-take, getD-drop)
 
   -- its box has bytes as coordinates
   pub box-bottom : IsGlass g → glyphHeight * h .row + glyphHeight ≤ 256
@@ -44,9 +42,7 @@ module _ {g : Geometry} {h : Head} (n : Numbers g h) where
 pub is-cursor-box : (st y row column cursor : ℕ) (s : List ℕ) → 1 ≤ cursor
     → drawnOn st y (box st y (8 * column) (glyphHeight * row) (8 * column + (8 * cursor - 1)) (glyphHeight * row + (glyphHeight - 1)) true Xor) s ≡ drawnOn st y (cursorBox st y row column cursor) s
 unfolding cursorBox
-is-cursor-box st y row column cursor s h =
-    let e : 8 * column + (8 * cursor - 1) ≡ 8 * column + 8 * cursor - 1 = omega arith in
-    ap (λ (x : ℕ). drawnOn st y (box st y (8 * column) (glyphHeight * row) x (glyphHeight * row + (glyphHeight - 1)) true Xor) s) e
+is-cursor-box st y row column cursor s h = let e : 8 * column + (8 * cursor - 1) ≡ 8 * column + 8 * cursor - 1 = omega arith in rw e
 
 -- ---- which it is
 
@@ -60,7 +56,7 @@ is-half b h = rw (lt-leb 128 b h)
 
 for-fits : (b : ℕ) → (1 ≤ cursorFor b) × (cursorFor b ≤ 2)
 unfolding cursorFor
-for-fits b = if-cases (λ (n : ℕ). (1 ≤ n) × (n ≤ 2)) (leb 128 b) {x = 2} {y = 1} (λ e. (omega arith, omega arith)) (λ e. (omega arith, omega arith))
+for-fits b = if-cases (λ (n : ℕ). (1 ≤ n) × (n ≤ 2)) (leb 128 b) {x = 2} {y = 1} (λ e. omega arith) (λ e. omega arith)
 
 -- the one that a blink inverts
 pub blink-new : (cursor b : ℕ) {k : ℕ} → cursor ≡ 0 → k ≡ cursorFor b → k ≡ blinkOf cursor b
@@ -73,8 +69,7 @@ blink-old cursor b z = rw (ne-eqb cursor 0 z)
 
 pub blink-fits : (cursor b : ℕ) {k : ℕ} → cursor ≤ 2 → k ≡ blinkOf cursor b → (1 ≤ k) × (k ≤ 2)
 unfolding blinkOf
-blink-fits cursor b h e =
-    rw e (if-cases (λ (n : ℕ). (1 ≤ n) × (n ≤ 2)) (eqb cursor 0) (λ t. for-fits b) (λ t. let z = eqb-false cursor 0 t in (omega arith, omega arith)))
+blink-fits cursor b h e = rw e (if-cases (λ (n : ℕ). (1 ≤ n) × (n ≤ 2)) (eqb cursor 0) (λ t. for-fits b) (λ t. omega (arith, tests)))
 
 -- the one that is shown afterwards
 pub next-new : (cursor b : ℕ) {k : ℕ} → cursor ≡ 0 → k ≡ cursorFor b → k ≡ blinkNext cursor b

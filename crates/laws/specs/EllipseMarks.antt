@@ -1,27 +1,28 @@
--- Ellipses: the mark passes STATE, no write on the screen lies outside what is owed, and a shape that RADIUS lets pass is never ENDLESS.
-use mathlib.Core.Path.{_≡_, refl}
+-- Ellipses: the mark passes STATE, no write on the screen lies outside what is owed, a shape that RADIUS lets pass is never ENDLESS, and the code draws what is defined.
+use mathlib.Core.Path.{_≡_, refl, sym, ap, ap₂, _∙_}
 use mathlib.Core.Logic.{inl, inr}
 use mathlib.Core.Bool.{Bool, true, false, not, cond, _||_}
-use mathlib.Core.List.{List, [], _∷_}
+use mathlib.Core.List.{List, [], _∷_, _++_}
 use Prim.Native.Nat.{ℕ, _+_, _-_, _*_, _≤_, _<_, max}
-use native.Mathlib.Nat.{zero-min}
 use native.Mathlib.Omega.{arith}
 use lib.Dec.{ltb, leb, eqb}
-use borrow.Author.Tests.{leb-true, le-ltb}
+use borrow.Author.Tests.{le-ltb}
 use Rattle.model.specs.declared.Rect.{Rect}
 use Rattle.model.specs.declared.DrawMode.{DrawMode}
-use Rattle.model.specs.Pixels.{PixelWrite, onScreen, seen}
-use Rattle.model.specs.Rects.{none, fits, lowered}
-use Rattle.model.specs.Marks.{whole, within, owes}
-use Rattle.model.specs.Points.{point}
-use Rattle.model.specs.Ellipses.{Part, parts, steps, up, down, corners, chord, chords, partWrites, partsWrites, wraps, ellipseMark, ellipseDrawn, isPoint, isNothing, ellipse, radiiFit, stepsFit}
-use Rattle.laws.specs.Tests.{tests, if-cases, by-test, either, and-true, and-false, or-right, neither}
+use Rattle.model.specs.Pixels.{PixelWrite, onScreen, seen, draw}
+use Rattle.model.specs.Rects.{none, fits, lowered, In}
+use Rattle.model.specs.Marks.{whole, within, owes, drawn, drawnOn}
+use Rattle.model.specs.Points.{point, pointWrite}
+use Rattle.model.specs.Ellipses.{Part, parts, up, down, corners, chord, chords, partWrites, partsWrites, wraps, ellipseMark, ellipseDrawn, isPoint, isNothing, ellipse, radiiFit, stepsFit, part}
+use Rattle.model.specs.declared.Marks.{Marks}
+use Rattle.model.specs.Lines.{horizontal}
+use Rattle.laws.specs.Tests.{tests, if-cases, by-test, either, and-true, and-false, or-right, neither, clash}
 use Rattle.laws.specs.Rects.{fits-passes}
 use Rattle.laws.specs.Pixels.{Each}
-use Rattle.laws.specs.Writes.{within-none, within-more, within-append, within-seen, OwesItsMark}
-use Rattle.laws.specs.Points.{on-true, point-within, point-fits}
-use Rattle.laws.specs.Lines.{horizontal-within}
-use Rattle.laws.specs.EllipseSteps.{Round, Inner, parts-in, never-endless}
+use Rattle.laws.specs.Writes.{within-none, within-more, within-append, within-seen, OwesItsMark, drawn-append}
+use Rattle.laws.specs.Points.{on-true, point-within, point-fits, both, bothLowered}
+use Rattle.laws.specs.Lines.{horizontal-within, solid, horizontal-solid, solid-known}
+use Rattle.laws.specs.Ellipses.{Round, Inner, parts-in, never-endless, painted}
 
 -- ---- the mark
 
@@ -53,21 +54,16 @@ mark-fits st h x y rx ry a b c d =
 
 -- ---- no write lies outside
 
--- what falls on the screen lies in the whole of it
-whole-within : (st h : ℕ) (ws : List PixelWrite) → within (whole st h) (seen st h ws) ≡ true
+-- what falls on the screen lies in whatever has all of it
+whole-within : (st h : ℕ) (r : Rect) (ws : List PixelWrite) → ((x y : ℕ) → x < 8 * st → y < h → In r x y) → within r (seen st h ws) ≡ true
 unfolding seen
-whole-within st h [] = within-none (whole st h)
-whole-within st h (w ∷ ws) =
-    if-cases (λ (l : List PixelWrite). within (whole st h) l ≡ true) (onScreen st h (w .x) (w .y))
-    (λ e. let o = on-true st h (w .x) (w .y) e in within-more (whole st h) w (seen st h ws) (omega arith) (whole-within st h ws))
-    (λ e. whole-within st h ws)
+whole-within st h r [] k = within-none r
+whole-within st h r (w ∷ ws) k =
+    if-cases (λ (l : List PixelWrite). within r l ≡ true) (onScreen st h (w .x) (w .y))
+    (λ e. let o = on-true st h (w .x) (w .y) e in within-more r w (seen st h ws) (k (w .x) (w .y) (o .0) (o .1)) (whole-within st h r ws k))
+    (λ e. whole-within st h r ws k)
 
 module _ (st h x y rx ry : ℕ) (d : DrawMode) (i : Inside x y rx ry) where
-  corners-within : (q : Part) → Inner rx ry q → within (around st h x y rx ry) (corners x y d q) ≡ true
-  unfolding corners
-  corners-within q n =
-      within-more _ _ _ (omega arith) (within-more _ _ _ (omega arith) (within-more _ _ _ (omega arith) (within-more _ _ _ (omega arith) (within-none _))))
-
   chord-within : (a z : ℕ) → a ≤ rx → y - ry ≤ z → z ≤ y + ry → within (lowered (8 * st) h (around st h x y rx ry)) (chord st h x a z d) ≡ true
   unfolding chord
   chord-within a z l u v =
@@ -76,11 +72,12 @@ module _ (st h x y rx ry : ℕ) (d : DrawMode) (i : Inside x y rx ry) where
 
   part-within : (fill : Bool) (q : Part) → Inner rx ry q
       → within (cond fill (lowered (8 * st) h (around st h x y rx ry)) (around st h x y rx ry)) (partWrites st h x y fill d q) ≡ true
-  unfolding partWrites chords
+  unfolding partWrites chords corners
   part-within true q n =
       within-append _ (chord st h x (q .a) (down y (q .b)) d) (chord st h x (q .a) (up y (q .b)) d)
       (chord-within (q .a) (down y (q .b)) (n .0) (omega arith) (omega arith)) (chord-within (q .a) (up y (q .b)) (n .0) (omega arith) (omega arith))
-  part-within false q n = corners-within q n
+  part-within false q n =
+      within-more _ _ _ (omega arith) (within-more _ _ _ (omega arith) (within-more _ _ _ (omega arith) (within-more _ _ _ (omega arith) (within-none _))))
 
   parts-within : (fill : Bool) (qs : List Part) → Each (Inner rx ry) qs
       → within (cond fill (lowered (8 * st) h (around st h x y rx ry)) (around st h x y rx ry)) (partsWrites st h x y fill d qs) ≡ true
@@ -91,50 +88,33 @@ module _ (st h x y rx ry : ℕ) (d : DrawMode) (i : Inside x y rx ry) where
 
 -- ---- an ellipse with parts
 
-lowered-whole : (st h : ℕ) → lowered (8 * st) h (whole st h) ≡ whole st h
-unfolding lowered
-lowered-whole st h = λ i. record { left = zero-min (8 * st - 1) i; top = zero-min (h - 1) i; right = 8 * st; bottom = h }
-
 drawn-within : (st h x y rx ry : ℕ) (fill : Bool) (d : DrawMode) → Round rx ry
     → within (ellipseDrawn st h x y rx ry fill d .owed) (seen st h (ellipseDrawn st h x y rx ry fill d .writes)) ≡ true
-unfolding ellipseDrawn ellipseMark
+unfolding ellipseDrawn ellipseMark lowered
 drawn-within st h x y rx ry fill d o =
     by-test (wraps x y rx ry)
-    (λ e. rw e (whole-owed fill))
+    (λ e. rw e (whole-within st h _ _ (λ x y hx hy. if-cases (λ (r : Rect). In r x y) fill (λ f. omega arith) (λ f. omega arith))))
     (λ e. rw e (within-seen st h _ _ (parts-within st h x y rx ry d (unwrapped x y rx ry e) fill (parts rx ry) (parts-in rx ry o))))
-  where
-    whole-owed : (f : Bool) → within (cond f (lowered (8 * st) h (whole st h)) (whole st h)) (seen st h (partsWrites st h x y fill d (parts rx ry))) ≡ true
-    whole-owed true = rw (lowered-whole st h) (whole-within st h (partsWrites st h x y fill d (parts rx ry)))
-    whole-owed false = whole-within st h (partsWrites st h x y fill d (parts rx ry))
 
 -- ---- what RADIUS lets pass
-
--- a point, nothing, or an ellipse that is walked
-pub data Shape (rx ry : ℕ) (fill : Bool) (d : DrawMode) : Type 0 where
-  isDot : isPoint rx ry ≡ true → Shape rx ry fill d
-  isVoid : isPoint rx ry ≡ false → isNothing fill d ≡ true → Shape rx ry fill d
-  isRound : isPoint rx ry ≡ false → isNothing fill d ≡ false → Round rx ry → Shape rx ry fill d
 
 not-both : (rx ry : ℕ) → isPoint rx ry ≡ false → 0 < max rx ry
 unfolding isPoint
 not-both rx ry e = either (and-false (eqb rx 0) (eqb ry 0) e) (λ f. omega (arith, tests)) (λ f. omega (arith, tests))
 
-pub shape : (rx ry : ℕ) (fill : Bool) (d : DrawMode) → radiiFit rx ry fill d ≡ true → Shape rx ry fill d
+-- a point, nothing, or an ellipse that is walked
+pub shape : {P : Type 0} (rx ry : ℕ) (fill : Bool) (d : DrawMode) → radiiFit rx ry fill d ≡ true → (isPoint rx ry ≡ true → P)
+    → (isPoint rx ry ≡ false → isNothing fill d ≡ true → P) → (isPoint rx ry ≡ false → isNothing fill d ≡ false → Round rx ry → P) → P
 unfolding radiiFit
-shape rx ry fill d e =
-    by-test (isPoint rx ry) isDot
-    (λ p. by-test (isNothing fill d) (isVoid p)
-    (λ n. let q = and-true (leb rx 127) (leb ry 127) (rw (p, n) at e) in isRound p n (record { x = leb-true rx 127 (q .0); y = leb-true ry 127 (q .1); some = not-both rx ry p })))
+shape rx ry fill d e dot void walked =
+    by-test (isPoint rx ry) dot
+    (λ p. by-test (isNothing fill d) (void p)
+    (λ n. let q = and-true (leb rx 127) (leb ry 127) (rw (p, n) at e) in walked p n (omega (arith, tests, not-both rx ry p))))
 
 -- ENDLESS is never due
 pub always-ends : (rx ry : ℕ) (fill : Bool) (d : DrawMode) → radiiFit rx ry fill d ≡ true → stepsFit rx ry fill d ≡ true
 unfolding stepsFit
-always-ends rx ry fill d e = go (shape rx ry fill d e)
-  where
-    go : Shape rx ry fill d → ((isPoint rx ry || isNothing fill d) || leb (steps rx ry) 512) ≡ true
-    go (isDot p) = rw p
-    go (isVoid p n) = rw (p, n)
-    go (isRound p n o) = or-right (isPoint rx ry || isNothing fill d) (never-endless rx ry o)
+always-ends rx ry fill d e = shape rx ry fill d e (λ p. rw p) (λ p n. rw (p, n)) (λ p n o. or-right (isPoint rx ry || isNothing fill d) (never-endless rx ry o))
 
 -- ---- every ellipse
 
@@ -142,12 +122,9 @@ module _ (st h x y rx ry : ℕ) (fill : Bool) (d : DrawMode) where
   pub ellipse-within : radiiFit rx ry fill d ≡ true
       → within (ellipse st h x y rx ry fill d .owed) (seen st h (ellipse st h x y rx ry fill d .writes)) ≡ true
   unfolding ellipse point
-  ellipse-within e = go (shape rx ry fill d e)
-    where
-      go : Shape rx ry fill d → within (ellipse st h x y rx ry fill d .owed) (seen st h (ellipse st h x y rx ry fill d .writes)) ≡ true
-      go (isDot p) = rw p (point-within st h x y d)
-      go (isVoid p n) = rw (p, n) (within-seen st h none [] (within-none none))
-      go (isRound p n o) = rw (p, n) (drawn-within st h x y rx ry fill d o)
+  ellipse-within e =
+      shape rx ry fill d e (λ p. rw p (point-within st h x y d)) (λ p n. rw (p, n) (within-seen st h none [] (within-none none)))
+      (λ p n o. rw (p, n) (drawn-within st h x y rx ry fill d o))
 
   -- so the last clause of Marks never applies
   pub ellipse-owes : radiiFit rx ry fill d ≡ true → OwesItsMark st h (ellipse st h x y rx ry fill d)
@@ -162,3 +139,106 @@ module _ (st h x y rx ry : ℕ) (fill : Bool) (d : DrawMode) where
       (λ p. by-test (isNothing fill d)
       (λ n. rw (p, n) (fits-passes 256 0 256 none (inl refl)))
       (λ n. rw (p, n) (mark-fits st h x y rx ry a b c e)))
+
+-- Ellipses as the code draws and marks them: each law's premises are what the functions below ensure and what the branches say.
+
+-- ---- a part
+
+pub corners-drawn : (st h x y a b : ℕ) (d : DrawMode) (s s₁ e : List ℕ) {l r t m : ℕ} → l ≡ down x a → r ≡ up x a → t ≡ down y b → m ≡ up y b
+    → s₁ ≡ draw st (seen st h (pointWrite l t d ∷ pointWrite r t d ∷ [])) s → e ≡ draw st (seen st h (pointWrite l m d ∷ pointWrite r m d ∷ [])) s₁
+    → e ≡ draw st (seen st h (corners x y d (part a b))) s
+unfolding corners
+corners-drawn st h x y a b d s s₁ e {l} {r} {t} {m} pl pr pt pm k₁ k =
+    cc (drawn-append st h (pointWrite l t d ∷ pointWrite r t d ∷ []) (pointWrite l m d ∷ pointWrite r m d ∷ []) s)
+
+pub chord-order : (left right : ℕ) {l : ℕ} → l ≡ cond (ltb right left) 0 left → l ≤ right
+chord-order left right e = rw e (if-cases (λ (n : ℕ). n ≤ right) (ltb right left) (λ t. omega arith) (λ t. omega (arith, tests)))
+
+pub chord-drawn : (st h x a y : ℕ) (d : DrawMode) (s e : List ℕ) {l f r : ℕ} → r ≡ up x a → l ≡ down x a → f ≡ cond (ltb r l) 0 l
+    → e ≡ draw st (seen st h (horizontal st h f r y d)) s → e ≡ draw st (seen st h (chord st h x a y d)) s
+unfolding chord
+chord-drawn st h x a y d s e pr pl pf k = cc
+
+pub chords-drawn : (st h x y a b : ℕ) (d : DrawMode) (s s₁ e : List ℕ) {t m : ℕ} → t ≡ down y b → m ≡ up y b
+    → s₁ ≡ draw st (seen st h (chord st h x a t d)) s → e ≡ draw st (seen st h (chord st h x a m d)) s₁
+    → e ≡ draw st (seen st h (chords st h x y d (part a b))) s
+unfolding chords
+chords-drawn st h x y a b d s s₁ e {t} {m} pt pm k₁ k = cc (drawn-append st h _ _ s)
+
+pub part-filled : (st h x y : ℕ) (d : DrawMode) (q : Part) (s e : List ℕ) {fill : Bool} → fill ≡ true
+    → e ≡ draw st (seen st h (chords st h x y d q)) s → e ≡ draw st (seen st h (partWrites st h x y fill d q)) s
+unfolding partWrites
+part-filled st h x y d q s e f k = rw f k
+
+pub part-outlined : (st h x y : ℕ) (d : DrawMode) (q : Part) (s e : List ℕ) {fill : Bool} → fill ≡ false
+    → e ≡ draw st (seen st h (corners x y d q)) s → e ≡ draw st (seen st h (partWrites st h x y fill d q)) s
+unfolding partWrites
+part-outlined st h x y d q s e f k = rw f k
+
+-- ---- a filled one is the same in Unknown and in Xor
+
+parts-solid : (st h x y : ℕ) (d : DrawMode) (qs : List Part) → partsWrites st h x y true (solid d) qs ≡ partsWrites st h x y true d qs
+unfolding partsWrites partWrites chords chord
+parts-solid st h x y d [] = refl
+parts-solid st h x y d (q ∷ qs) = ap₂ _++_ (ap₂ _++_ (horizontal-solid st h _ _ _ d) (horizontal-solid st h _ _ _ d)) (parts-solid st h x y d qs)
+
+-- an ellipse that is drawn: filled, or in a known mode
+pub painted-solid : (st h x y : ℕ) (fill : Bool) (d : DrawMode) (qs : List Part) (s : List ℕ) → isNothing fill d ≡ false
+    → painted st h x y fill (solid d) qs s ≡ painted st h x y fill d qs s
+unfolding isNothing
+painted-solid st h x y true d qs s k = ap (λ (l : List PixelWrite). draw st (seen st h l) s) (parts-solid st h x y d qs)
+painted-solid st h x y false d qs s k = ap (λ (m : DrawMode). painted st h x y false m qs s) (solid-known d k)
+
+-- ---- marks
+
+module _ (st h x y rx ry : ℕ) {t : Bool} {q : Rect} (screen : q ≡ whole st h) (told : t ≡ wraps x y rx ry) where
+  pub mark-whole : t ≡ true → q ≡ ellipseMark st h x y rx ry
+  unfolding ellipseMark
+  mark-whole f = rw (sym told ∙ f) screen
+
+  pub mark-around : {r b : ℕ} → t ≡ false → r ≡ max (x + rx + 1) (q .right) → b ≡ max (y + ry + 1) (q .bottom)
+      → _≡_ {A = Rect} (record { left = x - rx; top = y - ry; right = r; bottom = b }) (ellipseMark st h x y rx ry)
+  unfolding ellipseMark
+  mark-around f p b = rw (sym told ∙ f, p, b, screen)
+
+pub not-wrapped : (x y rx ry : ℕ) {t : Bool} → t ≡ wraps x y rx ry → t ≡ false → Inside x y rx ry
+not-wrapped x y rx ry e f = unwrapped x y rx ry (sym e ∙ f)
+
+-- ---- the whole
+
+-- what is left after the two early returns
+pub is-round : (rx ry : ℕ) (fill : Bool) (d : DrawMode) {t u : Bool} → radiiFit rx ry fill d ≡ true → t ≡ isPoint rx ry → t ≡ false → u ≡ isNothing fill d → u ≡ false
+    → Round rx ry
+is-round rx ry fill d f p q n o =
+    shape rx ry fill d f (λ e. clash (isPoint rx ry) e (sym p ∙ q)) (λ e g. clash (isNothing fill d) g (sym n ∙ o)) (λ e g r. r)
+
+module _ (st h x y rx ry : ℕ) (fill : Bool) (d : DrawMode) (s e : List ℕ) (m : Marks) where
+  pub ellipse-point : {t : Bool} → t ≡ isPoint rx ry → t ≡ true → drawn m e ≡ drawnOn st h (point st h x y d) s
+      → drawn m e ≡ drawnOn st h (ellipse st h x y rx ry fill d) s
+  unfolding ellipse
+  ellipse-point p q k = rw (sym p ∙ q) k
+
+  pub ellipse-nothing : {t u : Bool} → t ≡ isPoint rx ry → t ≡ false → u ≡ isNothing fill d → u ≡ true → m ≡ both none
+      → drawn m s ≡ drawnOn st h (ellipse st h x y rx ry fill d) s
+  unfolding ellipse drawn drawnOn owes within seen draw
+  ellipse-nothing p q n o k = rw (sym p ∙ q, sym n ∙ o) (λ i. record { dirty = k i .dirty; owed = k i .owed; screen = s })
+
+  -- neither a point nor nothing
+  ellipse-marked : {t u : Bool} → radiiFit rx ry fill d ≡ true → t ≡ isPoint rx ry → t ≡ false → u ≡ isNothing fill d → u ≡ false
+      → m .dirty ≡ ellipseMark st h x y rx ry → m .owed ≡ cond fill (lowered (8 * st) h (ellipseMark st h x y rx ry)) (ellipseMark st h x y rx ry)
+      → (k : DrawMode) → k ≡ solid d → e ≡ painted st h x y fill k (parts rx ry) s → drawn m e ≡ drawnOn st h (ellipse st h x y rx ry fill d) s
+  unfolding drawn drawnOn ellipse ellipseDrawn
+  ellipse-marked f p q n o a b k same w =
+      let u : OwesItsMark st h (ellipseDrawn st h x y rx ry fill d) = rw (sym p ∙ q, sym n ∙ o) at (ellipse-owes st h x y rx ry fill d f) in
+      let v : e ≡ painted st h x y fill d (parts rx ry) s = cc (painted-solid st h x y fill d (parts rx ry) s (sym n ∙ o)) in
+      rw (sym p ∙ q, sym n ∙ o) (λ i. record { dirty = a i; owed = (b ∙ sym u) i; screen = v i })
+
+  pub ellipse-filled : {t u : Bool} {k : DrawMode} {q : Rect} → fill ≡ true → m ≡ bothLowered st h q → q ≡ ellipseMark st h x y rx ry
+      → radiiFit rx ry fill d ≡ true → t ≡ isPoint rx ry → t ≡ false → u ≡ isNothing fill d → u ≡ false
+      → k ≡ solid d → e ≡ painted st h x y fill k (parts rx ry) s → drawn m e ≡ drawnOn st h (ellipse st h x y rx ry fill d) s
+  ellipse-filled g b a f p q n o same w = ellipse-marked f p q n o ((λ i. b i .dirty) ∙ a) (rw g ((λ i. b i .owed) ∙ ap (lowered (8 * st) h) a)) _ same w
+
+  pub ellipse-outlined : {t u : Bool} {k : DrawMode} {q : Rect} → fill ≡ false → m ≡ both q → q ≡ ellipseMark st h x y rx ry
+      → radiiFit rx ry fill d ≡ true → t ≡ isPoint rx ry → t ≡ false → u ≡ isNothing fill d → u ≡ false
+      → k ≡ solid d → e ≡ painted st h x y fill k (parts rx ry) s → drawn m e ≡ drawnOn st h (ellipse st h x y rx ry fill d) s
+  ellipse-outlined g b a f p q n o same w = ellipse-marked f p q n o ((λ i. b i .dirty) ∙ a) (rw g ((λ i. b i .owed) ∙ a)) _ same w

@@ -1,12 +1,12 @@
 -- The walk of a flush: what is shown from a spot on, one step at a time. Reading is ahead by at most the row number.
-use mathlib.Core.Path.{_≡_, refl, sym, ap, _∙_}
+use mathlib.Core.Path.{_≡_, refl, sym, ap}
 use mathlib.Core.List.{List, [], _∷_}
 use Prim.Native.Nat.{ℕ, zero, suc, _+_, _-_, _*_, _≤_, _<_}
-use native.Mathlib.Nat.{mul-suc, suc-mul}
+use native.Mathlib.Nat.{mul-suc, suc-mul, sub-zero}
 use native.Mathlib.Numerals.{add-one}
 use native.Mathlib.Omega.{arith}
-use borrow.Author.Tests.{lt-ltb, le-ltb}
 use lib.Dec.{ltb}
+use borrow.Author.Tests.{lt-ltb, le-ltb}
 use Rattle.model.specs.declared.Spot.{Spot}
 use Rattle.model.specs.declared.CellKind.{CellKind}
 use Rattle.model.specs.declared.CellKind.the-variants.{Blank, Single, Pair, Code}
@@ -32,24 +32,23 @@ abbrev pub placesLeft : ℕ → ℕ → Spot → ℕ
 placesLeft st n s = (n - s .row) * st - s .column
 
 module _ (st n : ℕ) where
-  pub within-after : (s : Spot) (k : ℕ) → Within st n s → s .row < n → 1 ≤ k → k ≤ 2 → Within st n (spotAfter st s k)
-  unfolding spotAfter
-  within-after s k w l a b =
-      if-cases (Within st n) (ltb (s .column + k) st)
-      (λ e. record { column = omega (arith, tests); row = w .row; ahead = omega (arith, w .ahead) })
-      (λ e. record { column = omega (arith, w .column); row = omega (arith, l); ahead = omega (arith, w .ahead, w .column, add-one (s .row), mul-suc st (s .row)) })
+  -- a row less
+  row-left : (s : Spot) → s .row < n → (n - s .row) * st ≡ (n - (s .row + 1)) * st + st
+  row-left s l = let q : n - s .row ≡ suc (n - (s .row + 1)) = omega arith in rw q (suc-mul (n - (s .row + 1)) st)
 
   pub left-after : (s : Spot) (k : ℕ) → Within st n s → s .row < n → 1 ≤ k → placesLeft st n (spotAfter st s k) < placesLeft st n s
   unfolding spotAfter
   left-after s k w l a =
-      let q : n - s .row ≡ suc (n - (s .row + 1)) = omega arith in
-      let r : (n - s .row) * st ≡ (n - (s .row + 1)) * st + st = ap (λ (x : ℕ). x * st) q ∙ suc-mul (n - (s .row + 1)) st in
-      if-cases (λ (t : Spot). placesLeft st n t < placesLeft st n s) (ltb (s .column + k) st)
-      (λ e. omega (arith, tests, w .column)) (λ e. omega (arith, w .column))
+      let r = row-left s l in
+      if-cases (λ (t : Spot). placesLeft st n t < placesLeft st n s) (ltb (s .column + k) st) (λ e. omega (arith, tests, w .column)) (λ e. omega (arith, w .column))
 
   module _ (text : List ℕ) where
     pub within-next : (s : Spot) → Within st n s → s .row < n → Within st n (nextSpot st (shownAt st n text s))
-    within-next s w l = let t = taken-most (shownAt st n text s .kind) in within-after s (cellsTaken (shownAt st n text s .kind)) w l (t .0) (t .1)
+    unfolding spotAfter
+    within-next s w l =
+        let t = taken-most (shownAt st n text s .kind) in
+        if-cases (Within st n) (ltb (s .column + cellsTaken (shownAt st n text s .kind)) st)
+        (λ e. omega (arith, tests)) (λ e. omega (arith, add-one (s .row), mul-suc st (s .row)))
 
     over : (k : ℕ) (s : Spot) → n ≤ s .row → walk st n text k s ≡ []
     unfolding walk
@@ -57,12 +56,7 @@ module _ (st n : ℕ) where
     over (suc k) s h = rw (le-ltb (s .row) n h)
 
     none-left : (s : Spot) → Within st n s → placesLeft st n s ≤ 0 → n ≤ s .row
-    none-left s w h =
-        by-lt (s .row) n
-        (λ l. let q : n - s .row ≡ suc (n - (s .row + 1)) = omega arith in
-        let r : (n - s .row) * st ≡ (n - (s .row + 1)) * st + st = ap (λ (x : ℕ). x * st) q ∙ suc-mul (n - (s .row + 1)) st in
-        absurd (omega (arith, w .column)))
-        (λ l. l)
+    none-left s w h = by-lt (s .row) n (λ l. absurd (omega (arith, w .column, row-left s l))) (λ l. l)
 
     -- steps enough are as many as one likes
     enough : (k j : ℕ) (s : Spot) → Within st n s → placesLeft st n s ≤ k → placesLeft st n s ≤ j → walk st n text k s ≡ walk st n text j s
@@ -92,5 +86,4 @@ module _ (st n : ℕ) where
     rest-end s h = over (placesLeft st n s) s h
 
     pub rest-start : walk st n text (n * st) (spot 0 0 0) ≡ rest (spot 0 0 0)
-    rest-start = let r : n - 0 ≡ n = omega arith in
-        let q : n * st ≡ (n - 0) * st - 0 = omega (arith, ap (λ (x : ℕ). x * st) r) in ap (λ (k : ℕ). walk st n text k (spot 0 0 0)) q
+    rest-start = simp sub-zero

@@ -1,17 +1,81 @@
--- Glyphs: lists of byte stores one after another, and glyphs of any height, line by line.
+-- Glyphs: where a code's glyph stands, and how its bytes are stored on the screen.
 use mathlib.Core.Path.{_≡_, refl, sym, ap, _∙_}
-use mathlib.Core.Bool.{Bool, _&&_, and-assoc}
+use mathlib.Core.Bool.{Bool, true, false, _&&_, and-assoc, and-true}
 use mathlib.Core.List.{List, [], _∷_, _++_}
-use Prim.Native.Nat.{ℕ, zero, suc, _+_, _-_, _*_, _≤_, _<_}
+use Prim.Native.Nat.{ℕ, zero, suc, _+_, _-_, _≤_, _<_, _*_}
+use native.Mathlib.Omega.{arith}
 use native.Mathlib.Nat.{mul-suc}
 use native.Mathlib.Numerals.{add-one}
-use native.Mathlib.Omega.{arith}
-use borrow.Author.Tests.{lt-ltb, le-ltb, le-leb, lt-leb}
-use lib.Dec.{leb}
+use lib.Dec.{leb, eqb, ltb}
 use lib.ListN.{length, getD, set, take, drop, length-set}
 use lib.Seq.{getD-take, getD-drop, drop-cons}
-use Rattle.model.specs.Glyphs.{Store, flipped, value, paint, fontsFit, columnStores, lineStores}
-use Rattle.laws.specs.Tests.{by-lt}
+use borrow.Author.Tests.{eq-eqb, ne-eqb, lt-ltb, le-ltb, lt-leb}
+use Rattle.model.specs.declared.Found.{Found}
+use Rattle.model.specs.declared.Found.the-variants.{At, Nothing}
+use Rattle.model.specs.declared.Glyph.{Glyph}
+use Rattle.model.specs.Bytes.{two, four}
+use Rattle.model.specs.Codes.{CodeRow, codes, emojiRows, inRow, indexIn, emojiIndex, extraFrom}
+use Rattle.model.specs.Glyphs.{glyphOr, Store, flipped, value, paint, fontsFit, columnStores, lineStores}
+use Rattle.laws.specs.Tests.{all-true, by-lt, tests}
+
+-- Codes: a table of rows searched from the first on.
+
+-- ---- rows
+
+module _ {b : Bool} (r : CodeRow) (rs : List CodeRow) (before lead trail : ℕ) where
+  -- the code is of the first row
+  pub row-here : {f : Found} → b ≡ inRow r lead trail → b ≡ true → f ≡ At (before + (trail - r .first)) → f ≡ indexIn (r ∷ rs) before lead trail
+  unfolding indexIn
+  row-here e t h = rw (← e, t) h
+
+  -- or of another
+  pub row-past : {f : Found} → b ≡ inRow r lead trail → b ≡ false → f ≡ indexIn rs (before + (r .last + 1 - r .first)) lead trail
+      → f ≡ indexIn (r ∷ rs) before lead trail
+  unfolding indexIn
+  row-past e t h = rw (← e, t) h
+
+-- a code of a row has its first trail or one after it
+pub row-first : {b : Bool} (row first last lead trail : ℕ) → b ≡ inRow (codes row first last) lead trail → b ≡ true → first ≤ trail
+unfolding inRow
+row-first row first last lead trail e t = omega (arith, tests, all-true (eqb lead row ∷ leb first trail ∷ leb trail last ∷ []) (sym e ∙ t))
+
+-- ---- the version, 0 or 1
+
+pub index-v1 : {f : Found} (version lead trail : ℕ) → version ≡ 0 → f ≡ indexIn (emojiRows 0) 0 lead trail → f ≡ emojiIndex version lead trail
+unfolding emojiIndex
+index-v1 version lead trail e h = h ∙ ap (λ (v : ℕ). indexIn (emojiRows v) 0 lead trail) (sym e)
+
+pub index-v2 : {f : Found} (version lead trail : ℕ) → (version ≡ 0 → ⊥) → f ≡ indexIn (emojiRows 1) 0 lead trail → f ≡ emojiIndex version lead trail
+unfolding emojiIndex
+index-v2 zero lead trail e h = absurd (e refl)
+index-v2 (suc n) lead trail e h = h
+
+-- ---- the extra list
+
+module _ (list : List ℕ) (code : ℕ) where
+  pub extra-here : {f : Found} (i k n : ℕ) → k < n → two list i ≡ code → f ≡ At (four list (i + 2)) → f ≡ extraFrom list code i (n - k)
+  unfolding extraFrom
+  extra-here i k n l e h = let q : n - k ≡ suc (n - (k + 1)) = omega arith in rw (q, eq-eqb (two list i) code e) h
+
+  pub extra-past : {f : Found} (i k n : ℕ) → k < n → (two list i ≡ code → ⊥) → f ≡ extraFrom list code i (n - k) → f ≡ extraFrom list code (i + 6) (n - (k + 1))
+  unfolding extraFrom
+  extra-past i k n l e h = let q : n - k ≡ suc (n - (k + 1)) = omega arith in cc (ne-eqb (two list i) code e)
+
+  pub extra-end : (i k n : ℕ) → n ≤ k → Nothing ≡ extraFrom list code i (n - k)
+  unfolding extraFrom
+  extra-end i k n l = let q : n - k ≡ 0 = omega arith in rw q
+
+-- ---- one source after another
+
+pub found-at : {f : Found} (i : ℕ) (k : ℕ → Glyph) (other : Glyph) → f ≡ At i → k i ≡ glyphOr f k other
+unfolding glyphOr
+found-at i k other e = rw e
+
+pub found-nothing : {f : Found} {g : Glyph} (k : ℕ → Glyph) (other : Glyph) → f ≡ Nothing → g ≡ other → g ≡ glyphOr f k other
+unfolding glyphOr
+found-nothing k other e h = rw e h
+
+-- Glyphs: lists of byte stores one after another, and glyphs of any height, line by line.
 
 -- ---- stores
 
@@ -32,15 +96,18 @@ fits-append (w ∷ a) b = cc (fits-append a b, and-assoc _ _ _)
 
 -- ---- places: a glyph whose last line lies on a screen of n bytes
 
+line-more : (st i e : ℕ) → i < e → st * (e - i) ≡ st * (e - (i + 1)) + st
+line-more st i e l = let q : e - i ≡ suc (e - (i + 1)) = omega arith in rw q (mul-suc st (e - (i + 1)))
+
 pub room-here : (st place i e n : ℕ) → i < e → place + st * (e - i) < n + st → place < n
-room-here st place i e n l h =
-    let q : e - i ≡ suc (e - (i + 1)) = omega arith in
-    omega (arith, mul-suc st (e - (i + 1)), ap (λ (k : ℕ). st * k) q)
+room-here st place i e n l h = omega (arith, line-more st i e l)
 
 pub room-next : (st place i e n : ℕ) → i < e → place + st * (e - i) < n + st → (place + st) + st * (e - (i + 1)) < n + st
-room-next st place i e n l h =
-    let q : e - i ≡ suc (e - (i + 1)) = omega arith in
-    omega (arith, mul-suc st (e - (i + 1)), ap (λ (k : ℕ). st * k) q)
+room-next st place i e n l h = omega (arith, line-more st i e l)
+
+-- a place before the last lies in the font where the last one does
+both-below : (i last n : ℕ) → i < last → (ltb i n && leb last n) ≡ leb last n
+both-below i last n l = by-lt i n (λ m. rw (lt-ltb i n m)) (λ m. rw (le-ltb i n m, lt-leb last n (omega arith)))
 
 -- ---- of one byte a line: bytes i up to e of a font
 
@@ -48,25 +115,19 @@ module _ (st : ℕ) (font : List ℕ) (inverse : Bool) where
   pub column-turn : (place i e : ℕ) (s : List ℕ) → i < e
       → paint (columnStores st font place i inverse (e - i)) s ≡ paint (columnStores st font (place + st) (i + 1) inverse (e - (i + 1))) (set s place (flipped inverse (getD font i 0)))
   unfolding columnStores paint
-  column-turn place i e s l =
-      let q : e - i ≡ suc (e - (i + 1)) = omega arith in
-      ap (λ (h : ℕ). paint (columnStores st font place i inverse h) s) q
+  column-turn place i e s l = let q : e - i ≡ suc (e - (i + 1)) = omega arith in rw q
 
   pub column-end : (place i e : ℕ) (s : List ℕ) → e ≤ i → paint (columnStores st font place i inverse (e - i)) s ≡ s
   unfolding columnStores paint
-  column-end place i e s l = let q : e - i ≡ 0 = omega arith in ap (λ (h : ℕ). paint (columnStores st font place i inverse h) s) q
+  column-end place i e s l = let q : e - i ≡ 0 = omega arith in rw q
 
   -- they lie in the font where the last one does
   pub column-fits : (place i h : ℕ) → fontsFit (columnStores st font place i inverse (suc h)) ≡ leb (i + suc h) (length font)
   unfolding columnStores fontsFit
-  column-fits place i zero =
-      by-lt i (length font) (λ l. rw (lt-ltb i (length font) l, le-leb (i + 1) (length font) (omega arith)))
-      (λ l. rw (le-ltb i (length font) l, lt-leb (i + 1) (length font) (omega arith)))
+  column-fits place i zero = cc (and-true (ltb i (length font)), add-one i)
   column-fits place i (suc h) =
       let q : i + 1 + suc h ≡ i + suc (suc h) = omega arith in
-      by-lt i (length font)
-      (λ l. rw (lt-ltb i (length font) l) (column-fits (place + st) (i + 1) h ∙ ap (λ (k : ℕ). leb k (length font)) q))
-      (λ l. rw (le-ltb i (length font) l, lt-leb (i + suc (suc h)) (length font) (omega arith)))
+      cc (column-fits (place + st) (i + 1) h, both-below i (i + suc (suc h)) (length font) (omega arith))
 
 -- ---- of two bytes a line
 
@@ -74,19 +135,12 @@ module _ (st : ℕ) (font : List ℕ) (il ir : Bool) where
   pub lines-fits : (left right i h : ℕ) → fontsFit (lineStores st font left right i il ir (suc h)) ≡ leb (i + 2 * suc h) (length font)
   unfolding lineStores fontsFit
   lines-fits left right i zero =
-      by-lt (i + 1) (length font)
-      (λ l. rw (lt-ltb i (length font) (omega arith), lt-ltb (i + 1) (length font) l, le-leb (i + 2) (length font) (omega arith)))
-      (λ l. by-lt i (length font)
-      (λ m. rw (lt-ltb i (length font) m, le-ltb (i + 1) (length font) l, lt-leb (i + 2) (length font) (omega arith)))
-      (λ m. rw (le-ltb i (length font) m, lt-leb (i + 2) (length font) (omega arith))))
+      let q : suc (i + 1) ≡ i + 2 = omega arith in
+      cc (and-true (ltb (i + 1) (length font)), both-below i (i + 2) (length font) (omega arith))
   lines-fits left right i (suc h) =
       let q : i + 2 + 2 * suc h ≡ i + 2 * suc (suc h) = omega arith in
-      by-lt (i + 1) (length font)
-      (λ l. rw (lt-ltb i (length font) (omega arith), lt-ltb (i + 1) (length font) l)
-      (lines-fits (left + st) (right + st) (i + 2) h ∙ ap (λ (k : ℕ). leb k (length font)) q))
-      (λ l. by-lt i (length font)
-      (λ m. rw (lt-ltb i (length font) m, le-ltb (i + 1) (length font) l, lt-leb (i + 2 * suc (suc h)) (length font) (omega arith)))
-      (λ m. rw (le-ltb i (length font) m, lt-leb (i + 2 * suc (suc h)) (length font) (omega arith))))
+      let last = i + 2 * suc (suc h) in
+      cc (lines-fits (left + st) (right + st) (i + 2) h, both-below (i + 1) last (length font) (omega arith), both-below i last (length font) (omega arith))
 
 -- a glyph by value: h lines of two bytes, from byte i of a part of a font on
 abbrev pub glyphLines : List ℕ → ℕ → ℕ → List (List ℕ)

@@ -9,7 +9,7 @@ use lib.Bits.{bitAnd, bitOr, bitXor}
 use lib.Dec.{ltb, eqb}
 use lib.IntN.{ℤ, pos, negsuc}
 use lib.ListN.{length, getD, set}
-use borrow.Author.Tests.{eqb-true, ltb-true, lt-ltb, le-ltb}
+use borrow.Author.Tests.{eqb-true, lt-ltb, le-ltb}
 use Rattle.model.specs.declared.Rect.{Rect}
 use Rattle.model.specs.declared.Marks.{Marks}
 use Rattle.model.specs.declared.DrawMode.{DrawMode}
@@ -20,21 +20,11 @@ use Rattle.model.specs.Bytes.{Bytes}
 use Rattle.model.specs.Rects.{none, fits, lowered}
 use Rattle.model.specs.Marks.{drawn, drawnOn, within, owes}
 use Rattle.model.specs.Points.{pointOp, pixelRect, pointWrite, pointRect, point, isSet}
-use Rattle.laws.specs.Tests.{if-cases, by-test, by-lt, and-true}
+use Rattle.laws.specs.Tests.{if-cases, by-test, by-lt, and-true, tests}
 use Rattle.laws.specs.Pixels.{place-lt}
-use Rattle.laws.specs.Tables.{every-at, or-is, and-is, flip-is, see-is}
-use Rattle.laws.specs.Rects.{fits-passes}
-use Rattle.laws.specs.Marks.{in-inside}
+use Rattle.laws.specs.Bits.{every-at, see-is, every₂-at}
+use Rattle.laws.specs.Rects.{fits-passes, in-inside}
 use Rattle.laws.specs.Writes.{OwesItsMark}
-
--- a bit made what it is
-pub withBit-own : (b k : ℕ) → withBit b k (bitAt b k) ≡ b
-unfolding withBit
-withBit-own b k = go (bitAt b k) refl
-  where
-    go : (v : Bool) → bitAt b k ≡ v → withBit b k v ≡ b
-    go true e = rw e
-    go false e = rw e
 
 -- the mask of pixel x in its byte
 abbrev pub maskOf : ℕ → ℕ
@@ -47,12 +37,16 @@ pointByte Or b m = bitOr b m
 pointByte Xor b m = bitXor b m
 pointByte Unknown b m = b
 
+-- it is the pixel's change, computed over 256 bytes by 8 bits
+abbrev pointRule : DrawMode → ℕ → ℕ → Bool
+pointRule d b k = eqb (pointByte d b (128 / 2 ^ k)) (withBit b (7 - k) (pointOp d (bitAt b (7 - k))))
+
 point-byte : (d : DrawMode) (b k : ℕ) → b < 256 → k < 8 → pointByte d b (128 / 2 ^ k) ≡ withBit b (7 - k) (pointOp d (bitAt b (7 - k)))
-unfolding pointByte pointOp
-point-byte Clear b k hb hk = and-is b k hb hk
-point-byte Or b k hb hk = or-is b k hb hk
-point-byte Xor b k hb hk = flip-is b k hb hk
-point-byte Unknown b k hb hk = sym (withBit-own b (7 - k))
+unfolding pointByte pointOp withBit bitAt
+point-byte Clear b k hb hk = eqb-true _ _ (every₂-at 256 8 (pointRule Clear) refl b k hb hk)
+point-byte Or b k hb hk = eqb-true _ _ (every₂-at 256 8 (pointRule Or) refl b k hb hk)
+point-byte Xor b k hb hk = eqb-true _ _ (every₂-at 256 8 (pointRule Xor) refl b k hb hk)
+point-byte Unknown b k hb hk = eqb-true _ _ (every₂-at 256 8 (pointRule Unknown) refl b k hb hk)
 
 pub plotted : (st x y : ℕ) (d : DrawMode) (s : List ℕ) {m v : ℕ} → Bytes s → m ≡ maskOf x → v ≡ pointByte d (getD s (place st x y) 0) m
     → set s (place st x y) v ≡ writePixel st s (pointWrite x y d)
@@ -73,9 +67,7 @@ mask-at x = eqb-true _ _ (every-at 8 (λ k. eqb (getD masks k 0) (128 / 2 ^ k)) 
 
 pub on-true : (st h x y : ℕ) → onScreen st h x y ≡ true → (x < 8 * st) × (y < h)
 unfolding onScreen
-on-true st h x y e =
-    let p = and-true (ltb x (8 * st)) (ltb y h) e in
-    (ltb-true x (8 * st) (p .0), ltb-true y h (p .1))
+on-true st h x y e = omega (arith, tests, and-true (ltb x (8 * st)) (ltb y h) e)
 
 -- a pixel of the screen has its byte
 pub place-in : (st h x y : ℕ) {s : List ℕ} → Screen st h s → (x < 8 * st) × (y < h) → place st x y < length s
@@ -92,55 +84,47 @@ bothLowered st h r = record { dirty = r; owed = lowered (8 * st) h r }
 pub lowered-both : (st h : ℕ) {r m o : Rect} → m ≡ r → o ≡ lowered (8 * st) h m → _≡_ {A = Marks} (record { dirty = m; owed = o }) (bothLowered st h r)
 lowered-both st h {r} {m} {o} p q = let k : o ≡ lowered (8 * st) h r = q ∙ ap (lowered (8 * st) h) p in λ i. record { dirty = p i; owed = k i }
 
--- a point's write lies in what it marks
-pub point-within : (st h x y : ℕ) (d : DrawMode) → within (pointRect st h x y) (seen st h (pointWrite x y d ∷ [])) ≡ true
-unfolding within seen pointRect
-point-within st h x y d = by-test (onScreen st h x y) (λ e. rw (e, in-inside (pixelRect x y) x y (omega arith))) (λ e. rw e)
-
-pub point-owes : (st h x y : ℕ) (d : DrawMode) → OwesItsMark st h (point st h x y d)
-unfolding point owes
-point-owes st h x y d = rw (point-within st h x y d)
-
--- and STATE lets it pass in dirty
+-- STATE lets a point's mark pass in dirty
 pub point-fits : (st h x y : ℕ) → x < 256 → y < 256 → fits 256 0 256 (pointRect st h x y) ≡ true
 unfolding pointRect
 point-fits st h x y hx hy =
     if-cases (λ (r : Rect). fits 256 0 256 r ≡ true) (onScreen st h x y)
     (λ e. fits-passes 256 0 256 (pixelRect x y) (inr (omega arith))) (λ e. fits-passes 256 0 256 none (inl refl))
 
--- one write, where it falls on the screen
-pub seen-one : (st h x y : ℕ) (d : DrawMode) (s e : List ℕ) {t : Bool} → t ≡ onScreen st h x y → t ≡ true → e ≡ writePixel st s (pointWrite x y d)
-    → e ≡ draw st (seen st h (pointWrite x y d ∷ [])) s
-unfolding seen draw
-seen-one st h x y d s e p q w =
-    let o : onScreen st h x y ≡ true = cc in
-    rw o w
+module _ (st h x y : ℕ) (d : DrawMode) where
+  -- its write lies in that mark
+  pub point-within : within (pointRect st h x y) (seen st h (pointWrite x y d ∷ [])) ≡ true
+  unfolding within seen pointRect
+  point-within = by-test (onScreen st h x y) (λ e. rw (e, in-inside (pixelRect x y) x y (omega arith))) (λ e. rw e)
 
-pub seen-none : (st h x y : ℕ) (d : DrawMode) (s : List ℕ) {t : Bool} → t ≡ onScreen st h x y → t ≡ false
-    → s ≡ draw st (seen st h (pointWrite x y d ∷ [])) s
-unfolding seen draw
-seen-none st h x y d s p q =
-    let o : onScreen st h x y ≡ false = cc in
-    rw o
+  pub point-owes : OwesItsMark st h (point st h x y d)
+  unfolding point owes
+  point-owes = rw point-within
 
--- ---- with its marks
+  module _ (s : List ℕ) where
+    -- one write, where it falls on the screen
+    pub seen-one : (e : List ℕ) {t : Bool} → t ≡ onScreen st h x y → t ≡ true → e ≡ writePixel st s (pointWrite x y d) → e ≡ draw st (seen st h (pointWrite x y d ∷ [])) s
+    unfolding seen draw
+    seen-one e p q w = rw (sym p ∙ q) w
 
-point-marked : (st h x y : ℕ) (d : DrawMode) (s e : List ℕ) {m : Marks} → m ≡ both (pointRect st h x y) → e ≡ draw st (seen st h (pointWrite x y d ∷ [])) s
-    → drawn m e ≡ drawnOn st h (point st h x y d) s
-unfolding drawn drawnOn point
-point-marked st h x y d s e r w =
-    let o = ap (λ (k : Marks). k .owed) r ∙ sym (point-owes st h x y d) in
-    λ i. record { dirty = r i .dirty; owed = o i; screen = w i }
+    pub seen-none : {t : Bool} → t ≡ onScreen st h x y → t ≡ false → s ≡ draw st (seen st h (pointWrite x y d ∷ [])) s
+    unfolding seen draw
+    seen-none p q = rw (sym p ∙ q)
 
-pub point-on : (st h x y : ℕ) (d : DrawMode) (s e : List ℕ) {t : Bool} {m : Marks} → t ≡ onScreen st h x y → t ≡ true → m ≡ both (pixelRect x y)
-    → e ≡ writePixel st s (pointWrite x y d) → drawn m e ≡ drawnOn st h (point st h x y d) s
-unfolding pointRect
-point-on st h x y d s e p q r w = point-marked st h x y d s e (rw (sym p ∙ q) r) (seen-one st h x y d s e p q w)
+    -- ---- with its marks
 
-pub point-off : (st h x y : ℕ) (d : DrawMode) (s : List ℕ) {t : Bool} {m : Marks} → t ≡ onScreen st h x y → t ≡ false → m ≡ both none
-    → drawn m s ≡ drawnOn st h (point st h x y d) s
-unfolding pointRect
-point-off st h x y d s p q r = point-marked st h x y d s s (rw (sym p ∙ q) r) (seen-none st h x y d s p q)
+    point-marked : (e : List ℕ) {m : Marks} → m ≡ both (pointRect st h x y) → e ≡ draw st (seen st h (pointWrite x y d ∷ [])) s → drawn m e ≡ drawnOn st h (point st h x y d) s
+    unfolding drawn drawnOn point
+    point-marked e r w = λ i. record { dirty = r i .dirty; owed = ((λ j. r j .owed) ∙ sym point-owes) i; screen = w i }
+
+    pub point-on : (e : List ℕ) {t : Bool} {m : Marks} → t ≡ onScreen st h x y → t ≡ true → m ≡ both (pixelRect x y)
+        → e ≡ writePixel st s (pointWrite x y d) → drawn m e ≡ drawnOn st h (point st h x y d) s
+    unfolding pointRect
+    point-on e p q r w = point-marked e (rw (sym p ∙ q) r) (seen-one e p q w)
+
+    pub point-off : {t : Bool} {m : Marks} → t ≡ onScreen st h x y → t ≡ false → m ≡ both none → drawn m s ≡ drawnOn st h (point st h x y d) s
+    unfolding pointRect
+    point-off p q r = point-marked s (rw (sym p ∙ q) r) (seen-none p q)
 
 -- ---- a signed coordinate
 

@@ -34,9 +34,8 @@ use Rattle.laws.specs.Pixels.{length-draw}
 use Rattle.laws.specs.Memory.{window-set-in, window-set-out, length-withWindow, window-other}
 use Rattle.laws.specs.Loops.{length-zeros}
 use Rattle.laws.specs.Flags.{length-no-flags}
-use Rattle.laws.specs.Scrolls.{length-times}
-use Rattle.laws.specs.Marks.{AgreeOutside, whole-agrees, owes-agrees, seen-on, poke-agrees}
-use Rattle.laws.specs.Pages.{Sheet}
+use Rattle.laws.specs.Pages.{length-times, Sheet}
+use Rattle.laws.specs.Writes.{AgreeOutside, whole-agrees, owes-agrees, seen-on, poke-agrees}
 use Rattle.laws.specs.Texts.{row-room, page-sheet}
 use Rattle.laws.specs.Record.{head-tells}
 use Rattle.laws.specs.Cursors.{blink-fits, next-most}

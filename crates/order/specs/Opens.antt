@@ -22,9 +22,8 @@ use Rattle.model.specs.Lists.{accepted, Typed, marks, opens, sends, affected}
 use Rattle.laws.specs.Tests.{all-true, true-all}
 use Rattle.laws.specs.Calls.{accepted-call}
 use Rattle.laws.specs.Rects.{none-fits}
-use Rattle.laws.specs.Marks.{whole-agrees}
-use Rattle.laws.specs.Loops.{length-zeros}
-use Rattle.laws.specs.Keys.{length-withKeys}
+use Rattle.laws.specs.Writes.{whole-agrees}
+use Rattle.laws.specs.Loops.{length-zeros, length-withKeys}
 use Rattle.laws.specs.Record.{head-tells}
 use Rattle.laws.specs.Flags.{length-no-flags}
 use Rattle.laws.specs.Pendings.{well-open, well-send}

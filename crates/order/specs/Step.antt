@@ -20,7 +20,7 @@ use Rattle.laws.specs.Tests.{by-eq, AllTrue, all-true, true-all}
 use Rattle.laws.specs.Rects.{Fits, join-fits, fits-passes, passes-fits}
 use Rattle.laws.specs.ListLaws.{getD-map}
 use Rattle.laws.specs.Memory.{length-window, length-withWindow, window-same}
-use Rattle.laws.specs.Marks.{AgreeOutside}
+use Rattle.laws.specs.Writes.{AgreeOutside}
 use Rattle.laws.specs.Record.{Passing, head-tells, decode-encode}
 use Rattle.laws.specs.States.{well-formed, encode-passing}
 use Rattle.laws.specs.Pendings.{well-owing}

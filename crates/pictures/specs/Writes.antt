@@ -11,7 +11,7 @@ use lib.ListN.{length}
 use borrow.Author.Tests.{eqb-false}
 use Rattle.model.specs.Pixels.{bit, onScreen, PixelWrite, writePixel, draw}
 use Rattle.laws.specs.Tests.{by-test, either, tests, clash, and-true, or-cases}
-use Rattle.laws.specs.Tables.{same-bool}
+use Rattle.laws.specs.Bits.{same-bool}
 use Rattle.laws.specs.Pixels.{place-lt, length-put, put-same, put-other, Each, draw-other}
 use Rattle.pictures.specs.Picture.{Changed}
 

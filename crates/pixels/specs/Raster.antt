@@ -9,7 +9,7 @@ use Rattle.model.specs.declared.DrawMode.the-variants.{Clear, Or, Xor, Unknown}
 use Rattle.model.specs.Lines.{isUnknown}
 use Rattle.laws.specs.Tests.{if-cases}
 use Rattle.laws.specs.Runs.{clears, flips, allOrNone, maskByte}
-use Rattle.laws.specs.Solid.{solid}
+use Rattle.laws.specs.Lines.{solid}
 use Rattle.pixels.specs.declared.raster.RasterOp.{RasterOp}
 
 -- the mode of the two bytes; never Unknown

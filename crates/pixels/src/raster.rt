@@ -3,7 +3,7 @@ ghost use mathlib.Core.Path.{_≡_};
 ghost use Prim.Native.Nat.{_<_};
 ghost use lib.ListN.{length};
 ghost use Rattle.laws.specs.Runs.{maskByte, masked};
-ghost use Rattle.laws.specs.Solid.{solid};
+ghost use Rattle.laws.specs.Lines.{solid};
 ghost use Rattle.pixels.specs.Raster.{modeOf, IsOp};
 use model::DrawMode;
 

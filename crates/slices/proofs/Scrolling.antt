@@ -9,7 +9,7 @@ use Rattle.model.specs.Memory.{withWindow, zeros}
 use Rattle.model.specs.Print.{scrolled}
 use Rattle.laws.specs.Parts.{part-back}
 use Rattle.laws.specs.Loops.{length-zeros}
-use Rattle.laws.specs.Scrolls.{scrolling, scroll-end}
+use Rattle.laws.specs.Pages.{scrolling, scroll-end}
 
 pub scrolled-up : (n i : ℕ) (d l : List ℕ) {s : List ℕ} → n ≤ length d → i ≡ length d - n → length l ≡ length d → l ≡ scrolling n i d
     → s ≡ zeros (length (take (length d - (length d - n)) (drop (length d - n) l)))

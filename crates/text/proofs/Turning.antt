@@ -11,9 +11,7 @@ use borrow.Author.Tests.{leb-true, ltb-true, eq-eqb, ne-eqb}
 use Rattle.model.specs.Flags.{flagsIn}
 use Rattle.model.specs.Print.{screenScrolls, Page, printByte, printPair, printBytes, scrolled, scrolledTimes, clearUntil, clearFrom, clearAfter, printOn}
 use Rattle.laws.specs.Tests.{and-true}
-use Rattle.laws.specs.Scrolls.{times-most}
-use Rattle.laws.specs.Pages.{length-clear, byte-sheet, pair-sheet, bytes-sheet}
-use Rattle.laws.specs.Prints.{byte-turn, pair-turn, bytes-end, cellWritten, until-start, until-end}
+use Rattle.laws.specs.Pages.{times-most, length-clear, byte-sheet, pair-sheet, bytes-sheet, byte-turn, pair-turn, bytes-end, cellWritten, until-start, until-end}
 use Rattle.text.specs.declared.page.Place.{Place}
 use Rattle.text.specs.declared.print.Turn.{Turn}
 use Rattle.text.specs.Written.{page, Ready, Written}

@@ -11,8 +11,7 @@ use borrow.Author.Tests.{eq-eqb, ne-eqb}
 use Rattle.model.specs.Flags.{flagsIn, bytesOfFlags}
 use Rattle.model.specs.Print.{scrolled, scrollPage, nextRow, newlineOn, writeCell, wrap, endRow, printByte, printPair}
 use Rattle.laws.specs.Flags.{HasFlags, flagRoom, withFlag, flagsScrolled, flags-of, flags-written, length-flagsIn, flag-room, flag-written, flags-scrolled}
-use Rattle.laws.specs.Scrolls.{length-scrolled}
-use Rattle.laws.specs.Pages.{cell-in, write-sheet, wrap-sheet, wrap-pair}
+use Rattle.laws.specs.Pages.{length-scrolled, cell-in, write-sheet, wrap-sheet, wrap-pair}
 use Rattle.text.specs.declared.page.Place.{Place}
 use Rattle.text.specs.Written.{page, Cell, Ready, Written}
 

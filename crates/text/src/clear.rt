@@ -3,7 +3,7 @@ ghost use mathlib.Core.Path.{_≡_};
 ghost use Prim.Native.Nat.{_<_};
 ghost use lib.ListN.{length};
 ghost use Rattle.model.specs.Print.{clearFrom};
-ghost use Rattle.laws.specs.Prints.{cellWritten};
+ghost use Rattle.laws.specs.Pages.{cellWritten};
 
 // Whether the cell is there and not 0.
 fn is_set(text: &[u8], i: usize) -> bool

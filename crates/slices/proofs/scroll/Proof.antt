@@ -4,7 +4,7 @@ use mathlib.Core.Path.{_≡_, refl}
 use Prim.Native.Nat.{_≤_, _-_}
 use native.Mathlib.Omega.{arith}
 use lib.ListN.{length, length-set}
-use Rattle.laws.specs.Scrolls.{scrolling, scroll-turn}
+use Rattle.laws.specs.Pages.{scrolling, scroll-turn}
 use Rattle.slices.proofs.Scrolling.{scrolled-up}
 use Rattle.slices.proofs.scroll.Statement.{statement}
 use Rattle.slices.proofs.scroll.Tie as tie

@@ -1,4 +1,4 @@
-use Rattle.laws.specs.EllipseDrawn.{chord-order, chord-drawn}
+use Rattle.laws.specs.EllipseMarks.{chord-order, chord-drawn}
 use borrow.Author.Needs.{needs}
 use Rattle.draw.proofs.ellipse.draw_chord.Statement.{statement}
 use Rattle.draw.proofs.ellipse.draw_chord.Tie as tie

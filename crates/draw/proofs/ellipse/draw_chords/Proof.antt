@@ -1,4 +1,4 @@
-use Rattle.laws.specs.EllipseDrawn.{chords-drawn}
+use Rattle.laws.specs.EllipseMarks.{chords-drawn}
 use borrow.Author.Needs.{needs}
 use Rattle.draw.proofs.ellipse.draw_chords.Statement.{statement}
 use Rattle.draw.proofs.ellipse.draw_chords.Tie as tie

@@ -1,4 +1,4 @@
-use Rattle.laws.specs.EllipseDrawn.{corners-drawn}
+use Rattle.laws.specs.EllipseMarks.{corners-drawn}
 use borrow.Author.Needs.{needs}
 use Rattle.draw.proofs.ellipse.draw_corners.Statement.{statement}
 use Rattle.draw.proofs.ellipse.draw_corners.Tie as tie

@@ -1,4 +1,4 @@
-use Rattle.laws.specs.EllipseDrawn.{is-round, ellipse-point, ellipse-nothing, ellipse-filled, ellipse-outlined}
+use Rattle.laws.specs.EllipseMarks.{is-round, ellipse-point, ellipse-nothing, ellipse-filled, ellipse-outlined}
 use borrow.Author.Needs.{needs}
 use Rattle.draw.proofs.ellipse.draw_ellipse.Statement.{statement}
 use Rattle.draw.proofs.ellipse.draw_ellipse.Tie as tie

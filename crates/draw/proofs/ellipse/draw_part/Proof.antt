@@ -1,4 +1,4 @@
-use Rattle.laws.specs.EllipseDrawn.{part-filled, part-outlined}
+use Rattle.laws.specs.EllipseMarks.{part-filled, part-outlined}
 use borrow.Author.Needs.{needs}
 use Rattle.draw.proofs.ellipse.draw_part.Statement.{statement}
 use Rattle.draw.proofs.ellipse.draw_part.Tie as tie

@@ -1,5 +1,5 @@
 use native.Mathlib.Omega.{arith}
-use Rattle.laws.specs.EllipseDrawn.{mark-whole, mark-around, not-wrapped}
+use Rattle.laws.specs.EllipseMarks.{mark-whole, mark-around, not-wrapped}
 use borrow.Author.Needs.{needs}
 use Rattle.draw.proofs.ellipse.ellipse_mark.Statement.{statement}
 use Rattle.draw.proofs.ellipse.ellipse_mark.Tie as tie

@@ -1,4 +1,4 @@
-use Rattle.laws.specs.Codes.{index-v1, index-v2}
+use Rattle.laws.specs.Glyphs.{index-v1, index-v2}
 use borrow.Author.Needs.{needs}
 use Rattle.flush.proofs.codes.emoji_index.Statement.{statement}
 use Rattle.flush.proofs.codes.emoji_index.Tie as tie

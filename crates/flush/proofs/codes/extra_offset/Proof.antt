@@ -4,7 +4,7 @@ use Prim.Native.Nat.{_-_, _*_, _≤_}
 use native.Mathlib.Omega.{arith}
 use Rattle.model.specs.declared.Found.the-variants.{At}
 use Rattle.model.specs.Codes.{extraFrom, extraOffset}
-use Rattle.laws.specs.Codes.{extra-here, extra-past, extra-end}
+use Rattle.laws.specs.Glyphs.{extra-here, extra-past, extra-end}
 use Rattle.flush.proofs.Choosing.{extra-start}
 use Rattle.flush.proofs.codes.extra_offset.Statement.{statement}
 use Rattle.flush.proofs.codes.extra_offset.Tie as tie

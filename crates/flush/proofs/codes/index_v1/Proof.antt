@@ -1,5 +1,5 @@
 use native.Mathlib.Omega.{arith}
-use Rattle.laws.specs.Codes.{row-first, row-here, row-past}
+use Rattle.laws.specs.Glyphs.{row-first, row-here, row-past}
 use Rattle.flush.proofs.Choosing.{no-row}
 use borrow.Author.Needs.{needs}
 use Rattle.flush.proofs.codes.index_v1.Statement.{statement}

@@ -3,7 +3,7 @@ use native.Mathlib.Omega.{arith}
 use lib.ListN.{length-set}
 use Rattle.model.specs.Glass.{geometry}
 use Rattle.model.specs.Record.{decode}
-use Rattle.laws.specs.Keys.{clears-memory}
+use Rattle.laws.specs.Loops.{clears-memory}
 use borrow.Author.Needs.{needs}
 use Rattle.record.proofs.keys.clear_memory.Statement.{statement}
 use Rattle.record.proofs.keys.clear_memory.Tie as tie

@@ -1,5 +1,5 @@
 use native.Mathlib.Omega.{arith}
-use Rattle.laws.specs.Keys.{key-test, no-key}
+use Rattle.laws.specs.Loops.{key-test, no-key}
 use Rattle.laws.specs.Updates.{keys-room}
 use borrow.Author.Needs.{needs}
 use Rattle.record.proofs.keys.is_key.Statement.{statement}

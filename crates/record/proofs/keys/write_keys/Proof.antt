@@ -8,7 +8,7 @@ use lib.ListN.{length, length-set}
 use Rattle.model.specs.Glass.{geometry}
 use Rattle.model.specs.Record.{decode}
 use Rattle.model.specs.Open.{withKeys}
-use Rattle.laws.specs.Keys.{keys-set, keys-kept}
+use Rattle.laws.specs.Loops.{keys-set, keys-kept}
 use Rattle.record.proofs.keys.write_keys.Statement.{statement}
 use Rattle.record.proofs.keys.write_keys.Tie as tie
 

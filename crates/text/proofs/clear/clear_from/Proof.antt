@@ -5,7 +5,7 @@ use Prim.Native.Nat.{_-_}
 use native.Mathlib.Omega.{arith}
 use lib.ListN.{length, length-set}
 use Rattle.model.specs.Print.{clearUntil}
-use Rattle.laws.specs.Prints.{set-in, until-turn}
+use Rattle.laws.specs.Pages.{set-in, until-turn}
 use Rattle.text.proofs.Turning.{was-cleared}
 use Rattle.text.proofs.clear.clear_from.Statement.{statement}
 use Rattle.text.proofs.clear.clear_from.Tie as tie
