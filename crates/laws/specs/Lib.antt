@@ -21,9 +21,7 @@ pub mod Owed
 pub mod Panels
 pub mod StateTest
 pub mod Keys
-pub mod RecordTable
 pub mod Glasses
-pub mod Pendings
 pub mod Updates
 pub mod Sending
 pub mod Opening

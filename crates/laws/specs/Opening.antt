@@ -4,7 +4,7 @@ use mathlib.Core.Bool.{false}
 use mathlib.Core.List.{List, [], _∷_, _++_}
 use Prim.Native.Nat.{ℕ, zero, suc, _+_, _*_, _<_, _≤_}
 use native.Mathlib.Omega.{arith}
-use lib.ListN.{length, replicate, length-replicate}
+use lib.ListN.{length, replicate, length-replicate, getD-replicate}
 use Rattle.model.specs.declared.Rect.{Rect}
 use Rattle.model.specs.declared.Head.{Head}
 use Rattle.model.specs.declared.glass.Glass.{Glass}
@@ -16,7 +16,7 @@ use Rattle.model.specs.Bytes.{rectsBytes, rectBytes, wordsBytes, fourBytes, Wor
 use Rattle.model.specs.Record.{RecordPart, head, panel, keys, flags, written, total, layout, size, pendingBytes, recordBytes, Pending, State, decode, encode, partBytes, bytesOfHead, bytesOfPending, panelOf, nothingPending}
 use Rattle.model.specs.Marks.{whole, owing}
 use Rattle.model.specs.Open.{clearHead, clearFlags, openPending, openState}
-use Rattle.laws.specs.ListLaws.{getD-replicate, getD-in, map-replicate}
+use Rattle.laws.specs.ListLaws.{getD-same, map-replicate}
 use Rattle.laws.specs.Flags.{no-flags, length-no-flags}
 use Rattle.laws.specs.Layout.{AllShort}
 use Rattle.laws.specs.PartLists.{written-same}
@@ -58,7 +58,7 @@ noKeys = 0 ∷ 0 ∷ 0 ∷ 0 ∷ 0 ∷ 0 ∷ 0 ∷ 0 ∷ []
 part-zeros : (g : Geometry) (p : RecordPart) → partBytes g (blank g noHead noKeys) p ≡ zeros (size g p)
 unfolding partBytes zeros
 part-zeros g head = refl
-part-zeros g (panel k) = ap bytesOfPending (getD-replicate (g .panels) k (nothingPending g)) ∙ pending-zeros g
+part-zeros g (panel k) = ap bytesOfPending (getD-same (g .panels) k (nothingPending g)) ∙ pending-zeros g
 part-zeros g keys = refl
 part-zeros g flags = sym (no-flags (cells g))
 
@@ -72,7 +72,7 @@ zeros-encode g = sym (written-same (partBytes g (blank g noHead noKeys)) (λ p. 
 blank-sized : (g : Geometry) (h : Head) (ks : List ℕ) → length ks ≡ 8 → Sized g (blank g h ks)
 unfolding nothingPending
 blank-sized g h ks n = record {
-  owed = λ k. ap (λ (p : Pending). length (p .owed)) (getD-replicate (g .panels) k (nothingPending g)) ∙ length-replicate (g .bands) none;
+  owed = λ k. ap (λ (p : Pending). length (p .owed)) (getD-same (g .panels) k (nothingPending g)) ∙ length-replicate (g .bands) none;
   keys = n;
   flags = length-replicate (cells g) false;
 }
@@ -98,7 +98,7 @@ opens {v} {h = h} {w = w} r graphics text version ks z n m e t f k q j =
     ∙ (λ i. encode g (record { head = t i; panels = map-replicate (owing g all) (g .panels) (nothingPending g) i; keys = ks; flags = clearFlags g }))
   where
     short : (i : ℕ) → 0 ≤ i → i < v .panels → AllShort (panelOf (geometry v) (blank (geometry v) h ks) i .owed)
-    short i o l = rw (getD-replicate (v .panels) i (nothingPending (geometry v))) (none-short (v .bands))
+    short i o l = rw (getD-same (v .panels) i (nothingPending (geometry v))) (none-short (v .bands))
 
 -- ---- what open wrote: its length, and its keys read again
 
@@ -106,7 +106,7 @@ open-sized : (g : Geometry) (graphics text version : ℕ) (ks : List ℕ) → le
 unfolding openState openPending nothingPending
 open-sized g graphics text version ks n =
     record {
-      owed = all-owed g (openState g graphics text version ks) (length-replicate (g .panels) (openPending g)) (λ k h. ap (λ (p : Pending). length (p .owed)) (getD-in (g .panels) k (openPending g) (nothingPending g) h)
+      owed = all-owed g (openState g graphics text version ks) (length-replicate (g .panels) (openPending g)) (λ k h. ap (λ (p : Pending). length (p .owed)) (getD-replicate (g .panels) k (openPending g) (nothingPending g) h)
           ∙ length-owing g (whole (g .stride) (height g)) (nothingPending g) ∙ length-replicate (g .bands) none);
       keys = n;
       flags = length-no-flags (cells g);

@@ -16,7 +16,7 @@ use Rattle.model.specs.Record.{bandsFit}
 use Rattle.model.specs.Marks.{joinOwed}
 use Rattle.model.specs.Sends.{firstOwed, restOwed}
 use Rattle.laws.specs.Memory.{window-extend, length-withWindow}
-use Rattle.laws.specs.Layout.{rects-at, rect-again, rects-again, length-rects, length-rectsAt}
+use Rattle.laws.specs.Layout.{rects-from, rect-again, rects-again, length-rects, length-rectsAt}
 
 -- the lines of the bands that are left
 pub lines-left : (lo band left h : ℕ) → 0 < left → lo + left * band ≤ h → lo + band + (left - 1) * band ≤ h
@@ -53,7 +53,7 @@ window-tail a n k s t r e f h =
 
 -- rectangles past a store
 rects-past : (n a : ℕ) (q : Rect) (r : List ℕ) → a ≤ length r → rectsAt n (withWindow a (rectBytes q) r) (a + 8) ≡ rectsAt n r (a + 8)
-rects-past n a q r h = rects-at n (withWindow a (rectBytes q) r) (a + 8) ∙ ap (λ (l : List ℕ). rectsAt n l 0) (drop-window a 8 (rectBytes q) r refl h) ∙ sym (rects-at n r (a + 8))
+rects-past n a q r h = rects-from (withWindow a (rectBytes q) r) (a + 8) n ∙ ap (λ (l : List ℕ). rectsAt n l 0) (drop-window a 8 (rectBytes q) r refl h) ∙ sym (rects-from r (a + 8) n)
 
 -- ---- a mark
 

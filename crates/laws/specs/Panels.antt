@@ -18,7 +18,7 @@ use Rattle.model.specs.Flags.{flagBytes}
 use Rattle.model.specs.Record.{headBytes, head, panel, flags, tag, samePart, offset, panelsFrom, size, at, partIn, recordBytes, pendingBytes, Pending, State, decode, encode, bytesOfPending, partBytes, panelOf, nothingPending, withPanel, withPanels}
 use Rattle.model.specs.Marks.{joinOwed, owing}
 use Rattle.laws.specs.Tests.{by-eq}
-use Rattle.laws.specs.Layout.{AllShort, rects-at, rects-back, length-rects, rects-short}
+use Rattle.laws.specs.Layout.{AllShort, rects-from, rects-back, length-rects, rects-short}
 use Rattle.laws.specs.Record.{Passing, Sized, has-panel, part-in, bytes-part, part-encode, put-panel, encode-decode, panel-decoded, sized-decode, count-decode, sized-panel}
 use Rattle.laws.specs.Owed.{joined, window-tail}
 use Rattle.laws.specs.Bands.{length-joinOwed}
@@ -81,7 +81,7 @@ mark-panel g m s k l z c h b =
     let here : drop a r ≡ rectsBytes (p .owed) ++ (t ++ rest) = from-panel g s k z h ∙ append-assoc (rectsBytes (p .owed)) t rest in
     let long : length (rectsBytes (p .owed)) ≡ 8 * n = cc (length-rects (p .owed), z .owed k) in
     let there : drop (a + 8 * n) r ≡ t ++ rest = cc (drop-drop (8 * n) a r, drop-at (rectsBytes (p .owed)) (t ++ rest) (8 * n) long) in
-    let owed : rectsAt n r a ≡ p .owed = cc (rects-at n r a, z .owed k, rects-back (p .owed) (t ++ rest) b) in
+    let owed : rectsAt n r a ≡ p .owed = cc (rects-from r a n, z .owed k, rects-back (p .owed) (t ++ rest) b) in
     let new = joinOwed (width g) (g .band) 0 m (p .owed) in
     let count : length new ≡ n = length-joinOwed (width g) (g .band) 0 m (p .owed) ∙ z .owed k in
     let e : a + 8 * n + 12 ≡ a + pendingBytes g = omega arith in

@@ -5,7 +5,7 @@ use mathlib.Core.Bool.{Bool, true, false}
 use Prim.Native.Nat.{ℕ, zero, suc, _+_, _-_, _*_, _<_, _≤_}
 use native.Mathlib.Omega.{arith}
 use native.Mathlib.Nat.{add-zero, zero-add}
-use lib.ListN.{length, getD, drop, length-append, length-replicate, drop-of-length-le}
+use lib.ListN.{length, getD, drop, length-append, length-replicate, drop-of-length-le, List·getD-eq-default}
 use lib.Seq.{drop-drop, drop-at, getD-set-same, getD-set-other, ext-getD}
 use borrow.Author.Tests.{ne-eqb}
 use Rattle.model.specs.declared.Rect.{Rect}
@@ -18,30 +18,21 @@ use Rattle.model.specs.Flags.{flagsIn, bytesOfFlags}
 use Rattle.model.specs.Record.{headBytes, RecordPart, head, panel, keys, flags, tag, samePart, has, written, total, offset, panelsFrom, layout, size, at, partIn, recordBytes, pendingBytes, Pending, State, decode, encode, listing, headOf, pendingOf, bytesOfHead, bytesOfPending, partBytes, panelOf, nothingPending, bandsFit, windows, windowTests, headTests, headFits, pendingFits, partFits, valid, withHead, withPanel, withKeyWords, withFlags, WellPending, WellFormed}
 use Rattle.model.specs.Glass.{IsGlass}
 use Rattle.laws.specs.Tests.{tests, by-test, by-lt, by-eq, clash, and-true, all-true, either, or-right}
-use Rattle.laws.specs.Rects.{passes-fits}
+use Rattle.laws.specs.Rects.{Fits, passes-fits}
 use Rattle.laws.specs.Memory.{length-window}
-use Rattle.laws.specs.ListLaws.{getD-past}
+use Rattle.laws.specs.Bands.{BandsFit, owed-fits, hand-fits}
 use Rattle.laws.specs.PartLists.{same-part, written-same, all-at, part-written, part-stored, parts-written}
 use Rattle.laws.specs.Flags.{flags-read, flags-written, length-flags, length-flagsIn}
-use Rattle.laws.specs.Layout.{Short, AllShort, bytes-drop, bytes-take, four-from, rect-from, elements, elements-drop, low, high, rect-again, four-again, rects-again, words-again, two-back, four-back, rect-back, rects-back, words-back, length-rects, length-rectsAt, length-words}
+use Rattle.laws.specs.Layout.{Short, AllShort, bytes-drop, bytes-take, four-from, rect-from, whole, all-again, low, high, byte0, byte1, byte2, byte3, rect-again, four-again, rects-again, two-back, four-back, rect-back, rects-back, words-back, length-rects, length-rectsAt, length-words}
 
 -- ---- which parts there are
-
-has-right : (q : RecordPart) (ps qs : List RecordPart) → has q qs ≡ true → has q (ps ++ qs) ≡ true
-unfolding has
-has-right q [] qs h = h
-has-right q (p ∷ ps) qs h = or-right (samePart q p) (has-right q ps qs h)
 
 has-from : (i k n : ℕ) → k ≤ i → i < k + n → has (panel i) (panelsFrom k n) ≡ true
 unfolding has
 has-from i k zero l u = absurd (omega arith)
 has-from i k (suc n) l u =
-    by-test (samePart (panel i) (panel k))
-    (λ e. rw e)
-    (λ e. or-right (samePart (panel i) (panel k)) (has-from i (suc k) n (next e) (omega arith)))
-  where
-    next : samePart (panel i) (panel k) ≡ false → suc k ≤ i
-    next e = omega (arith, tests)
+    by-test (samePart (panel i) (panel k)) (λ e. rw e)
+    (λ e. or-right (samePart (panel i) (panel k)) (has-from i (suc k) n (omega (arith, tests)) (omega arith)))
 
 from-has : (i k n : ℕ) → has (panel i) (panelsFrom k n) ≡ true → i < k + n
 unfolding has
@@ -64,19 +55,19 @@ module _ (g : Geometry) where
   unfolding has
   has-flags = refl
 
+  -- a panel that is not the first stands after the flags
+  later : (k : ℕ) → has (panel (suc k)) (layout g) ≡ has (panel (suc k)) (panelsFrom 1 (g .panels - 1))
+  unfolding has
+  later k = let t = tag (panel (suc k)) in rw (ne-eqb t 0 (λ e. omega arith), ne-eqb t 3 (λ e. omega arith), ne-eqb t 1 (λ e. omega arith), ne-eqb t 2 (λ e. omega arith))
+
   pub has-panel : (k : ℕ) → k < g .panels → has (panel k) (layout g) ≡ true
   unfolding has
   has-panel zero h = refl
-  has-panel (suc k) h =
-      has-right (panel (suc k)) (head ∷ panel 0 ∷ keys ∷ flags ∷ []) (panelsFrom 1 (g .panels - 1)) (has-from (suc k) 1 (g .panels - 1) (omega arith) (omega arith))
+  has-panel (suc k) h = later k ∙ has-from (suc k) 1 (g .panels - 1) (omega arith) (omega arith)
 
   pub panel-has : (k : ℕ) → 1 ≤ g .panels → has (panel k) (layout g) ≡ true → k < g .panels
-  unfolding has
   panel-has zero l h = l
-  panel-has (suc k) l h =
-      let t = tag (panel (suc k)) in
-      let r = from-has (suc k) 1 (g .panels - 1) (rw (ne-eqb t 0 (λ e. omega arith), ne-eqb t 3 (λ e. omega arith), ne-eqb t 1 (λ e. omega arith), ne-eqb t 2 (λ e. omega arith)) at h) in
-      omega arith
+  panel-has (suc k) l h = let r = from-has (suc k) 1 (g .panels - 1) (sym (later k) ∙ h) in omega arith
 
 -- ---- the bytes of a part in a record
 
@@ -101,29 +92,12 @@ bytes-part g q r b = bytes-take (size g q) (drop (at g q) r) (bytes-drop (at g q
 
 -- ---- each part there and back: its bytes c, read and written again
 
-exact : (n : ℕ) (a c : List ℕ) → a ++ drop n c ≡ c → length c ≡ n → a ≡ c
-exact n a c e l = sym (append-nil a) ∙ ap (λ (x : List ℕ). a ++ x) (sym (drop-of-length-le c {i = n} (omega arith))) ∙ e
-
-head-elements : (c : List ℕ) → ((i : ℕ) → getD c i 0 < 256) → bytesOfHead (headOf c) ≡ elements headBytes 0 c
-head-elements c b = simp (low, high, b)
-
-head-again : (c : List ℕ) → Bytes c → length c ≡ headBytes → bytesOfHead (headOf c) ≡ c
-unfolding Bytes
-head-again c b l = exact headBytes (bytesOfHead (headOf c)) c (ap (λ (x : List ℕ). x ++ drop headBytes c) (head-elements c b) ∙ elements-drop headBytes 0 c (omega arith)) l
-
-words-whole : (n : ℕ) (c : List ℕ) → Bytes c → length c ≡ 4 * n → wordsBytes (wordsAt n c 0) ≡ c
-words-whole n c b l = exact (4 * n) (wordsBytes (wordsAt n c 0)) c (cc (zero-add (4 * n), words-again n c 0 b (omega arith))) l
-
-pub pending-again : (g : Geometry) (r : List ℕ) (i : ℕ) → Bytes r → i + pendingBytes g ≤ length r
-    → bytesOfPending (pendingOf g r i) ++ drop (i + pendingBytes g) r ≡ drop i r
-pending-again g r i b h =
-    let n = g .bands in
-    let j = i + 8 * n in
-    let e : i + pendingBytes g ≡ j + 8 + 4 = omega arith in
-    cc (append-assoc _ _ _, four-again r (j + 8) b (omega arith), rect-again r j b (omega arith), rects-again n r i b (omega arith))
-
-pub pending-whole : (g : Geometry) (c : List ℕ) → Bytes c → length c ≡ pendingBytes g → bytesOfPending (pendingOf g c 0) ≡ c
-pending-whole g c b l = exact (pendingBytes g) (bytesOfPending (pendingOf g c 0)) c (cc (zero-add (pendingBytes g), pending-again g c 0 b (omega arith))) l
+pending-again : (g : Geometry) (c : List ℕ) → Bytes c → length c ≡ pendingBytes g → bytesOfPending (pendingOf g c 0) ≡ c
+pending-again g c b l =
+    let n = 8 * g .bands in
+    let e : pendingBytes g ≡ 0 + n + 8 + 4 = omega arith in
+    whole (pendingBytes g) (bytesOfPending (pendingOf g c 0)) c l
+    (cc (append-assoc _ _ _, four-again c (0 + n + 8) b (omega arith), rect-again c (0 + n) b (omega arith), rects-again (g .bands) c 0 b (omega arith)))
 
 pub getD-listing : {A : Type 0} (f : ℕ → A) (k n i : ℕ) (d : A) → i < n → getD (listing f k n) i d ≡ f (k + i)
 unfolding listing
@@ -147,7 +121,7 @@ pub record Passing (g : Geometry) (r : List ℕ) : Type 0 where
 
 pub panel-decoded : (g : Geometry) (r : List ℕ) (i : ℕ) → i < g .panels → panelOf g (decode g r) i ≡ pendingOf g (partIn g (panel i) r) 0
 unfolding decode
-panel-decoded g r i h = getD-listing (λ j. pendingOf g (partIn g (panel j) r) 0) 0 (g .panels) i (nothingPending g) h ∙ ap (λ (j : ℕ). pendingOf g (partIn g (panel j) r) 0) (zero-add i)
+panel-decoded g r i h = cc (getD-listing (λ j. pendingOf g (partIn g (panel j) r) 0) 0 (g .panels) i (nothingPending g) h, zero-add i)
 
 module _ (g : Geometry) (r : List ℕ) (k : Passing g r) where
   pub part-passes : (p : RecordPart) → has p (layout g) ≡ true → partFits g p (partIn g p r) ≡ true
@@ -156,12 +130,13 @@ module _ (g : Geometry) (r : List ℕ) (k : Passing g r) where
 
   -- what is read of a part is written as its bytes
   pub part-again : (p : RecordPart) → has p (layout g) ≡ true → partBytes g (decode g r) p ≡ partIn g p r
-  unfolding partBytes decode partFits
-  part-again head h = head-again (partIn g head r) (bytes-part g head r (k .bytes)) (length-part g head r h (k .sized))
+  unfolding partBytes decode partFits Bytes
+  part-again head h = let b = bytes-part g head r (k .bytes) in all-again (size g head) _ (partIn g head r) (length-part g head r h (k .sized)) (simp (low, high, b))
   part-again (panel i) h =
-      ap bytesOfPending (panel-decoded g r i (panel-has g i (k .glass .one) h))
-      ∙ pending-whole g (partIn g (panel i) r) (bytes-part g (panel i) r (k .bytes)) (length-part g (panel i) r h (k .sized))
-  part-again keys h = words-whole 8 (partIn g keys r) (bytes-part g keys r (k .bytes)) (length-part g keys r h (k .sized))
+      cc (panel-decoded g r i (panel-has g i (k .glass .one) h), pending-again g (partIn g (panel i) r) (bytes-part g (panel i) r (k .bytes)) (length-part g (panel i) r h (k .sized)))
+  part-again keys h =
+      let b = bytes-part g keys r (k .bytes) in
+      all-again (size g keys) _ (partIn g keys r) (length-part g keys r h (k .sized)) (simp (byte0, byte1, byte2, byte3, b))
   part-again flags h = flags-read (cells g) (partIn g flags r) (length-part g flags r h (k .sized)) (part-passes flags h)
 
   pub encode-decode : encode g (decode g r) ≡ r
@@ -202,7 +177,7 @@ pub all-owed : (g : Geometry) (s : State) → length (s .panels) ≡ g .panels �
 unfolding nothingPending
 all-owed g s n e k =
     by-lt k (g .panels) (e k)
-    (λ l. ap (λ (p : Pending). length (p .owed)) (getD-past (s .panels) k (nothingPending g) (omega arith)) ∙ length-replicate (g .bands) none)
+    (λ l. ap (λ (p : Pending). length (p .owed)) (List·getD-eq-default (s .panels) (nothingPending g) {n = k} (omega arith)) ∙ length-replicate (g .bands) none)
 
 pub sized-decode : (g : Geometry) (r : List ℕ) → length r ≡ recordBytes g → Sized g (decode g r)
 unfolding decode
@@ -215,18 +190,12 @@ sized-decode g r l = record {
 pub well-sized : (g : Geometry) (s : State) → WellFormed g s → Sized g s
 well-sized g s f = record { owed = all-owed g s (f .count) (λ k h. f .panels k h .bands); keys = f .words; flags = f .flags }
 
-pub fits-short : (w lo hi : ℕ) (q : Rect) → w < 65536 → hi < 65536 → fits w lo hi q ≡ true → Short q
-fits-short w lo hi q hw hh e =
-    either (passes-fits w lo hi q e)
-    (λ z. record { left = rw z (omega arith); top = rw z (omega arith); right = rw z (omega arith); bottom = rw z (omega arith) })
-    (λ p. record { left = omega (arith, p); top = omega (arith, p); right = omega (arith, p); bottom = omega (arith, p) })
+fits-short : (w lo hi : ℕ) (q : Rect) → w < 65536 → hi < 65536 → Fits w lo hi q → Short q
+fits-short w lo hi q hw hh f = either f (λ z. rw z (omega arith)) (λ p. omega (arith, p))
 
-bands-short : (w band lo : ℕ) (qs : List Rect) → w < 65536 → lo + length qs * band < 65536 → bandsFit w band lo qs ≡ true → AllShort qs
-unfolding bandsFit
-bands-short w band lo [] hw h e = tt
-bands-short w band lo (q ∷ qs) hw h e =
-    let p = and-true (fits w lo (lo + band) q) (bandsFit w band (lo + band) qs) e in
-    (fits-short w lo (lo + band) q hw (omega arith) (p .0), bands-short w band (lo + band) qs hw (omega arith) (p .1))
+bands-short : (w b lo : ℕ) (qs : List Rect) → w < 65536 → lo + length qs * b < 65536 → BandsFit w b lo qs → AllShort qs
+bands-short w b lo [] hw h f = tt
+bands-short w b lo (q ∷ qs) hw h f = (fits-short w lo (lo + b) q hw (omega arith) (f .0), bands-short w b (lo + b) qs hw (omega arith) (f .1))
 
 -- what a head that passes tells of its numbers
 pub record Numbers (g : Geometry) (h : Head) : Type 0 where
@@ -245,17 +214,7 @@ unfolding headFits windows
 head-tells g h e =
     let t = all-true (headTests g h) e in
     let w = all-true (windowTests g (h .graphics) (h .text)) (t .0) in
-    record {
-      graphics = omega (arith, tests);
-      text = omega (arith, tests);
-      row = omega (arith, tests);
-      column = omega (arith, tests);
-      screen = omega (arith, tests);
-      print = omega (arith, tests);
-      cursor = omega (arith, tests);
-      version = omega (arith, tests);
-      dirty = t .1 .1 .1 .1 .1 .1 .1 .0;
-    }
+    search (arith, tests)
 
 pub head-equal : {a b : Head} → a .graphics ≡ b .graphics → a .text ≡ b .text → a .row ≡ b .row → a .column ≡ b .column
     → a .screen ≡ b .screen → a .print ≡ b .print → a .cursor ≡ b .cursor → a .version ≡ b .version → a .dirty ≡ b .dirty → a ≡ b
@@ -268,24 +227,19 @@ pub head-back : (g : Geometry) (h : Head) → headFits g h ≡ true → headOf (
 head-back g h e =
     let n = head-tells g h e in
     head-equal (two-back (h .graphics) (omega (arith, n))) (two-back (h .text) (omega (arith, n))) refl refl refl refl refl refl
-    (rect-back (h .dirty) [] (fits-short 256 0 256 (h .dirty) (omega arith) (omega arith) (n .dirty)))
+    (rect-back (h .dirty) [] (fits-short 256 0 256 (h .dirty) (omega arith) (omega arith) (passes-fits 256 0 256 (h .dirty) (n .dirty))))
 
 pub pending-back : (g : Geometry) (p : Pending) → IsGlass g → WellPending g p → pendingOf g (bytesOfPending p) 0 ≡ p
-unfolding pendingFits
 pending-back g p k f =
-    let n = g .bands in
+    let n = 0 + 8 * g .bands in
+    let c = bytesOfPending p in
     let rest = rectBytes (p .hand) ++ fourBytes (p .sent) in
-    let t = and-true (bandsFit (width g) (g .band) 0 (p .owed)) (fits (width g) 0 (height g) (p .hand)) (f .passes) in
-    let long : length (rectsBytes (p .owed)) ≡ 8 * n = cc (length-rects (p .owed), f .bands) in
-    let here : drop (0 + 8 * n) (bytesOfPending p) ≡ rest = cc (zero-add (8 * n), drop-at (rectsBytes (p .owed)) rest (8 * n) long) in
-    let there : drop (0 + 8 * n + 8) (bytesOfPending p) ≡ fourBytes (p .sent) = sym (drop-drop 8 (0 + 8 * n) (bytesOfPending p)) ∙ ap (drop 8) here in
-    let owed = rects-back (p .owed) rest (bands-short (width g) (g .band) 0 (p .owed) (omega (arith, k)) (rw (f .bands) (omega (arith, k))) (t .0)) in
-    let hand = rect-back (p .hand) (fourBytes (p .sent)) (fits-short (width g) 0 (height g) (p .hand) (omega (arith, k)) (omega (arith, k)) (t .1)) in
-    λ i. record {
-      owed = (ap (λ (j : ℕ). rectsAt j (bytesOfPending p) 0) (sym (f .bands)) ∙ owed) i;
-      hand = (rect-from (bytesOfPending p) (0 + 8 * n) ∙ ap (λ (l : List ℕ). rectAt l 0) here ∙ hand) i;
-      sent = (four-from (bytesOfPending p) (0 + 8 * n + 8) ∙ ap (λ (l : List ℕ). four l 0) there ∙ four-back (p .sent) (f .counted)) i;
-    }
+    let here : drop n c ≡ rest = drop-at (rectsBytes (p .owed)) rest n (omega (arith, length-rects (p .owed), f .bands)) in
+    let there : drop (n + 8) c ≡ fourBytes (p .sent) = sym (drop-drop 8 n c) ∙ ap (drop 8) here in
+    let owed : rectsAt (g .bands) c 0 ≡ p .owed = cc (f .bands, rects-back (p .owed) rest (bands-short (width g) (g .band) 0 (p .owed) (omega (arith, k)) (rw (f .bands) (omega (arith, k))) (owed-fits g p f))) in
+    let hand : rectAt c n ≡ p .hand = cc (rect-from c n, rect-back (p .hand) (fourBytes (p .sent)) (fits-short (width g) 0 (height g) (p .hand) (omega (arith, k)) (omega (arith, k)) (hand-fits g p f))) in
+    let sent : four c (n + 8) ≡ p .sent = cc (four-from c (n + 8), four-back (p .sent) (f .counted)) in
+    λ i. record { owed = owed i; hand = hand i; sent = sent i }
 
 listing-is : {A : Type 0} (f : ℕ → A) (n : ℕ) (l : List A) (d : A) → length l ≡ n → ((i : ℕ) → i < n → f i ≡ getD l i d) → listing f 0 n ≡ l
 listing-is f n l d e h =
@@ -313,13 +267,13 @@ decode-encode g s k f =
 
 module _ (g : Geometry) (q : RecordPart) (s t : State) where
   -- the bytes of the part q of t stored in the bytes of s, where the other parts of the two states are the same
-  pub put-part : IsGlass g → has q (layout g) ≡ true → Sized g s → length (partBytes g t q) ≡ size g q → (samePart q head ≡ false → s .head ≡ t .head)
-      → ((k : ℕ) → samePart q (panel k) ≡ false → panelOf g s k ≡ panelOf g t k) → (samePart q keys ≡ false → s .keys ≡ t .keys)
-      → (samePart q flags ≡ false → s .flags ≡ t .flags) → withWindow (at g q) (partBytes g t q) (encode g s) ≡ encode g t
+  pub put-part : IsGlass g → has q (layout g) ≡ true → Sized g s → length (partBytes g t q) ≡ size g q → (samePart head q ≡ false → s .head ≡ t .head)
+      → ((k : ℕ) → samePart (panel k) q ≡ false → panelOf g s k ≡ panelOf g t k) → (samePart keys q ≡ false → s .keys ≡ t .keys)
+      → (samePart flags q ≡ false → s .flags ≡ t .flags) → withWindow (at g q) (partBytes g t q) (encode g s) ≡ encode g t
   unfolding encode partBytes
   put-part l h z n a b c d = part-stored (size g) (partBytes g s) (partBytes g t) q (layout g) (sizes g s z) n but h (l .apart)
     where
-      but : (p : RecordPart) → samePart q p ≡ false → partBytes g s p ≡ partBytes g t p
+      but : (p : RecordPart) → samePart p q ≡ false → partBytes g s p ≡ partBytes g t p
       but head e = ap bytesOfHead (a e)
       but (panel k) e = ap bytesOfPending (b k e)
       but keys e = ap wordsBytes (c e)

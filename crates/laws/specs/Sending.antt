@@ -19,11 +19,10 @@ use Rattle.laws.specs.Tests.{by-test, either, clash}
 use Rattle.laws.specs.Rects.{Proper}
 use Rattle.laws.specs.Memory.{window-extend}
 use Rattle.laws.specs.Layout.{length-rects, length-rectsAt, rects-again}
-use Rattle.laws.specs.Bands.{length-restOwed}
+use Rattle.laws.specs.Bands.{length-restOwed, hand-fits, well-take, to-send}
 use Rattle.laws.specs.Record.{encode-decode, panel-decoded, put-panel, sized-decode, count-decode}
 use Rattle.laws.specs.Windows.{pending-part}
 use Rattle.laws.specs.States.{well-formed}
-use Rattle.laws.specs.Pendings.{hand-fits, well-take, to-send}
 use Rattle.laws.specs.Owed.{Took, rested, window-again}
 use Rattle.laws.specs.Panels.{Known, panel-room}
 

@@ -18,7 +18,7 @@ use Rattle.laws.specs.Tests.{AllTrue, all-true, true-all, by-eq}
 use Rattle.laws.specs.Rects.{Fits, fits-passes, passes-fits, join-fits}
 use Rattle.laws.specs.ListLaws.{getD-map}
 use Rattle.laws.specs.Record.{head-tells}
-use Rattle.laws.specs.Pendings.{well-owing}
+use Rattle.laws.specs.Bands.{well-owing}
 
 -- ---- a head that passes STATE passes with another number that does
 

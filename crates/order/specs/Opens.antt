@@ -24,7 +24,7 @@ use Rattle.laws.specs.Keys.{length-withKeys}
 use Rattle.laws.specs.Record.{head-tells}
 use Rattle.laws.specs.Flags.{length-no-flags}
 use Rattle.laws.specs.Updates.{flags-formed}
-use Rattle.laws.specs.Pendings.{well-open}
+use Rattle.laws.specs.Bands.{well-open}
 use Rattle.order.specs.Formed.{bases-fit, head-formed, owing-formed}
 use Rattle.order.specs.Step.{Lendable, Step, old, known, stored, marks-step}
 

@@ -16,7 +16,7 @@ use Rattle.model.specs.Calls.{Call, opening, send, Lent, Outcome, answered, don
 use Rattle.model.specs.Lists.{accepted, Typed, Item, here, after, run, opens, effect, itemEffect, affected, reckoned, linesLeft, differing}
 use Rattle.laws.specs.Tests.{either}
 use Rattle.laws.specs.Calls.{own-decide, outcome-done}
-use Rattle.laws.specs.Pendings.{lines-send, idle-iff, lines-bound}
+use Rattle.laws.specs.Bands.{lines-send, idle-iff, lines-bound}
 use Rattle.order.specs.PanelState.{PanelState}
 use Rattle.order.specs.Held.{Held, held-open, held-after, none-left}
 use Rattle.order.specs.Step.{Lendable, Step, view}

@@ -8,7 +8,7 @@ use Rattle.model.specs.Record.{encode, panelOf, nothingPending, withPanel}
 use Rattle.model.specs.Sends.{sendPending, sendPanel}
 use Rattle.model.specs.Calls.{Lent, lent}
 use Rattle.model.specs.Lists.{sends, affected}
-use Rattle.laws.specs.Pendings.{well-send}
+use Rattle.laws.specs.Bands.{well-send}
 use Rattle.order.specs.Held.{length-send}
 use Rattle.order.specs.Formed.{panel-formed}
 use Rattle.order.specs.Step.{Lendable, Step, old, screenHeld, known, stored}

@@ -34,7 +34,7 @@ use Rattle.laws.specs.Memory.{length-withWindow, window-same, window-set-out}
 use Rattle.laws.specs.Pixels.{length-put, put-same, put-other, copyRun-same, copyRun-other}
 use Rattle.laws.specs.Loops.{length-zeros}
 use Rattle.laws.specs.Counts.{none-differ}
-use Rattle.laws.specs.Pendings.{well-send}
+use Rattle.laws.specs.Bands.{well-send}
 use Rattle.order.specs.Formed.{marked-formed, panel-formed}
 use Rattle.order.specs.Opens.{length-clear-memory, open-formed}
 use Rattle.pictures.specs.Picture.{rect}

@@ -12,7 +12,7 @@ use Rattle.laws.specs.Loops.{length-zeros}
 use Rattle.laws.specs.Glasses.{base-glass}
 use Rattle.laws.specs.Record.{decode-encode}
 use Rattle.laws.specs.States.{encode-passing}
-use Rattle.laws.specs.Pendings.{well-nothing}
+use Rattle.laws.specs.Bands.{well-nothing}
 use Rattle.order.specs.Formed.{panel-formed}
 use Rattle.order.specs.Opens.{open-formed}
 use Rattle.pictures.specs.Picture.{Unmarked}
