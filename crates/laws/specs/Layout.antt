@@ -186,6 +186,9 @@ pub length-rectsAt : (n : ℕ) (r : List ℕ) (a : ℕ) → length (rectsAt n r 
 length-rectsAt zero r a = refl
 length-rectsAt (suc n) r a = ap suc (length-rectsAt n r (a + 8))
 
+pub length-read : (n : ℕ) (r : List ℕ) (a : ℕ) → length (rectsBytes (rectsAt n r a)) ≡ 8 * n
+length-read n r a = cc (length-rects (rectsAt n r a), length-rectsAt n r a)
+
 pub length-words : (ws : List ℕ) → length (wordsBytes ws) ≡ 4 * length ws
 length-words [] = refl
 length-words (w ∷ ws) = omega (arith, length-words ws)

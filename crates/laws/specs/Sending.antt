@@ -15,15 +15,15 @@ use Rattle.model.specs.Rects.{none, isEmpty}
 use Rattle.model.specs.Bytes.{rectAt, rectsAt, rectBytes, rectsBytes, four, fourBytes, Bytes}
 use Rattle.model.specs.Record.{panel, at, Pending, decode, encode, pendingOf, panelOf, nothingPending, withPanel, withPanels}
 use Rattle.model.specs.Sends.{firstOwed, restOwed, takeOwed, nextLine, lineSent, sendPending}
-use Rattle.laws.specs.Tests.{by-test, either, clash}
+use Rattle.laws.specs.Tests.{if-cases, by-test, either, clash}
 use Rattle.laws.specs.Rects.{Proper}
 use Rattle.laws.specs.Memory.{window-extend}
-use Rattle.laws.specs.Layout.{length-rects, length-rectsAt, rects-again}
-use Rattle.laws.specs.Bands.{length-restOwed, hand-fits, well-take, to-send}
+use Rattle.laws.specs.Layout.{length-rects}
+use Rattle.laws.specs.Bands.{hand-fits, well-take, to-send}
 use Rattle.laws.specs.Record.{encode-decode, panel-decoded, put-panel, sized-decode, count-decode}
 use Rattle.laws.specs.Windows.{pending-part}
 use Rattle.laws.specs.States.{well-formed}
-use Rattle.laws.specs.Owed.{Took, rested, window-again}
+use Rattle.laws.specs.Owed.{Took, rested, owed-again}
 use Rattle.laws.specs.Panels.{Known, panel-room}
 
 -- ---- taken in hand
@@ -37,18 +37,14 @@ pub hand-full : (g : Geometry) (a : ℕ) (r : List ℕ) {q : Rect} {t : Bool} �
     → q ≡ rectAt r (a + 8 * g .bands) → t ≡ isEmpty q → t ≡ false → InHand g a r q r
 unfolding takeOwed Bytes
 hand-full g a r b h e f k =
-    let y : isEmpty (rectAt r (a + 8 * g .bands)) ≡ false = ap isEmpty (sym e) ∙ sym f ∙ k in
-    record {
-      hand = rw y e;
-      owed = rw y (sym (window-again a (8 * g .bands) (rectsBytes (rectsAt (g .bands) r a)) r
-          (length-rects (rectsAt (g .bands) r a) ∙ ap (λ (n : ℕ). 8 * n) (length-rectsAt (g .bands) r a)) (rects-again (g .bands) r a b h)));
-    }
+    let y : isEmpty (rectAt r (a + 8 * g .bands)) ≡ false = cc in
+    record { hand = rw y e; owed = rw y (sym (owed-again (g .bands) a r b h)) }
 
 pub hand-taken : (g : Geometry) (a : ℕ) (r : List ℕ) {q p : Rect} {t : Bool} {r′ : List ℕ} → q ≡ rectAt r (a + 8 * g .bands) → t ≡ isEmpty q → t ≡ true
     → Took (g .bands) a r p r′ → InHand g a r p r′
 unfolding takeOwed rested
 hand-taken g a r e f k w =
-    let y : isEmpty (rectAt r (a + 8 * g .bands)) ≡ true = ap isEmpty (sym e) ∙ sym f ∙ k in
+    let y : isEmpty (rectAt r (a + 8 * g .bands)) ≡ true = cc in
     record { hand = rw y (w .first); owed = rw y (w .rest) }
 
 -- ---- nothing to send
@@ -63,40 +59,22 @@ rest-none (r ∷ rs) e =
 
 take-none : (p : Pending) → isEmpty (takeOwed p .hand) ≡ true → takeOwed p .owed ≡ p .owed
 unfolding takeOwed
-take-none p e =
-    by-test (isEmpty (p .hand))
-    (λ t. rw t (rest-none (p .owed) (rw t at e)))
-    (λ t. rw t refl)
+take-none p e = by-test (isEmpty (p .hand)) (λ t. rw t (rest-none (p .owed) (rw t at e))) (λ t. rw t)
 
-length-taken : (p : Pending) → length (takeOwed p .owed) ≡ length (p .owed)
-unfolding takeOwed
-length-taken p = by-test (isEmpty (p .hand)) (λ t. rw t (length-restOwed (p .owed))) (λ t. rw t refl)
-
-taken-sent : (p : Pending) → takeOwed p .sent ≡ p .sent
-unfolding takeOwed
-taken-sent p = by-test (isEmpty (p .hand)) (λ t. rw t refl) (λ t. rw t refl)
-
-send-idle : (p : Pending) → isEmpty (takeOwed p .hand) ≡ true → sendPending p ≡ p
-unfolding sendPending
-send-idle p e = rw e
+-- ---- a line sent
 
 send-line : (p : Pending) → isEmpty (takeOwed p .hand) ≡ false
     → record { owed = takeOwed p .owed; hand = nextLine (takeOwed p .hand); sent = min (p .sent + 1) 4294967295 } ≡ sendPending p
-unfolding sendPending lineSent
-send-line p e = rw e (λ i. record { owed = takeOwed p .owed; hand = nextLine (takeOwed p .hand); sent = min (sym (taken-sent p) i + 1) 4294967295 })
-
--- three windows, one after another
-three : (a n : ℕ) (x y z d : List ℕ) → length x ≡ 8 * n → length y ≡ 8 → a ≤ length d
-    → withWindow (a + 8 * n + 8) z (withWindow (a + 8 * n) y (withWindow a x d)) ≡ withWindow a (x ++ (y ++ z)) d
-three a n x y z d e f h =
-    let l : a + 8 * n + 8 ≡ a + (8 * n + 8) = omega arith in
-    cc (window-extend a (8 * n) x y d e h, window-extend a (8 * n + 8) (x ++ y) z d (omega (arith, length-append x y)) h, append-assoc x y z)
+unfolding sendPending lineSent takeOwed
+send-line p e =
+    let sent : takeOwed p .sent ≡ p .sent = if-cases (λ (q : Pending). q .sent ≡ p .sent) (isEmpty (p .hand)) (λ t. refl) (λ t. refl) in
+    rw e (cc)
 
 -- ---- as the code goes, with the glass by value
 
 module _ {v : Glass} {r : List ℕ} (k : ℕ) (w : Known v r) (h : k < v .panels) where
   -- the panel's part where it stands
-  pub panel-here : panelOf (geometry v) (decode (geometry v) r) k ≡ pendingOf (geometry v) r (at (geometry v) (panel k))
+  panel-here : panelOf (geometry v) (decode (geometry v) r) k ≡ pendingOf (geometry v) r (at (geometry v) (panel k))
   panel-here = panel-decoded (geometry v) r k h ∙ pending-part (geometry v) r k
 
   pub line-sent : {a : ℕ} {q : Rect} {r′ : List ℕ} → a ≡ at (geometry v) (panel k)
@@ -114,7 +92,7 @@ module _ {v : Glass} {r : List ℕ} (k : ℕ) (w : Known v r) (h : k < v .panels
   -- idle: the record stays
   pub idle : {a : ℕ} {q : Rect} {r′ : List ℕ} {t : Bool} → a ≡ at (geometry v) (panel k) → InHand (geometry v) a r q r′ → t ≡ isEmpty q → t ≡ true
       → r′ ≡ encode (geometry v) (withPanel k (sendPending (panelOf (geometry v) (decode (geometry v) r) k)) (decode (geometry v) r))
-  unfolding Bytes
+  unfolding Bytes sendPending
   idle {a} {q} {r′} e i f y =
       let g = geometry v in
       let s = decode g r in
@@ -122,10 +100,10 @@ module _ {v : Glass} {r : List ℕ} (k : ℕ) (w : Known v r) (h : k < v .panels
       let c = at g (panel k) in
       let room = panel-room v k (w .suits) h in
       let none : isEmpty (takeOwed p .hand) ≡ true = cc (line-sent e i) in
-      let n : length (rectsBytes (rectsAt (g .bands) r c)) ≡ 8 * g .bands = cc (length-rects (rectsAt (g .bands) r c), length-rectsAt (g .bands) r c) in
-      let same = window-again c (8 * g .bands) (rectsBytes (rectsAt (g .bands) r c)) r n (rects-again (g .bands) r c (w .passing .bytes) (omega (arith, w .passing .sized))) in
+      let same = owed-again (g .bands) c r (w .passing .bytes) (omega (arith, w .passing .sized)) in
+      let still : sendPending p ≡ p = rw none in
       let kept = ap (λ (l : List Pending). encode g (withPanels l s)) (set-getD (s .panels) k (nothingPending g)) in
-      cc (i .owed, panel-here, take-none p none, encode-decode g r (w .passing), send-idle p none)
+      cc (i .owed, panel-here, take-none p none, encode-decode g r (w .passing))
 
   -- a line sent
   pub sends : {a : ℕ} {q n : Rect} {c : ℕ} {r′ s t : List ℕ} {u : Bool} → a ≡ at (geometry v) (panel k) → InHand (geometry v) a r q r′ → u ≡ isEmpty q → u ≡ false
@@ -140,10 +118,14 @@ module _ {v : Glass} {r : List ℕ} (k : ℕ) (w : Known v r) (h : k < v .panels
       let room = panel-room v k (w .suits) h in
       let some : isEmpty (takeOwed p .hand) ≡ false = cc (line-sent e i) in
       let owed = takeOwed p .owed in
-      let count : length owed ≡ g .bands = cc (length-taken p, panel-here, length-rectsAt (g .bands) r d) in
-      let one = three d (v .bands) (rectsBytes owed) (rectBytes n) (fourBytes c) r (length-rects owed ∙ ap (λ (x : ℕ). 8 * x) count) refl (omega (arith, w .passing .sized)) in
+      let count : length owed ≡ g .bands = well-take g p (well-formed g r (w .passing) .panels k h) .bands in
+      let long : length (rectsBytes owed) ≡ 8 * v .bands = cc (length-rects owed) in
+      let l : d + 8 * v .bands + 8 ≡ d + (8 * v .bands + 8) = omega arith in
+      let starts : d ≤ length r = omega (arith, w .passing .sized) in
+      let two = window-extend d (8 * v .bands) (rectsBytes owed) (rectBytes n) r long starts in
+      let three = window-extend d (8 * v .bands + 8) (rectsBytes owed ++ rectBytes n) (fourBytes c) r (omega (arith, length-append (rectsBytes owed) (rectBytes n))) starts in
       let put = put-panel g k (record { owed = owed; hand = n; sent = c }) st (w .suits .glass) (sized-decode g r (w .passing .sized)) h (count-decode g r) count in
-      cc (i .owed, panel-here, line-sent e i, encode-decode g r (w .passing), send-line p some)
+      cc (i .owed, panel-here, line-sent e i, encode-decode g r (w .passing), send-line p some, append-assoc (rectsBytes owed) (rectBytes n) (fourBytes c))
 
 -- the rectangle whose top line is sent, and the record
 pub record SentOn (v : Glass) (k : ℕ) (r : List ℕ) (q : Rect) (r′ : List ℕ) : Type 0 where
@@ -156,4 +138,4 @@ pub sent-proper : {v : Glass} {k : ℕ} {r : List ℕ} {q : Rect} {r′ : List �
 sent-proper {v} {k} {r} w h i e f =
     let g = geometry v in
     let p = panelOf g (decode g r) k in
-    rw (i .line) (to-send g p (well-formed g r (w .passing) .panels k h) (ap isEmpty (sym (i .line)) ∙ sym e ∙ f))
+    rw (i .line) (to-send g p (well-formed g r (w .passing) .panels k h) (cc (i .line)))
