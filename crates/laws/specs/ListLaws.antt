@@ -10,11 +10,6 @@ getD-map f [] i d h = absurd (omega arith)
 getD-map f (x ∷ l) zero d h = refl
 getD-map f (x ∷ l) (suc i) d h = getD-map f l i d (omega arith)
 
-pub getD-same : {A : Type 0} (n k : ℕ) (x : A) → getD (replicate n x) k x ≡ x
-getD-same zero k x = refl
-getD-same (suc n) zero x = refl
-getD-same (suc n) (suc k) x = getD-same n k x
-
 pub map-replicate : {A B : Type 0} (f : A → B) (n : ℕ) (a : A) → map f (replicate n a) ≡ replicate n (f a)
 map-replicate f zero a = refl
 map-replicate f (suc n) a = ap (λ m. f a ∷ m) (map-replicate f n a)

@@ -43,42 +43,30 @@ well-formed g r p = record {
 
 -- ---- a well formed state
 
--- two bytes of a number, before others
-pair : (n : ℕ) (l : List ℕ) → Bytes l → Bytes (n % 256 ∷ n / 256 % 256 ∷ l)
-pair n l b = bytes-cons (n % 256) _ (omega arith) (bytes-cons (n / 256 % 256) _ (omega arith) b)
+abbrev AllBytes : List ℕ → Type 0
+AllBytes [] = Unit {0}
+AllBytes (x ∷ l) = (x < 256) × AllBytes l
 
-rect : (q : Rect) (l : List ℕ) → Bytes l → Bytes (rectBytes q ++ l)
-rect q l b = pair (q .left) _ (pair (q .top) _ (pair (q .right) _ (pair (q .bottom) _ b)))
-
-word : (n : ℕ) (l : List ℕ) → Bytes l → Bytes (fourBytes n ++ l)
-word n l b = pair n _ (bytes-cons (n / 65536 % 256) _ (omega arith) (bytes-cons (n / 16777216 % 256) _ (omega arith) b))
+bytes-all : (l : List ℕ) → AllBytes l → Bytes l
+bytes-all [] a = bytes-nil
+bytes-all (x ∷ l) a = bytes-cons x l (a .0) (bytes-all l (a .1))
 
 rects-bytes : (qs : List Rect) → Bytes (rectsBytes qs)
 rects-bytes [] = bytes-nil
-rects-bytes (q ∷ qs) = rect q (rectsBytes qs) (rects-bytes qs)
+rects-bytes (q ∷ qs) = bytes-append (rectBytes q) (rectsBytes qs) (bytes-all (rectBytes q) (omega arith)) (rects-bytes qs)
 
 words-bytes : (ws : List ℕ) → Bytes (wordsBytes ws)
 words-bytes [] = bytes-nil
-words-bytes (w ∷ ws) = word w (wordsBytes ws) (words-bytes ws)
-
-head-bytes : (g : Geometry) (h : Head) → IsGlass g → headFits g h ≡ true → Bytes (bytesOfHead h)
-head-bytes g h k e =
-    let n = head-tells g h e in
-    pair (h .graphics) _ (pair (h .text) _
-    (bytes-cons (h .row) _ (omega (arith, n, k)) (bytes-cons (h .column) _ (omega (arith, n, k))
-    (bytes-cons (h .screen) _ (omega (arith, n)) (bytes-cons (h .print) _ (omega (arith, n))
-    (bytes-cons (h .cursor) _ (omega (arith, n)) (bytes-cons (h .version) _ (omega (arith, n)) (rect (h .dirty) [] bytes-nil))))))))
-
-pending-bytes : (p : Pending) → Bytes (bytesOfPending p)
-pending-bytes p =
-    bytes-append (rectsBytes (p .owed)) (rectBytes (p .hand) ++ fourBytes (p .sent)) (rects-bytes (p .owed))
-    (rect (p .hand) (fourBytes (p .sent)) (word (p .sent) [] bytes-nil))
+words-bytes (w ∷ ws) = bytes-append (fourBytes w) (wordsBytes ws) (bytes-all (fourBytes w) (omega arith)) (words-bytes ws)
 
 module _ (g : Geometry) (k : IsGlass g) (s : State) (f : WellFormed g s) where
   part-bytes : (p : RecordPart) → Bytes (partBytes g s p)
   unfolding partBytes
-  part-bytes head = head-bytes g (s .head) k (f .head)
-  part-bytes (panel i) = pending-bytes (panelOf g s i)
+  part-bytes head = let n = head-tells g (s .head) (f .head) in bytes-all (bytesOfHead (s .head)) (omega (arith, n, k))
+  part-bytes (panel i) =
+      let p = panelOf g s i in
+      let rest = rectBytes (p .hand) ++ fourBytes (p .sent) in
+      bytes-append (rectsBytes (p .owed)) rest (rects-bytes (p .owed)) (bytes-all rest (omega arith))
   part-bytes keys = words-bytes (s .keys)
   part-bytes flags = flags-bytes (s .flags)
 
