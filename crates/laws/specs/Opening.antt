@@ -1,8 +1,8 @@
 -- A record of zeros is the blank one, with an empty head and no keys; open writes head and keys into it and marks the whole screen.
-use mathlib.Core.Path.{_≡_, refl, sym, ap, _∙_}
+use mathlib.Core.Path.{_≡_, refl, sym, _∙_}
 use mathlib.Core.Bool.{true, false}
-use mathlib.Core.List.{List, [], _∷_, _++_}
-use Prim.Native.Nat.{ℕ, zero, suc, _+_, _*_, _<_, _≤_}
+use mathlib.Core.List.{List, [], _∷_}
+use Prim.Native.Nat.{ℕ, zero, suc, _+_, _*_}
 use native.Mathlib.Omega.{arith}
 use lib.ListN.{length, replicate, length-replicate, getD-replicate, replicate-append-replicate}
 use Rattle.model.specs.declared.Rect.{Rect}
@@ -12,12 +12,12 @@ use Rattle.model.specs.Geometry.{Geometry, height, cells}
 use Rattle.model.specs.Glass.{geometry, IsGlass, Suits}
 use Rattle.model.specs.Memory.{zeros, withWindow}
 use Rattle.model.specs.Rects.{none}
-use Rattle.model.specs.Bytes.{rectsBytes, rectBytes, wordsBytes, fourBytes, Words}
-use Rattle.model.specs.Record.{RecordPart, has, head, headOf, keysOf, panel, keys, flags, written, total, layout, size, pendingBytes, recordBytes, Pending, State, decode, encode, partBytes, bytesOfHead, bytesOfPending, panelOf, nothingPending}
+use Rattle.model.specs.Bytes.{rectsBytes, wordsBytes, Words}
+use Rattle.model.specs.Record.{RecordPart, has, head, headOf, keysOf, panel, keys, flags, written, total, layout, size, recordBytes, Pending, State, decode, encode, partBytes, bytesOfHead, nothingPending}
 use Rattle.model.specs.Marks.{whole, owing}
 use Rattle.model.specs.Open.{clearHead, clearFlags, openPending, openState}
 use Rattle.laws.specs.ListLaws.{map-replicate}
-use Rattle.laws.specs.Flags.{no-flags, length-no-flags}
+use Rattle.laws.specs.Flags.{no-flags}
 use Rattle.laws.specs.Layout.{AllShort}
 use Rattle.laws.specs.PartLists.{written-same}
 use Rattle.laws.specs.Record.{Sized, all-owed, panel-has, keys-back, put-head, put-keys}

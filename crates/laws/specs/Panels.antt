@@ -1,11 +1,10 @@
 -- Panel after panel on the bytes of a record: where each panel's part begins, and a mark joined to all of them.
-use mathlib.Core.Path.{_≡_, refl, sym, ap, _∙_}
-use mathlib.Core.Bool.{true, false}
+use mathlib.Core.Path.{_≡_, refl, ap, _∙_}
 use mathlib.Core.List.{List, [], _∷_, _++_, append-assoc, map}
 use Prim.Native.Nat.{ℕ, zero, suc, _+_, _-_, _*_, _<_, _≤_}
 use native.Mathlib.Omega.{arith}
 use native.Mathlib.Numerals.{add-one}
-use lib.ListN.{length, getD, set, drop, take-append-drop, length-set, length-append}
+use lib.ListN.{length, set, drop, take-append-drop, length-set, length-append}
 use lib.Seq.{drop-drop, drop-at, getD-set-other, getD-at, set-at, append-snoc}
 use borrow.Author.Tests.{ne-eqb}
 use Rattle.model.specs.declared.Rect.{Rect}
@@ -15,7 +14,7 @@ use Rattle.model.specs.Glass.{geometry, IsGlass, Suits}
 use Rattle.model.specs.Memory.{window}
 use Rattle.model.specs.Bytes.{rectsAt, rectBytes, rectsBytes, fourBytes}
 use Rattle.model.specs.Flags.{flagBytes}
-use Rattle.model.specs.Record.{headBytes, head, panel, flags, tag, samePart, offset, panelsFrom, size, at, partIn, recordBytes, pendingBytes, Pending, State, decode, encode, bytesOfPending, partBytes, panelOf, nothingPending, withPanel, withPanels}
+use Rattle.model.specs.Record.{headBytes, panel, flags, tag, samePart, offset, panelsFrom, size, at, partIn, recordBytes, pendingBytes, Pending, State, decode, encode, partBytes, panelOf, nothingPending, withPanel, withPanels}
 use Rattle.model.specs.Marks.{joinOwed, owing}
 use Rattle.laws.specs.Tests.{tests, by-test}
 use Rattle.laws.specs.Layout.{AllShort, rects-from, rects-back, length-rects, rects-short}

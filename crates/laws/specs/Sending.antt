@@ -12,7 +12,7 @@ use Rattle.model.specs.Geometry.{Geometry, width, height}
 use Rattle.model.specs.Glass.{geometry}
 use Rattle.model.specs.Memory.{withWindow}
 use Rattle.model.specs.Rects.{none, isEmpty}
-use Rattle.model.specs.Bytes.{rectAt, rectsAt, rectBytes, rectsBytes, four, fourBytes, Bytes}
+use Rattle.model.specs.Bytes.{rectAt, rectBytes, rectsBytes, four, fourBytes, Bytes}
 use Rattle.model.specs.Record.{panel, at, Pending, decode, encode, pendingOf, panelOf, nothingPending, withPanel, withPanels}
 use Rattle.model.specs.Sends.{firstOwed, restOwed, takeOwed, nextLine, lineSent, sendPending}
 use Rattle.laws.specs.Tests.{if-cases, by-test, either, clash}

@@ -1,14 +1,14 @@
 -- What is read from a window of bytes is read from them at its place: so code reads each part where it stands.
-use mathlib.Core.Path.{_≡_, refl, ap, _∙_}
-use mathlib.Core.List.{List, _∷_}
-use Prim.Native.Nat.{ℕ, zero, suc, _+_, _*_, _<_, _≤_}
+use mathlib.Core.Path.{_≡_}
+use mathlib.Core.List.{List}
+use Prim.Native.Nat.{ℕ, _+_, _*_}
 use native.Mathlib.Omega.{arith}
 use native.Mathlib.Nat.{add-zero, zero-add, add-assoc}
-use lib.ListN.{getD, drop}
+use lib.ListN.{drop}
 use lib.Seq.{getD-take, getD-drop}
 use Rattle.model.specs.Geometry.{Geometry}
 use Rattle.model.specs.Memory.{window}
-use Rattle.model.specs.Bytes.{two, four, rectAt, rectsAt, wordsAt}
+use Rattle.model.specs.Bytes.{wordsAt}
 use Rattle.model.specs.Record.{headBytes, head, panel, keys, offset, at, partIn, pendingBytes, headOf, pendingOf, keysOf}
 use Rattle.laws.specs.Layout.{Alike, two-alike, four-alike, rect-alike, rects-alike, words-alike}
 use Rattle.laws.specs.Record.{head-equal}
