@@ -55,45 +55,30 @@ joinOwed-marks w b lo m (r ∷ rs) x y hx hl hh i =
 
 -- ---- owedLines
 
-pub lines-none : (r : Rect) → r ≡ none → linesOf r ≡ 0
-lines-none r e = ap linesOf e
-
-pub lines-le : (w lo hi : ℕ) (r : Rect) → Fits w lo hi r → linesOf r ≤ hi - lo
-lines-le w lo hi r (inl e) = omega (arith, lines-none r e)
-lines-le w lo hi r (inr p) = omega (arith, p)
-
 pub owedLines-le : (w b lo : ℕ) (rs : List Rect) → BandsFit w b lo rs → owedLines rs ≤ length rs * b
 unfolding owedLines
 owedLines-le w b lo [] f = omega arith
-owedLines-le w b lo (r ∷ rs) f = omega (arith, lines-le w lo (lo + b) r (f .0), owedLines-le w b (lo + b) rs (f .1))
+owedLines-le w b lo (r ∷ rs) f = let l = owedLines-le w b (lo + b) rs (f .1) in either (f .0) (λ e. omega (arith, ap linesOf e)) (λ p. omega (arith, p))
 
 -- ---- the first taken
 
-pub length-restOwed : (rs : List Rect) → length (restOwed rs) ≡ length rs
-unfolding restOwed
-length-restOwed [] = refl
-length-restOwed (r ∷ rs) = if-cases (λ (l : List Rect). length l ≡ suc (length rs)) (isEmpty r) (λ e. ap suc (length-restOwed rs)) (λ e. refl)
+-- q is taken and qs is left: q is empty, or a rectangle of the screen no higher than a band, and its lines are taken from the sum
+record Taken (w b lo hi : ℕ) (rs : List Rect) (q : Rect) (qs : List Rect) : Type 0 where
+  count : length qs ≡ length rs
+  rest : BandsFit w b lo qs
+  first : Fits w 0 hi q
+  low : linesOf q ≤ b
+  sum : linesOf q + owedLines qs ≡ owedLines rs
 
-pub restOwed-fits : (w b lo : ℕ) (rs : List Rect) → BandsFit w b lo rs → BandsFit w b lo (restOwed rs)
-unfolding restOwed
-restOwed-fits w b lo [] f = tt
-restOwed-fits w b lo (r ∷ rs) f = if-cases (BandsFit w b lo) (isEmpty r) (λ e. (f .0, restOwed-fits w b (lo + b) rs (f .1))) (λ e. (inl refl, f .1))
-
--- what is taken: nothing, or a rectangle of the screen no higher than a band
-pub firstOwed-fits : (w b lo hi : ℕ) (rs : List Rect) → BandsFit w b lo rs → lo + length rs * b ≤ hi
-    → Fits w 0 hi (firstOwed rs) × (linesOf (firstOwed rs) ≤ b)
-unfolding firstOwed
-firstOwed-fits w b lo hi [] f l = (inl refl, omega arith)
-firstOwed-fits w b lo hi (r ∷ rs) f l =
-    if-cases (λ (q : Rect). Fits w 0 hi q × (linesOf q ≤ b)) (isEmpty r)
-    (λ e. firstOwed-fits w b (lo + b) hi rs (f .1) (omega arith))
-    (λ e. let p = is-some w lo (lo + b) r (f .0) e in (inr (omega (arith, p)), omega (arith, p)))
-
--- its lines are taken from the sum
-pub owedLines-split : (w b lo : ℕ) (rs : List Rect) → BandsFit w b lo rs → linesOf (firstOwed rs) + owedLines (restOwed rs) ≡ owedLines rs
-unfolding owedLines firstOwed restOwed
-owedLines-split w b lo [] f = refl
-owedLines-split w b lo (r ∷ rs) f = by-test (isEmpty r) (λ e. rw e (omega (arith, owedLines-split w b (lo + b) rs (f .1)))) (λ e. rw e (omega arith))
+taken : (w b lo hi : ℕ) (rs : List Rect) → BandsFit w b lo rs → lo + length rs * b ≤ hi → Taken w b lo hi rs (firstOwed rs) (restOwed rs)
+unfolding firstOwed restOwed owedLines
+taken w b lo hi [] f l = record { count = refl; rest = tt; first = inl refl; low = omega arith; sum = refl }
+taken w b lo hi (r ∷ rs) f l =
+    by-test (isEmpty r)
+    (λ e. let t = taken w b (lo + b) hi rs (f .1) (omega arith) in
+    rw e (record { count = ap suc (t .count); rest = (f .0, t .rest); first = t .first; low = t .low; sum = omega (arith, t .sum) }))
+    (λ e. let p = is-some w lo (lo + b) r (f .0) e in
+    rw e (record { count = refl; rest = (inl refl, f .1); first = inr (omega (arith, p)); low = omega (arith, p); sum = omega arith }))
 
 -- and no pixel is lost
 pub in-split : (rs : List Rect) (x y : ℕ) → InAny rs x y → In (firstOwed rs) x y ⊎ InAny (restOwed rs) x y
@@ -108,19 +93,15 @@ unfolding firstOwed owedLines
 first-none w b lo [] f t = refl
 first-none w b lo (r ∷ rs) f t =
     by-test (isEmpty r)
-    (λ e. omega (arith, lines-none r (empty-none r e), first-none w b (lo + b) rs (f .1) (rw e at t)))
+    (λ e. omega (arith, ap linesOf (empty-none r e), first-none w b (lo + b) rs (f .1) (rw e at t)))
     (λ e. clash (isEmpty r) (rw e at t) e)
 
 -- ---- an empty mark adds nothing
 
-cut-none : (w lo hi : ℕ) → cut w lo hi none ≡ none
-unfolding cut
-cut-none w lo hi = rw (le-ltb 0 (min 0 w) (omega arith))
-
 pub joinOwed-none : (w b lo : ℕ) (rs : List Rect) → joinOwed w b lo none rs ≡ rs
-unfolding joinOwed
+unfolding joinOwed cut
 joinOwed-none w b lo [] = refl
-joinOwed-none w b lo (r ∷ rs) = λ i. (ap (join r) (cut-none w lo (lo + b)) ∙ join-none r) i ∷ joinOwed-none w b (lo + b) rs i
+joinOwed-none w b lo (r ∷ rs) = rw (le-ltb 0 (min 0 w) (omega arith)) (cc (join-none r, joinOwed-none w b (lo + b) rs))
 
 -- ---- what STATE asks of a panel's owed and in hand, as facts
 
@@ -174,99 +155,70 @@ pub well-open : (g : Geometry) → WellPending g (openPending g)
 unfolding openPending
 well-open g = well-owing g (whole (g .stride) (height g)) (nothingPending g) (well-nothing g)
 
--- ---- a send: owed moves into hand
+-- ---- a send
 
-pub well-take : (g : Geometry) (p : Pending) → WellPending g p → WellPending g (takeOwed p)
-unfolding takeOwed
-well-take g p w =
-    if-cases (WellPending g) (isEmpty (p .hand))
-    (λ e. well-pending g (record { owed = restOwed (p .owed); hand = firstOwed (p .owed); sent = p .sent }) (length-restOwed (p .owed) ∙ w .bands)
-    (restOwed-fits (width g) (g .band) 0 (p .owed) (owed-fits g p w))
-    (firstOwed-fits (width g) (g .band) 0 (height g) (p .owed) (owed-fits g p w) (rw (w .bands) (omega arith)) .0) (w .counted))
-    (λ e. w)
+module _ (g : Geometry) (p : Pending) (w : WellPending g p) where
+  -- owed moves into hand: at most a band's lines are in hand then, and as many lines are left
+  moved : WellPending g (takeOwed p) × (linesOf (p .hand) ≤ g .band - 1 → linesOf (takeOwed p .hand) ≤ g .band) × (linesLeft (takeOwed p) ≡ linesLeft p)
+  unfolding takeOwed linesLeft
+  moved =
+      let t = taken (width g) (g .band) 0 (height g) (p .owed) (owed-fits g p w) (rw (w .bands) (omega arith)) in
+      if-cases (λ (q : Pending). WellPending g q × (linesOf (p .hand) ≤ g .band - 1 → linesOf (q .hand) ≤ g .band) × (linesLeft q ≡ linesLeft p)) (isEmpty (p .hand))
+      (λ e. (well-pending g (record { owed = restOwed (p .owed); hand = firstOwed (p .owed); sent = p .sent }) (t .count ∙ w .bands) (t .rest) (t .first) (w .counted),
+      λ l. t .low, omega (arith, ap linesOf (empty-none (p .hand) e), t .sum)))
+      (λ e. (w, λ l. omega arith, refl))
 
--- at most a band's lines are in hand then
-low-take : (g : Geometry) (p : Pending) → WellPending g p → linesOf (p .hand) ≤ g .band - 1 → linesOf (takeOwed p .hand) ≤ g .band
-unfolding takeOwed
-low-take g p f l =
-    if-cases (λ (q : Pending). linesOf (q .hand) ≤ g .band) (isEmpty (p .hand))
-    (λ e. firstOwed-fits (width g) (g .band) 0 (height g) (p .owed) (owed-fits g p f) (rw (f .bands) (omega arith)) .1)
-    (λ e. omega arith)
+  pub well-take : WellPending g (takeOwed p)
+  well-take = moved .0
 
-lines-take : (g : Geometry) (p : Pending) → WellPending g p → linesLeft (takeOwed p) ≡ linesLeft p
-unfolding takeOwed linesLeft
-lines-take g p f =
-    if-cases (λ (q : Pending). linesLeft q ≡ linesLeft p) (isEmpty (p .hand))
-    (λ e. omega (arith, lines-none (p .hand) (empty-none (p .hand) e), owedLines-split (width g) (g .band) 0 (p .owed) (owed-fits g p f)))
-    (λ e. refl)
+  -- what is in hand then is a rectangle with a line, where it is not empty
+  pub to-send : isEmpty (takeOwed p .hand) ≡ false → Proper (width g) 0 (height g) (takeOwed p .hand)
+  to-send e = is-some (width g) 0 (height g) (takeOwed p .hand) (hand-fits g (takeOwed p) well-take) e
 
--- ---- a send: the line
+  -- and loses its line
+  next : isEmpty (takeOwed p .hand) ≡ false → Fits (width g) 0 (height g) (nextLine (takeOwed p .hand)) × (linesOf (nextLine (takeOwed p .hand)) + 1 ≡ linesOf (takeOwed p .hand))
+  unfolding nextLine
+  next e =
+      let r = takeOwed p .hand in
+      let k = to-send e in
+      if-cases (λ (q : Rect). Fits (width g) 0 (height g) q × (linesOf q + 1 ≡ linesOf r)) (ltb (r .top + 1) (r .bottom))
+      (λ t. (inr (omega (arith, tests)), omega (arith, tests))) (λ t. (inl refl, omega (arith, tests)))
 
-next-fits : (w h : ℕ) (r : Rect) → Proper w 0 h r → Fits w 0 h (nextLine r)
-unfolding nextLine
-next-fits w h r p = if-cases (Fits w 0 h) (ltb (r .top + 1) (r .bottom)) (λ e. inr (omega (arith, tests))) (λ e. inl refl)
+  -- the count of lines stays in its four bytes
+  pub well-send : WellPending g (sendPending p)
+  unfolding sendPending lineSent
+  well-send =
+      if-cases (WellPending g) (isEmpty (takeOwed p .hand)) (λ e. w)
+      (λ e. well-pending g (lineSent (takeOwed p)) (well-take .bands) (owed-fits g (takeOwed p) well-take) (next e .0) (omega arith))
 
-lines-next : (w h : ℕ) (r : Rect) → Proper w 0 h r → linesOf (nextLine r) + 1 ≡ linesOf r
-unfolding nextLine
-lines-next w h r p =
-    if-cases (λ (q : Rect). linesOf q + 1 ≡ linesOf r) (ltb (r .top + 1) (r .bottom))
-    (λ e. omega (arith, tests)) (λ e. omega (arith, tests))
+  pub low-send : linesOf (p .hand) ≤ g .band - 1 → linesOf (sendPending p .hand) ≤ g .band - 1
+  unfolding sendPending lineSent
+  low-send l = if-cases (λ (q : Pending). linesOf (q .hand) ≤ g .band - 1) (isEmpty (takeOwed p .hand)) (λ e. l) (λ e. omega (arith, next e .1, moved .1 l))
 
--- ---- a send, whole
+  -- nothing to send: no line is left
+  idle-lines : isEmpty (takeOwed p .hand) ≡ true → linesLeft p ≡ 0
+  unfolding takeOwed linesLeft
+  idle-lines t =
+      by-test (isEmpty (p .hand))
+      (λ e. omega (arith, ap linesOf (empty-none (p .hand) e), first-none (width g) (g .band) 0 (p .owed) (owed-fits g p w) (rw e at t)))
+      (λ e. clash (isEmpty (p .hand)) (rw e at t) e)
 
--- what is in hand after owed has moved there is a rectangle with a line, where it is not empty
-pub to-send : (g : Geometry) (p : Pending) → WellPending g p → isEmpty (takeOwed p .hand) ≡ false → Proper (width g) 0 (height g) (takeOwed p .hand)
-to-send g p f e = is-some (width g) 0 (height g) (takeOwed p .hand) (hand-fits g (takeOwed p) (well-take g p f)) e
+  -- a send lowers the lines that are left by one, as long as there are any
+  pub lines-send : linesLeft (sendPending p) ≡ linesLeft p - 1
+  unfolding sendPending lineSent linesLeft
+  lines-send =
+      if-cases (λ (q : Pending). linesLeft q ≡ linesLeft p - 1) (isEmpty (takeOwed p .hand))
+      (λ e. omega (arith, idle-lines e)) (λ e. omega (arith, next e .1, moved .2))
 
--- the count of lines stays in its four bytes
-pub well-send : (g : Geometry) (p : Pending) → WellPending g p → WellPending g (sendPending p)
-unfolding sendPending lineSent
-well-send g p w =
-    let t = well-take g p w in
-    if-cases (WellPending g) (isEmpty (takeOwed p .hand)) (λ e. w)
-    (λ e. well-pending g (lineSent (takeOwed p)) (t .bands) (owed-fits g (takeOwed p) t) (next-fits (width g) (height g) (takeOwed p .hand) (to-send g p w e)) (omega arith))
+  -- the answer: four zeros exactly where no line is left
+  pub idle-iff : (sendNumbers p ≡ 0 ∷ 0 ∷ 0 ∷ 0 ∷ []) ↔ (linesLeft p ≡ 0)
+  unfolding sendNumbers lineNumbers linesLeft
+  idle-iff =
+      by-test (isEmpty (takeOwed p .hand))
+      (λ e. rw e (λ x. idle-lines e, λ z. refl))
+      (λ e. rw e (λ x. cc, λ z. absurd (omega (arith, to-send e, moved .2))))
 
-pub low-send : (g : Geometry) (p : Pending) → WellPending g p → linesOf (p .hand) ≤ g .band - 1 → linesOf (sendPending p .hand) ≤ g .band - 1
-unfolding sendPending lineSent
-low-send g p f l =
-    if-cases (λ (q : Pending). linesOf (q .hand) ≤ g .band - 1) (isEmpty (takeOwed p .hand)) (λ e. l)
-    (λ e. omega (arith, lines-next (width g) (height g) (takeOwed p .hand) (to-send g p f e), low-take g p f l))
-
--- nothing to send: no line is left
-idle-lines : (g : Geometry) (p : Pending) → WellPending g p → isEmpty (takeOwed p .hand) ≡ true → linesLeft p ≡ 0
-unfolding takeOwed linesLeft
-idle-lines g p f t =
-    by-test (isEmpty (p .hand))
-    (λ e. omega (arith, lines-none (p .hand) (empty-none (p .hand) e), first-none (width g) (g .band) 0 (p .owed) (owed-fits g p f) (rw e at t)))
-    (λ e. clash (isEmpty (p .hand)) (rw e at t) e)
-
--- a send lowers the lines that are left by one, as long as there are any
-pub lines-send : (g : Geometry) (p : Pending) → WellPending g p → linesLeft (sendPending p) ≡ linesLeft p - 1
-unfolding sendPending lineSent linesLeft
-lines-send g p f =
-    if-cases (λ (q : Pending). linesLeft q ≡ linesLeft p - 1) (isEmpty (takeOwed p .hand))
-    (λ e. omega (arith, idle-lines g p f e))
-    (λ e. omega (arith, lines-next (width g) (height g) (takeOwed p .hand) (to-send g p f e), lines-take g p f))
-
--- ---- the answer: four zeros exactly where no line is left
-
-idle-numbers : (p : Pending) → (sendNumbers p ≡ 0 ∷ 0 ∷ 0 ∷ 0 ∷ []) ↔ (isEmpty (takeOwed p .hand) ≡ true)
-unfolding sendNumbers lineNumbers
-idle-numbers p = go (isEmpty (takeOwed p .hand))
-  where
-    go : (t : Bool) → (cond t (0 ∷ 0 ∷ 0 ∷ 0 ∷ []) (lineNumbers (takeOwed p .hand)) ≡ 0 ∷ 0 ∷ 0 ∷ 0 ∷ []) ↔ (t ≡ true)
-    go true = (λ e. refl, λ e. refl)
-    go false = (λ e. cc, λ e. cc)
-
-lines-idle : (g : Geometry) (p : Pending) → WellPending g p → linesLeft p ≡ 0 → isEmpty (takeOwed p .hand) ≡ true
-unfolding linesLeft
-lines-idle g p f z = by-test (isEmpty (takeOwed p .hand)) (λ e. e) (λ e. absurd (omega (arith, to-send g p f e, lines-take g p f)))
-
-pub idle-iff : (g : Geometry) (p : Pending) → WellPending g p → (sendNumbers p ≡ 0 ∷ 0 ∷ 0 ∷ 0 ∷ []) ↔ (linesLeft p ≡ 0)
-idle-iff g p f = (λ e. idle-lines g p f (idle-numbers p .0 e), λ z. idle-numbers p .1 (lines-idle g p f z))
-
--- ---- how many lines are left at most
-
-pub lines-bound : (g : Geometry) (p : Pending) → WellPending g p → linesOf (p .hand) ≤ g .band - 1 → linesLeft p ≤ (g .band - 1) + height g
-unfolding linesLeft
-lines-bound g p f l = omega (arith, owedLines-le (width g) (g .band) 0 (p .owed) (owed-fits g p f), ap (λ (n : ℕ). n * g .band) (f .bands))
+  -- how many lines are left at most
+  pub lines-bound : linesOf (p .hand) ≤ g .band - 1 → linesLeft p ≤ (g .band - 1) + height g
+  unfolding linesLeft
+  lines-bound l = omega (arith, owedLines-le (width g) (g .band) 0 (p .owed) (owed-fits g p w), ap (λ (n : ℕ). n * g .band) (w .bands))
