@@ -4,11 +4,12 @@ use mathlib.Core.List.{List, [], _∷_, _++_, append-assoc, append-nil}
 use Prim.Native.Nat.{ℕ, zero, suc, _+_, _*_, _/_, _%_, _<_, _≤_}
 use native.Mathlib.Nat.{add-zero, zero-add, add-assoc, div-div-eq-div-mul}
 use native.Mathlib.Omega.{arith}
-use lib.ListN.{length, getD, take, drop, length-drop, drop-of-length-le}
+use lib.ListN.{length, getD, take, drop, length-take, length-drop, drop-of-length-le, List·getD-eq-default}
 use native.Mathlib.Numerals.{add-one}
-use lib.Seq.{drop-cons, drop-drop, getD-drop}
+use lib.Seq.{drop-cons, drop-drop, getD-take, getD-drop}
 use Rattle.model.specs.declared.Rect.{Rect}
 use Rattle.model.specs.Bytes.{two, four, rectAt, rectsAt, wordsAt, fourBytes, rectBytes, rectsBytes, wordsBytes, Bytes, Words}
+use Rattle.laws.specs.Tests.{by-lt}
 use Rattle.laws.specs.Rects.{rect-equal}
 
 -- ---- bytes
@@ -33,10 +34,8 @@ bytes-append (x ∷ a) b p q = bytes-cons x (a ++ b) (p 0) (bytes-append a b (λ
 
 pub bytes-take : (n : ℕ) (l : List ℕ) → Bytes l → Bytes (take n l)
 unfolding Bytes
-bytes-take zero l b i = omega arith
-bytes-take (suc n) [] b i = b i
-bytes-take (suc n) (x ∷ l) b zero = b 0
-bytes-take (suc n) (x ∷ l) b (suc i) = bytes-take n l (λ j. b (suc j)) i
+bytes-take n l b i =
+    by-lt i n (λ h. rw (getD-take n l i 0 h) (b i)) (λ h. rw (List·getD-eq-default (take n l) 0 {n = i} (simp length-take (omega arith))) (omega arith))
 
 -- ---- where the same bytes stand, the same is read
 

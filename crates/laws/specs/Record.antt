@@ -99,13 +99,13 @@ pending-again g c b l =
     whole (pendingBytes g) (bytesOfPending (pendingOf g c 0)) c l
     (cc (append-assoc _ _ _, four-again c (0 + n + 8) b (omega arith), rect-again c (0 + n) b (omega arith), rects-again (g .bands) c 0 b (omega arith)))
 
-pub getD-listing : {A : Type 0} (f : ℕ → A) (k n i : ℕ) (d : A) → i < n → getD (listing f k n) i d ≡ f (k + i)
+getD-listing : {A : Type 0} (f : ℕ → A) (k n i : ℕ) (d : A) → i < n → getD (listing f k n) i d ≡ f (k + i)
 unfolding listing
 getD-listing f k zero i d h = absurd (omega arith)
 getD-listing f k (suc n) zero d h = ap f (sym (add-zero k))
 getD-listing f k (suc n) (suc i) d h = let e : suc k + i ≡ k + suc i = omega arith in getD-listing f (suc k) n i d (omega arith) ∙ ap f e
 
-pub length-listing : {A : Type 0} (f : ℕ → A) (k n : ℕ) → length (listing f k n) ≡ n
+length-listing : {A : Type 0} (f : ℕ → A) (k n : ℕ) → length (listing f k n) ≡ n
 unfolding listing
 length-listing f k zero = refl
 length-listing f k (suc n) = ap suc (length-listing f (suc k) n)
@@ -129,7 +129,7 @@ module _ (g : Geometry) (r : List ℕ) (k : Passing g r) where
   part-passes p h = all-at (λ q. partFits g q (partIn g q r)) (layout g) p (k .passes) h
 
   -- what is read of a part is written as its bytes
-  pub part-again : (p : RecordPart) → has p (layout g) ≡ true → partBytes g (decode g r) p ≡ partIn g p r
+  part-again : (p : RecordPart) → has p (layout g) ≡ true → partBytes g (decode g r) p ≡ partIn g p r
   unfolding partBytes decode partFits Bytes
   part-again head h = let b = bytes-part g head r (k .bytes) in all-again (size g head) _ (partIn g head r) (length-part g head r h (k .sized)) (simp (low, high, b))
   part-again (panel i) h =
@@ -151,15 +151,13 @@ pub record Sized (g : Geometry) (s : State) : Type 0 where
   pub keys : length (s .keys) ≡ 8
   pub flags : length (s .flags) ≡ cells g
 
-pub length-pending : (g : Geometry) (p : Pending) → length (p .owed) ≡ g .bands → length (bytesOfPending p) ≡ pendingBytes g
-length-pending g p e =
-    omega (arith, length-append (rectsBytes (p .owed)) (rectBytes (p .hand) ++ fourBytes (p .sent)), length-rects (p .owed), ap (λ (n : ℕ). 8 * n) e)
-
 pub sizes : (g : Geometry) (s : State) → Sized g s → (p : RecordPart) → length (partBytes g s p) ≡ size g p
 unfolding partBytes
 sizes g s z head = refl
-sizes g s z (panel k) = length-pending g (panelOf g s k) (z .owed k)
-sizes g s z keys = length-words (s .keys) ∙ ap (λ (n : ℕ). 4 * n) (z .keys)
+sizes g s z (panel k) =
+    let p = panelOf g s k in
+    omega (arith, length-append (rectsBytes (p .owed)) (rectBytes (p .hand) ++ fourBytes (p .sent)), length-rects (p .owed), z .owed k)
+sizes g s z keys = cc (length-words (s .keys), z .keys)
 sizes g s z flags = length-flags (s .flags) ∙ z .flags
 
 pub count-decode : (g : Geometry) (r : List ℕ) → length (decode g r .panels) ≡ g .panels
@@ -241,11 +239,6 @@ pending-back g p k f =
     let sent : four c (n + 8) ≡ p .sent = cc (four-from c (n + 8), four-back (p .sent) (f .counted)) in
     λ i. record { owed = owed i; hand = hand i; sent = sent i }
 
-listing-is : {A : Type 0} (f : ℕ → A) (n : ℕ) (l : List A) (d : A) → length l ≡ n → ((i : ℕ) → i < n → f i ≡ getD l i d) → listing f 0 n ≡ l
-listing-is f n l d e h =
-    ext-getD d (listing f 0 n) l (length-listing f 0 n ∙ sym e)
-    (λ i b. let c : i < n = omega (arith, length-listing f 0 n) in getD-listing f 0 n i d c ∙ ap f (zero-add i) ∙ h i c)
-
 pub keys-back : (g : Geometry) (s : State) → Sized g s → Words (s .keys) → decode g (encode g s) .keys ≡ s .keys
 unfolding decode partBytes
 keys-back g s z k = cc (part-encode g s z keys (has-keys g), z .keys, append-nil (wordsBytes (s .keys)), words-back (s .keys) [] k)
@@ -254,20 +247,29 @@ pub decode-encode : (g : Geometry) (s : State) → IsGlass g → WellFormed g s 
 unfolding decode partBytes
 decode-encode g s k f =
     let z = well-sized g s f in
+    let r = encode g s in
     let b = part-encode g s z in
+    let panels = ext-getD (nothingPending g) (decode g r .panels) (s .panels) (count-decode g r ∙ sym (f .count))
+        (λ j o. let h : j < g .panels = omega (arith, count-decode g r) in cc (panel-decoded g r j h, b (panel j) (has-panel g j h), pending-back g (panelOf g s j) k (f .panels j h))) in
     λ i. record {
       head = (ap headOf (b head (has-head g)) ∙ head-back g (s .head) (f .head)) i;
-      panels = listing-is (λ j. pendingOf g (partIn g (panel j) (encode g s)) 0) (g .panels) (s .panels) (nothingPending g) (f .count)
-          (λ j h. ap (λ (c : List ℕ). pendingOf g c 0) (b (panel j) (has-panel g j h)) ∙ pending-back g (panelOf g s j) k (f .panels j h)) i;
+      panels = panels i;
       keys = keys-back g s z (f .keys) i;
       flags = (ap (flagsIn (cells g)) (b flags (has-flags g)) ∙ flags-written (cells g) (s .flags) (f .flags)) i;
     }
+
+pub sized-panel : (g : Geometry) (k : ℕ) (p : Pending) (s : State) → Sized g s → k < length (s .panels) → length (p .owed) ≡ g .bands → Sized g (withPanel k p s)
+sized-panel g k p s z h n = record {
+  owed = λ i. by-eq i k (λ e. rw (e, getD-set-same (s .panels) k p (nothingPending g) h) n) (λ e. rw (getD-set-other (s .panels) k i p (nothingPending g) e) (z .owed i));
+  keys = z .keys;
+  flags = z .flags;
+}
 
 -- ---- a store of one part: the bytes of the state with that part changed, and no other
 
 module _ (g : Geometry) (q : RecordPart) (s t : State) where
   -- the bytes of the part q of t stored in the bytes of s, where the other parts of the two states are the same
-  pub put-part : IsGlass g → has q (layout g) ≡ true → Sized g s → length (partBytes g t q) ≡ size g q → (samePart head q ≡ false → s .head ≡ t .head)
+  put-part : IsGlass g → has q (layout g) ≡ true → Sized g s → length (partBytes g t q) ≡ size g q → (samePart head q ≡ false → s .head ≡ t .head)
       → ((k : ℕ) → samePart (panel k) q ≡ false → panelOf g s k ≡ panelOf g t k) → (samePart keys q ≡ false → s .keys ≡ t .keys)
       → (samePart flags q ≡ false → s .flags ≡ t .flags) → withWindow (at g q) (partBytes g t q) (encode g s) ≡ encode g t
   unfolding encode partBytes
@@ -286,7 +288,7 @@ put-head g h s l z = put-part g head s (withHead h s) l (has-head g) z refl (λ 
 pub put-keys : (g : Geometry) (ks : List ℕ) (s : State) → IsGlass g → Sized g s → length ks ≡ 8 → withWindow (at g keys) (wordsBytes ks) (encode g s) ≡ encode g (withKeyWords ks s)
 unfolding partBytes
 put-keys g ks s l z n =
-    put-part g keys s (withKeyWords ks s) l (has-keys g) z (length-words ks ∙ ap (λ (k : ℕ). 4 * k) n) (λ e. refl) (λ k e. refl) (λ e. clash true refl e) (λ e. refl)
+    put-part g keys s (withKeyWords ks s) l (has-keys g) z (cc (length-words ks)) (λ e. refl) (λ k e. refl) (λ e. clash true refl e) (λ e. refl)
 
 pub put-flags : (g : Geometry) (fs : List Bool) (s : State) → IsGlass g → Sized g s → length fs ≡ cells g → withWindow (at g flags) (bytesOfFlags fs) (encode g s) ≡ encode g (withFlags fs s)
 unfolding partBytes
@@ -296,17 +298,7 @@ pub put-panel : (g : Geometry) (k : ℕ) (p : Pending) (s : State) → IsGlass g
     → withWindow (at g (panel k)) (bytesOfPending p) (encode g s) ≡ encode g (withPanel k p s)
 unfolding partBytes
 put-panel g k p s l z h c n =
-    let here : panelOf g (withPanel k p s) k ≡ p = getD-set-same (s .panels) k p (nothingPending g) (omega arith) in
-    ap (λ (q : Pending). withWindow (at g (panel k)) (bytesOfPending q) (encode g s)) (sym here)
-    ∙ put-part g (panel k) s (withPanel k p s) l (has-panel g k h) z (length-pending g (panelOf g (withPanel k p s) k) (rw here n)) (λ e. refl)
-    (λ i e. sym (getD-set-other (s .panels) k i p (nothingPending g) (λ q. omega (arith, tests)))) (λ e. refl) (λ e. refl)
-
-pub sized-panel : (g : Geometry) (k : ℕ) (p : Pending) (s : State) → Sized g s → k < length (s .panels) → length (p .owed) ≡ g .bands → Sized g (withPanel k p s)
-sized-panel g k p s z h n = record {
-  owed = λ i.
-      by-eq i k
-      (λ e. rw (e, getD-set-same (s .panels) k p (nothingPending g) h) n)
-      (λ e. rw (getD-set-other (s .panels) k i p (nothingPending g) e) (z .owed i));
-  keys = z .keys;
-  flags = z .flags;
-}
+    let t = withPanel k p s in
+    let here : panelOf g t k ≡ p = getD-set-same (s .panels) k p (nothingPending g) (omega arith) in
+    cc (put-part g (panel k) s t l (has-panel g k h) z (sizes g t (sized-panel g k p s z (omega arith) n) (panel k)) (λ e. refl)
+    (λ i e. sym (getD-set-other (s .panels) k i p (nothingPending g) (λ q. omega (arith, tests)))) (λ e. refl) (λ e. refl))
