@@ -88,12 +88,12 @@ in-split (r ∷ rs) x y (inl i) = rw (in-not-none r x y i) (inl i)
 in-split (r ∷ rs) x y (inr i) = by-test (isEmpty r) (λ e. rw e (either (in-split rs x y i) inl (λ k. inr (inr k)))) (λ e. rw e (inr (inr i)))
 
 -- nothing is taken only where nothing is owed
-pub first-none : (w b lo : ℕ) (rs : List Rect) → BandsFit w b lo rs → isEmpty (firstOwed rs) ≡ true → owedLines rs ≡ 0
-unfolding firstOwed owedLines
-first-none w b lo [] f t = refl
-first-none w b lo (r ∷ rs) f t =
+first-none : (rs : List Rect) → isEmpty (firstOwed rs) ≡ true → (owedLines rs ≡ 0) × (restOwed rs ≡ rs)
+unfolding firstOwed restOwed owedLines
+first-none [] t = (refl, refl)
+first-none (r ∷ rs) t =
     by-test (isEmpty r)
-    (λ e. omega (arith, ap linesOf (empty-none r e), first-none w b (lo + b) rs (f .1) (rw e at t)))
+    (λ e. let k = first-none rs (rw e at t) in rw e (omega (arith, k .0, ap linesOf (empty-none r e)), cc (k .1)))
     (λ e. clash (isEmpty r) (rw e at t) e)
 
 -- ---- an empty mark adds nothing
@@ -195,12 +195,12 @@ module _ (g : Geometry) (p : Pending) (w : WellPending g p) where
   unfolding sendPending lineSent
   low-send l = if-cases (λ (q : Pending). linesOf (q .hand) ≤ g .band - 1) (isEmpty (takeOwed p .hand)) (λ e. l) (λ e. omega (arith, next e .1, moved .1 l))
 
-  -- nothing to send: no line is left
-  idle-lines : isEmpty (takeOwed p .hand) ≡ true → linesLeft p ≡ 0
+  -- nothing to send: no line is left, and what is owed stays
+  pub none-left : isEmpty (takeOwed p .hand) ≡ true → (linesLeft p ≡ 0) × (takeOwed p .owed ≡ p .owed)
   unfolding takeOwed linesLeft
-  idle-lines t =
+  none-left t =
       by-test (isEmpty (p .hand))
-      (λ e. omega (arith, ap linesOf (empty-none (p .hand) e), first-none (width g) (g .band) 0 (p .owed) (owed-fits g p w) (rw e at t)))
+      (λ e. let k = first-none (p .owed) (rw e at t) in rw e (omega (arith, k .0, ap linesOf (empty-none (p .hand) e)), k .1))
       (λ e. clash (isEmpty (p .hand)) (rw e at t) e)
 
   -- a send lowers the lines that are left by one, as long as there are any
@@ -208,14 +208,14 @@ module _ (g : Geometry) (p : Pending) (w : WellPending g p) where
   unfolding sendPending lineSent linesLeft
   lines-send =
       if-cases (λ (q : Pending). linesLeft q ≡ linesLeft p - 1) (isEmpty (takeOwed p .hand))
-      (λ e. omega (arith, idle-lines e)) (λ e. omega (arith, next e .1, moved .2))
+      (λ e. omega (arith, none-left e .0)) (λ e. omega (arith, next e .1, moved .2))
 
   -- the answer: four zeros exactly where no line is left
   pub idle-iff : (sendNumbers p ≡ 0 ∷ 0 ∷ 0 ∷ 0 ∷ []) ↔ (linesLeft p ≡ 0)
   unfolding sendNumbers lineNumbers linesLeft
   idle-iff =
       by-test (isEmpty (takeOwed p .hand))
-      (λ e. rw e (λ x. idle-lines e, λ z. refl))
+      (λ e. rw e (λ x. none-left e .0, λ z. refl))
       (λ e. rw e (λ x. cc, λ z. absurd (omega (arith, to-send e, moved .2))))
 
   -- how many lines are left at most

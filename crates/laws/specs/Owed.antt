@@ -32,7 +32,7 @@ pub owed-again : (n a : ℕ) (r : List ℕ) → Bytes r → a + 8 * n ≤ length
 unfolding withWindow
 owed-again n a r b h = cc (length-read n r a, rects-again n r a b h, take-append-drop a r)
 
--- the last of them
+-- a window whose last bytes stand there
 pub window-tail : (a n k : ℕ) (s t r : List ℕ) → length s ≡ n → length t ≡ k → t ++ drop (a + n + k) r ≡ drop (a + n) r → withWindow a (s ++ t) r ≡ withWindow a s r
 unfolding withWindow
 window-tail a n k s t r e f h =
@@ -69,7 +69,7 @@ unfolding joined joinOwed
 join-goes {left = zero} k p e f g h = absurd (omega arith)
 join-goes {w} {band} {m} {r = r} {a} {lo} {left = suc n} {j = j} {r′ = r′} k p e f g h =
     let z : suc n - 1 ≡ n = omega arith in
-    let s : length r′ ≡ length r = ap length h ∙ length-withWindow a (rectBytes j) r (omega (arith, k .room)) in
+    let s : length r′ ≡ length r = cc (length-withWindow a (rectBytes j) r (omega (arith, k .room))) in
     let t = window-extend a 8 (rectBytes j) (rectsBytes (joinOwed w band (lo + band) m (rectsAt n r (a + 8)))) r refl (omega (arith, k .room)) in
     record { room = omega (arith, k .room); lines = rw z (omega (arith, k .lines)); sized = s ∙ k .sized; same = cc (rects-past n a j r (omega (arith, k .room)), k .same) }
 
@@ -107,7 +107,6 @@ unfolding rested restOwed firstOwed Bytes
 take-goes {left = zero} k p b e f g = absurd (omega arith)
 take-goes {r = r} {a} {left = suc n} k p b e f g =
     let z : suc n - 1 ≡ n = omega arith in
-    let y : isEmpty (rectAt r a) ≡ true = cc in
     let again = owed-again 1 a r (rw (k .kept) b) (rw (k .kept) (omega (arith, k .room))) in
     let t = window-extend a 8 (rectBytes (rectAt r a)) (rectsBytes (restOwed (rectsAt n r (a + 8)))) r refl (rw (k .kept) (omega (arith, k .room))) in
     record { kept = k .kept; sized = k .sized; room = omega (arith, k .room); first = cc (k .first); rest = cc (k .rest) }
@@ -118,7 +117,6 @@ pub take-finds : {bands at : ℕ} {r₀ r : List ℕ} {a left : ℕ} {q z : Rect
 unfolding rested restOwed firstOwed Bytes
 take-finds {left = zero} k p b e f g h i = absurd (omega arith)
 take-finds {r = r} {a} {left = suc n} k p b e f g h i =
-    let y : isEmpty (rectAt r a) ≡ false = cc in
     let t = window-tail a 8 (8 * n) (rectBytes none) (rectsBytes (rectsAt n r (a + 8))) r refl (length-read n r (a + 8)) (rects-again n r (a + 8) (rw (k .kept) b) (rw (k .kept) (omega (arith, k .room)))) in
     record { first = cc (k .first); rest = cc (k .rest) }
 

@@ -19,7 +19,7 @@ use Rattle.laws.specs.Tests.{if-cases, by-test, either, clash}
 use Rattle.laws.specs.Rects.{Proper}
 use Rattle.laws.specs.Memory.{window-extend}
 use Rattle.laws.specs.Layout.{length-rects}
-use Rattle.laws.specs.Bands.{hand-fits, well-take, to-send}
+use Rattle.laws.specs.Bands.{hand-fits, well-take, to-send, none-left}
 use Rattle.laws.specs.Record.{encode-decode, panel-decoded, put-panel, sized-decode, count-decode}
 use Rattle.laws.specs.Windows.{pending-part}
 use Rattle.laws.specs.States.{well-formed}
@@ -46,20 +46,6 @@ unfolding takeOwed rested
 hand-taken g a r e f k w =
     let y : isEmpty (rectAt r (a + 8 * g .bands)) ≡ true = cc in
     record { hand = rw y (w .first); owed = rw y (w .rest) }
-
--- ---- nothing to send
-
-rest-none : (rs : List Rect) → isEmpty (firstOwed rs) ≡ true → restOwed rs ≡ rs
-unfolding firstOwed restOwed
-rest-none [] e = refl
-rest-none (r ∷ rs) e =
-    by-test (isEmpty r)
-    (λ t. rw t (ap (λ (l : List Rect). r ∷ l) (rest-none rs (rw t at e))))
-    (λ t. rw t (clash (isEmpty r) (rw t at e) t))
-
-take-none : (p : Pending) → isEmpty (takeOwed p .hand) ≡ true → takeOwed p .owed ≡ p .owed
-unfolding takeOwed
-take-none p e = by-test (isEmpty (p .hand)) (λ t. rw t (rest-none (p .owed) (rw t at e))) (λ t. rw t)
 
 -- ---- a line sent
 
@@ -103,7 +89,7 @@ module _ {v : Glass} {r : List ℕ} (k : ℕ) (w : Known v r) (h : k < v .panels
       let same = owed-again (g .bands) c r (w .passing .bytes) (omega (arith, w .passing .sized)) in
       let still : sendPending p ≡ p = rw none in
       let kept = ap (λ (l : List Pending). encode g (withPanels l s)) (set-getD (s .panels) k (nothingPending g)) in
-      cc (i .owed, panel-here, take-none p none, encode-decode g r (w .passing))
+      cc (i .owed, panel-here, none-left g p (well-formed g r (w .passing) .panels k h) none .1, encode-decode g r (w .passing))
 
   -- a line sent
   pub sends : {a : ℕ} {q n : Rect} {c : ℕ} {r′ s t : List ℕ} {u : Bool} → a ≡ at (geometry v) (panel k) → InHand (geometry v) a r q r′ → u ≡ isEmpty q → u ≡ false
