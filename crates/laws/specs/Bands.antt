@@ -2,7 +2,7 @@
 -- lowers the lines that are left.
 use mathlib.Core.Path.{_≡_, refl, ap, _∙_}
 use mathlib.Core.Logic.{_⊎_, inl, inr, _↔_}
-use mathlib.Core.Bool.{true, Bool, false, cond, _&&_}
+use mathlib.Core.Bool.{true, false, _&&_}
 use mathlib.Core.List.{List, [], _∷_}
 use Prim.Native.Nat.{ℕ, suc, _+_, _-_, _*_, _≤_, _<_, min, zero}
 use native.Mathlib.Omega.{arith}
@@ -10,7 +10,7 @@ use lib.ListN.{length, replicate, length-replicate}
 use lib.Dec.{ltb}
 use borrow.Author.Tests.{le-ltb}
 use Rattle.model.specs.declared.Rect.{Rect}
-use Rattle.model.specs.Rects.{none, In, isEmpty, join, cut, linesOf, fits}
+use Rattle.model.specs.Rects.{none, In, isEmpty, cut, linesOf, fits}
 use Rattle.model.specs.Marks.{joinOwed, whole, owing}
 use Rattle.model.specs.Sends.{firstOwed, restOwed, takeOwed, nextLine, lineSent, sendPending, lineNumbers, sendNumbers}
 use Rattle.model.specs.Lists.{owedLines, InAny, linesLeft}

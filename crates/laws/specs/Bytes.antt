@@ -97,12 +97,6 @@ pub bytes-put : (st : ℕ) (s : List ℕ) (x y : ℕ) (v : Bool) → Bytes s →
 unfolding put Bytes
 bytes-put st s x y v hs = bytes-set s (place st x y) _ hs (withBit-lt _ (7 - x % 8) v (hs (place st x y)) (omega arith))
 
--- bit k of byte i is a pixel
-pixel-of : (st i k : ℕ) → 0 < st → k < 8 → (x : ℕ) × (y : ℕ) × (x < 8 * st) × (place st x y ≡ i) × (7 - x % 8 ≡ k)
-pixel-of st i k hst hk =
-    let l : i % st < st = mod-lt i hst in
-    (8 * (i % st) + (7 - k), i / st, omega arith, omega (arith, div-add-mod i st), omega arith)
-
 -- two screens with equal pixels are equal
 pub screens-equal : (st : ℕ) (s t : List ℕ) → 0 < st → length s ≡ length t → Bytes s → Bytes t
     → ((x y : ℕ) → x < 8 * st → bit st s x y ≡ bit st t x y) → s ≡ t
@@ -110,4 +104,8 @@ unfolding bit Bytes
 screens-equal st s t hst hl hs ht e =
     ext-getD 0 s t hl
     (λ i h. byte-equal (getD s i 0) (getD t i 0) (hs i) (ht i)
-    (λ k hk. let p = pixel-of st i k hst hk in rw (p .3, p .4) at (e (p .0) (p .1) (p .2))))
+    (λ k hk. let l : i % st < st = mod-lt i hst in
+    let x = 8 * (i % st) + (7 - k) in
+    let here : place st x (i / st) ≡ i = omega (arith, div-add-mod i st) in
+    let bit : 7 - x % 8 ≡ k = omega arith in
+    rw (here, bit) at (e x (i / st) (omega arith))))

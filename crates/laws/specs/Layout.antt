@@ -160,12 +160,6 @@ abbrev pub AllShort : List Rect → Type 0
 AllShort [] = Unit {0}
 AllShort (q ∷ qs) = Short q × AllShort qs
 
--- what is read from bytes is short
-pub rects-short : (n : ℕ) (r : List ℕ) (i : ℕ) → Bytes r → AllShort (rectsAt n r i)
-unfolding Bytes
-rects-short zero r i b = tt
-rects-short (suc n) r i b = (omega (arith, b i, b (i + 1), b (i + 2), b (i + 2 + 1), b (i + 4), b (i + 4 + 1), b (i + 6), b (i + 6 + 1)), rects-short n r (i + 8) b)
-
 pub rects-back : (qs : List Rect) (l : List ℕ) → AllShort qs → rectsAt (length qs) (rectsBytes qs ++ l) 0 ≡ qs
 rects-back [] l b = refl
 rects-back (q ∷ qs) l b =

@@ -18,7 +18,7 @@ use Rattle.model.specs.Marks.{whole, owing}
 use Rattle.model.specs.Open.{clearHead, clearFlags, openPending, openState}
 use Rattle.laws.specs.ListLaws.{map-replicate}
 use Rattle.laws.specs.Flags.{no-flags}
-use Rattle.laws.specs.Layout.{AllShort}
+use Rattle.laws.specs.Bands.{well-nothing}
 use Rattle.laws.specs.PartLists.{written-same}
 use Rattle.laws.specs.Record.{Sized, all-owed, panel-has, keys-back, put-head, put-keys}
 use Rattle.laws.specs.Panels.{markFrom, marks-state, length-owing}
@@ -60,10 +60,6 @@ clear-sized g h p ks n m = record {
   flags = length-replicate (cells g) false;
 }
 
-none-short : (n : ℕ) → AllShort (replicate n none)
-none-short zero = tt
-none-short (suc n) = (omega arith, none-short n)
-
 -- zeros, then the head, the keys and the mark
 pub opens : {v : Glass} {a b c d : List ℕ} {h : Head} {w : Rect} (r : List ℕ) (graphics text version : ℕ) (ks : List ℕ) → Suits v → length r ≡ recordBytes (geometry v) → length ks ≡ 8
     → a ≡ zeros (length r) → h ≡ clearHead graphics text version → b ≡ withWindow 0 (bytesOfHead h) a → c ≡ withWindow (v .keys) (wordsBytes ks) b
@@ -77,7 +73,7 @@ opens {v} {h = h} r graphics text version ks z n m e t f k q j =
     let first = put-head g h (clear g (headOf []) p (keysOf [])) (z .glass) (clear-sized g (headOf []) p (keysOf []) count refl) in
     let second = put-keys g ks (clear g h p (keysOf [])) (z .glass) (clear-sized g h p (keysOf []) count refl) m in
     let third = marks-state g all (z .glass) (clear g h p ks) (length-replicate (g .panels) p) (clear-sized g h p ks count m)
-        (λ i o l. rw (getD-replicate (v .panels) i p p l) (none-short (v .bands))) in
+        (λ i l. rw (getD-replicate (v .panels) i p p l) (well-nothing g)) in
     cc (zeros-encode g (z .glass), z .is-keys, map-replicate (owing g all) (g .panels) p)
 
 -- what open wrote: its keys read again

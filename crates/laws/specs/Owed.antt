@@ -1,6 +1,6 @@
 -- The owed rectangles on the bytes, band after band: a mark joined to them, the first taken from them, the test of them. In each law `left` bands are to come, the first from
 -- byte a and line lo; what is left, done to what stands, gives the whole.
-use mathlib.Core.Path.{_≡_, refl, ap, _∙_}
+use mathlib.Core.Path.{_≡_, refl, _∙_}
 use mathlib.Core.Bool.{Bool, true, false, _&&_, and-assoc, and-true}
 use mathlib.Core.List.{List, [], _++_, append-assoc}
 use Prim.Native.Nat.{ℕ, zero, suc, _+_, _-_, _*_, _<_, _≤_}

@@ -1,4 +1,4 @@
--- Panel after panel on the bytes of a record: where each panel's part begins, and a mark joined to all of them.
+-- Panel after panel on the bytes of a record: a mark joined to all of them, and where each panel's part begins.
 use mathlib.Core.Path.{_≡_, refl, ap, _∙_}
 use mathlib.Core.List.{List, [], _∷_, _++_, append-assoc, map}
 use Prim.Native.Nat.{ℕ, zero, suc, _+_, _-_, _*_, _<_, _≤_}
@@ -6,40 +6,19 @@ use native.Mathlib.Omega.{arith}
 use native.Mathlib.Numerals.{add-one}
 use lib.ListN.{length, set, drop, take-append-drop, length-set, length-append}
 use lib.Seq.{drop-drop, drop-at, getD-set-other, getD-at, set-at, append-snoc}
-use borrow.Author.Tests.{ne-eqb}
 use Rattle.model.specs.declared.Rect.{Rect}
 use Rattle.model.specs.declared.glass.Glass.{Glass}
-use Rattle.model.specs.Geometry.{Geometry, width, cells}
+use Rattle.model.specs.Geometry.{Geometry, width}
 use Rattle.model.specs.Glass.{geometry, IsGlass, Suits}
 use Rattle.model.specs.Memory.{window}
 use Rattle.model.specs.Bytes.{rectsAt, rectBytes, rectsBytes, fourBytes}
-use Rattle.model.specs.Flags.{flagBytes}
-use Rattle.model.specs.Record.{headBytes, panel, flags, tag, samePart, offset, panelsFrom, size, at, partIn, recordBytes, pendingBytes, Pending, State, decode, encode, partBytes, panelOf, nothingPending, withPanel, withPanels}
+use Rattle.model.specs.Record.{headBytes, panel, offset, at, recordBytes, pendingBytes, Pending, State, decode, encode, partBytes, panelOf, nothingPending, withPanel, withPanels, WellPending}
 use Rattle.model.specs.Marks.{joinOwed, owing}
-use Rattle.laws.specs.Tests.{tests, by-test}
-use Rattle.laws.specs.Layout.{AllShort, rects-from, rects-back, length-rects, rects-short}
-use Rattle.laws.specs.Record.{Passing, Sized, has-panel, part-in, bytes-part, part-encode, put-panel, encode-decode, panel-decoded, sized-decode, count-decode, sized-panel}
+use Rattle.laws.specs.Layout.{rects-from, rects-back, length-rects}
+use Rattle.laws.specs.Record.{Passing, Sized, later, panel-from, owed-short, has-panel, part-in, part-encode, put-panel, encode-decode, sized-decode, count-decode, sized-panel}
+use Rattle.laws.specs.States.{well-formed}
 use Rattle.laws.specs.Owed.{joined, window-tail}
 use Rattle.laws.specs.Bands.{length-joinOwed}
-
--- ---- where a panel's part begins
-
-offset-from : (g : Geometry) (i k n : ℕ) → k ≤ i → i < k + n → offset (size g) (panel i) (panelsFrom k n) ≡ (i - k) * pendingBytes g
-unfolding offset
-offset-from g i k zero l u = absurd (omega arith)
-offset-from g i k (suc n) l u =
-    by-test (samePart (panel i) (panel k))
-    (λ e. let z : i - k ≡ 0 = omega (arith, tests) in rw (e, z) (omega arith))
-    (λ e. let z : i - k ≡ suc (i - suc k) = omega (arith, tests) in rw (e, z) (let r = offset-from g i (suc k) n (omega (arith, tests)) (omega arith) in omega arith))
-
--- the panels after the first stand after the flags
-others-at : (g : Geometry) (k : ℕ) → suc k < g .panels → at g (panel (suc k)) ≡ at g flags + flagBytes (cells g) + k * pendingBytes g
-unfolding offset
-others-at g k h =
-    let t = tag (panel (suc k)) in
-    let z : suc k - 1 ≡ k = omega arith in
-    rw (ne-eqb t 0 (λ e. omega arith), ne-eqb t 3 (λ e. omega arith), ne-eqb t 1 (λ e. omega arith), ne-eqb t 2 (λ e. omega arith),
-    offset-from g (suc k) 1 (g .panels - 1) (omega arith) (omega arith), z) (omega arith)
 
 -- ---- a mark joined to one panel
 
@@ -47,7 +26,7 @@ pub length-owing : (g : Geometry) (m : Rect) (p : Pending) → length (owing g m
 unfolding owing
 length-owing g m p = length-joinOwed (width g) (g .band) 0 m (p .owed)
 
-mark-panel : (g : Geometry) (m : Rect) (s : State) (k : ℕ) → IsGlass g → Sized g s → length (s .panels) ≡ g .panels → k < g .panels → AllShort (panelOf g s k .owed)
+mark-panel : (g : Geometry) (m : Rect) (s : State) (k : ℕ) → IsGlass g → Sized g s → length (s .panels) ≡ g .panels → k < g .panels → WellPending g (panelOf g s k)
     → joined (width g) (g .band) 0 m (g .bands) (at g (panel k)) (encode g s) ≡ encode g (withPanel k (owing g m (panelOf g s k)) s)
 unfolding joined owing window partBytes
 mark-panel g m s k l z c h b =
@@ -60,7 +39,7 @@ mark-panel g m s k l z c h b =
     let here : drop a r ≡ rectsBytes (p .owed) ++ (t ++ rest) = cc (take-append-drop (pendingBytes g) (drop a r), part-encode g s z (panel k) (has-panel g k h),
         drop-drop (pendingBytes g) a r, append-assoc (rectsBytes (p .owed)) t rest) in
     let there : drop (a + n) r ≡ t ++ rest = cc (drop-drop n a r, drop-at (rectsBytes (p .owed)) (t ++ rest) n (cc (length-rects (p .owed), z .owed k))) in
-    let owed : rectsAt (g .bands) r a ≡ p .owed = cc (rects-from r a (g .bands), z .owed k, rects-back (p .owed) (t ++ rest) b) in
+    let owed : rectsAt (g .bands) r a ≡ p .owed = cc (rects-from r a (g .bands), z .owed k, rects-back (p .owed) (t ++ rest) (owed-short g p l b)) in
     let new = joinOwed (width g) (g .band) 0 m (p .owed) in
     let count : length new ≡ g .bands = length-owing g m p ∙ z .owed k in
     let e : a + n + 12 ≡ a + pendingBytes g = omega arith in
@@ -76,7 +55,7 @@ markFrom g m k (suc n) r = markFrom g m (suc k) n (joined (width g) (g .band) 0 
 module _ (g : Geometry) (m : Rect) (l : IsGlass g) where
   -- the panels of a are marked, those of b are to come
   marks-from : (a b : List Pending) (k : ℕ) (s : State) → s .panels ≡ a ++ b → length a ≡ k → length (s .panels) ≡ g .panels → Sized g s
-      → ((i : ℕ) → k ≤ i → i < g .panels → AllShort (panelOf g s i .owed))
+      → ((i : ℕ) → k ≤ i → i < g .panels → WellPending g (panelOf g s i))
       → markFrom g m k (length b) (encode g s) ≡ encode g (withPanels (a ++ map (owing g m) b) s)
   unfolding markFrom
   marks-from a [] k s e n c z h = ap (λ (ps : List Pending). encode g (withPanels ps s)) e
@@ -91,16 +70,13 @@ module _ (g : Geometry) (m : Rect) (l : IsGlass g) where
       cc (mark-panel g m s k l z c u (h k (omega arith) u), rest, append-snoc a q (map (owing g m) b))
 
   -- a state with the mark joined to what each panel is owed
-  pub marks-state : (s : State) → length (s .panels) ≡ g .panels → Sized g s → ((i : ℕ) → 0 ≤ i → i < g .panels → AllShort (panelOf g s i .owed))
+  pub marks-state : (s : State) → length (s .panels) ≡ g .panels → Sized g s → ((i : ℕ) → i < g .panels → WellPending g (panelOf g s i))
       → markFrom g m 0 (g .panels) (encode g s) ≡ encode g (withPanels (map (owing g m) (s .panels)) s)
-  marks-state s c z b = cc (marks-from [] (s .panels) 0 s refl refl c z b)
+  marks-state s c z b = cc (marks-from [] (s .panels) 0 s refl refl c z (λ i o h. b i h))
 
   -- the record with the mark joined to what each panel is owed
   pub marks-all : (r : List ℕ) → Passing g r → markFrom g m 0 (g .panels) r ≡ encode g (withPanels (map (owing g m) (decode g r .panels)) (decode g r))
-  marks-all r k = cc (encode-decode g r k, marks-state (decode g r) (count-decode g r) (sized-decode g r (k .sized)) short)
-    where
-      short : (i : ℕ) → 0 ≤ i → i < g .panels → AllShort (panelOf g (decode g r) i .owed)
-      short i o h = rw (panel-decoded g r i h) (rects-short (g .bands) (partIn g (panel i) r) 0 (bytes-part g (panel i) r (k .bytes)))
+  marks-all r k = cc (encode-decode g r k, marks-state (decode g r) (count-decode g r) (sized-decode g r (k .sized)) (well-formed g r k .panels))
 
 -- ---- the same as the code goes, with the glass by value
 
@@ -116,8 +92,8 @@ is-first-at v k e = rw e
 pub is-others-at : (v : Glass) (k : ℕ) → Suits v → k < v .panels → (k ≡ 0 → ⊥) → v .others + (k - 1) * v .pending ≡ at (geometry v) (panel k)
 is-others-at v zero z h n = absurd (n refl)
 is-others-at v (suc k) z h n =
-    let e : suc k - 1 ≡ k = omega arith in
-    cc (z .is-others, z .is-pending, others-at (geometry v) k h)
+    let g = geometry v in
+    cc (z .is-others, z .is-pending, later g k .1, panel-from g (suc k) 1 (g .panels - 1) (omega arith) (omega arith) .1)
 
 -- a panel's part ends within the record, which is short
 pub panel-room : (v : Glass) (k : ℕ) → Suits v → k < v .panels → at (geometry v) (panel k) + pendingBytes (geometry v) ≤ recordBytes (geometry v)

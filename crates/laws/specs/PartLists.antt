@@ -2,10 +2,10 @@
 use mathlib.Core.Path.{_≡_, refl, sym, ap, _∙_}
 use mathlib.Core.Bool.{Bool, true, false, _&&_, not}
 use mathlib.Core.List.{List, [], _∷_, _++_, append-assoc}
-use Prim.Native.Nat.{ℕ, zero, suc, _+_}
+use Prim.Native.Nat.{ℕ, _+_, _-_}
 use native.Mathlib.Nat.{zero-add, add-assoc}
 use native.Mathlib.Omega.{arith}
-use lib.ListN.{length, take, drop, length-drop, length-append, take-append-drop}
+use lib.ListN.{length, getD, take, drop, length-drop, length-append, take-append-drop}
 use lib.Seq.{take-at, drop-at, drop-append-add, take-append-add, drop-drop}
 use borrow.Author.Tests.{eqb-true, eq-eqb, ne-eqb, not-true}
 use Rattle.model.specs.Memory.{window, withWindow}
@@ -17,32 +17,26 @@ use Rattle.laws.specs.Layout.{bytes-nil, bytes-append}
 -- ---- parts with one number are one part
 
 untag : ℕ → RecordPart
-untag zero = head
-untag (suc zero) = keys
-untag (suc (suc zero)) = flags
-untag (suc (suc (suc k))) = panel k
+untag n = getD (head ∷ keys ∷ flags ∷ []) n (panel (n - 3))
 
 untag-tag : (p : RecordPart) → untag (tag p) ≡ p
 unfolding untag
 untag-tag head = refl
 untag-tag keys = refl
 untag-tag flags = refl
-untag-tag (panel k) = refl
+untag-tag (panel k) = ap panel (omega arith)
 
 pub same-part : (p q : RecordPart) → samePart p q ≡ true → p ≡ q
 same-part p q e = sym (untag-tag p) ∙ ap untag (eqb-true (tag p) (tag q) e) ∙ untag-tag q
 
-pub same-self : (p : RecordPart) → samePart p p ≡ true
+same-self : (p : RecordPart) → samePart p p ≡ true
 same-self p = eq-eqb (tag p) (tag p) refl
 
 -- ---- membership
 
 -- a part of what follows is not the first
-pub other : (p q : RecordPart) (ps : List RecordPart) → has p ps ≡ false → has q ps ≡ true → samePart q p ≡ false
-other p q ps n h =
-    by-test (samePart q p)
-    (λ e. clash (has p ps) (ap (λ (x : RecordPart). has x ps) (sym (same-part q p e)) ∙ h) n)
-    (λ e. e)
+other : (p q : RecordPart) (ps : List RecordPart) → has p ps ≡ false → has q ps ≡ true → samePart q p ≡ false
+other p q ps n h = by-test (samePart q p) (λ e. clash (has p ps) (cc (same-part q p e)) n) (λ e. e)
 
 -- ---- what the parts give is the same where they are
 

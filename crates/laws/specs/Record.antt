@@ -14,10 +14,10 @@ use Rattle.model.specs.Geometry.{Geometry, width, height, rows, columns, cells,
 use Rattle.model.specs.Memory.{window, withWindow}
 use Rattle.model.specs.Rects.{none, fits}
 use Rattle.model.specs.Bytes.{four, rectAt, rectsAt, rectBytes, rectsBytes, wordsBytes, fourBytes, Bytes, Words}
-use Rattle.model.specs.Flags.{flagsIn, bytesOfFlags}
+use Rattle.model.specs.Flags.{flagsIn, bytesOfFlags, flagBytes}
 use Rattle.model.specs.Record.{RecordPart, head, panel, keys, flags, tag, samePart, has, total, offset, panelsFrom, layout, size, at, partIn, recordBytes, pendingBytes, Pending, State, decode, encode, listing, headOf, pendingOf, bytesOfHead, bytesOfPending, partBytes, panelOf, nothingPending, windows, windowTests, headTests, headFits, partFits, valid, withHead, withPanel, withKeyWords, withFlags, WellPending, WellFormed}
 use Rattle.model.specs.Glass.{IsGlass}
-use Rattle.laws.specs.Tests.{tests, by-test, by-lt, by-eq, clash, all-true, either, or-right}
+use Rattle.laws.specs.Tests.{tests, by-test, by-lt, by-eq, clash, all-true, either}
 use Rattle.laws.specs.Rects.{Fits, passes-fits}
 use Rattle.laws.specs.Memory.{length-window}
 use Rattle.laws.specs.Bands.{BandsFit, owed-fits, hand-fits}
@@ -27,12 +27,16 @@ use Rattle.laws.specs.Layout.{Short, AllShort, bytes-drop, bytes-take, f
 
 -- ---- which parts there are
 
-has-from : (i k n : ℕ) → k ≤ i → i < k + n → has (panel i) (panelsFrom k n) ≡ true
-unfolding has
-has-from i k zero l u = absurd (omega arith)
-has-from i k (suc n) l u =
-    by-test (samePart (panel i) (panel k)) (λ e. rw e)
-    (λ e. or-right (samePart (panel i) (panel k)) (has-from i (suc k) n (omega (arith, tests)) (omega arith)))
+-- among n panels from k on stands the panel i, after those before it
+pub panel-from : (g : Geometry) (i k n : ℕ) → k ≤ i → i < k + n
+    → (has (panel i) (panelsFrom k n) ≡ true) × (offset (size g) (panel i) (panelsFrom k n) ≡ (i - k) * pendingBytes g)
+unfolding has offset
+panel-from g i k zero l u = absurd (omega arith)
+panel-from g i k (suc n) l u =
+    by-test (samePart (panel i) (panel k))
+    (λ e. let z : i - k ≡ 0 = omega (arith, tests) in rw (e, z) (refl, omega arith))
+    (λ e. let z : i - k ≡ suc (i - suc k) = omega (arith, tests) in
+    let r = panel-from g i (suc k) n (omega (arith, tests)) (omega arith) in rw (e, z) (r .0, omega (arith, r .1)))
 
 from-has : (i k n : ℕ) → has (panel i) (panelsFrom k n) ≡ true → i < k + n
 unfolding has
@@ -55,19 +59,22 @@ module _ (g : Geometry) where
   unfolding has
   has-flags = refl
 
-  -- a panel that is not the first stands after the flags
-  later : (k : ℕ) → has (panel (suc k)) (layout g) ≡ has (panel (suc k)) (panelsFrom 1 (g .panels - 1))
-  unfolding has
-  later k = let t = tag (panel (suc k)) in rw (ne-eqb t 0 (λ e. omega arith), ne-eqb t 3 (λ e. omega arith), ne-eqb t 1 (λ e. omega arith), ne-eqb t 2 (λ e. omega arith))
+  -- the panels after the first stand after the flags
+  pub later : (k : ℕ) → let rest = panelsFrom 1 (g .panels - 1) in
+      (has (panel (suc k)) (layout g) ≡ has (panel (suc k)) rest) × (at g (panel (suc k)) ≡ at g flags + flagBytes (cells g) + offset (size g) (panel (suc k)) rest)
+  unfolding has offset
+  later k =
+      let t = tag (panel (suc k)) in
+      rw (ne-eqb t 0 (λ e. omega arith), ne-eqb t 3 (λ e. omega arith), ne-eqb t 1 (λ e. omega arith), ne-eqb t 2 (λ e. omega arith)) (refl, omega arith)
 
   pub has-panel : (k : ℕ) → k < g .panels → has (panel k) (layout g) ≡ true
   unfolding has
   has-panel zero h = refl
-  has-panel (suc k) h = later k ∙ has-from (suc k) 1 (g .panels - 1) (omega arith) (omega arith)
+  has-panel (suc k) h = later k .0 ∙ panel-from g (suc k) 1 (g .panels - 1) (omega arith) (omega arith) .0
 
   pub panel-has : (k : ℕ) → 1 ≤ g .panels → has (panel k) (layout g) ≡ true → k < g .panels
   panel-has zero l h = l
-  panel-has (suc k) l h = let r = from-has (suc k) 1 (g .panels - 1) (sym (later k) ∙ h) in omega arith
+  panel-has (suc k) l h = let r = from-has (suc k) 1 (g .panels - 1) (sym (later k .0) ∙ h) in omega arith
 
 -- ---- the bytes of a part in a record
 
@@ -195,6 +202,9 @@ bands-short : (w b lo : ℕ) (qs : List Rect) → w < 65536 → lo + length qs *
 bands-short w b lo [] hw h f = tt
 bands-short w b lo (q ∷ qs) hw h f = (fits-short w lo (lo + b) q hw (omega arith) (f .0), bands-short w b (lo + b) qs hw (omega arith) (f .1))
 
+pub owed-short : (g : Geometry) (p : Pending) → IsGlass g → WellPending g p → AllShort (p .owed)
+owed-short g p k f = bands-short (width g) (g .band) 0 (p .owed) (omega (arith, k)) (rw (f .bands) (omega (arith, k))) (owed-fits g p f)
+
 -- what a head that passes tells of its numbers
 pub record Numbers (g : Geometry) (h : Head) : Type 0 where
   pub graphics : h .graphics ≤ 65535 - screenBytes g
@@ -234,7 +244,7 @@ pending-back g p k f =
     let rest = rectBytes (p .hand) ++ fourBytes (p .sent) in
     let here : drop n c ≡ rest = drop-at (rectsBytes (p .owed)) rest n (omega (arith, length-rects (p .owed), f .bands)) in
     let there : drop (n + 8) c ≡ fourBytes (p .sent) = sym (drop-drop 8 n c) ∙ ap (drop 8) here in
-    let owed : rectsAt (g .bands) c 0 ≡ p .owed = cc (f .bands, rects-back (p .owed) rest (bands-short (width g) (g .band) 0 (p .owed) (omega (arith, k)) (rw (f .bands) (omega (arith, k))) (owed-fits g p f))) in
+    let owed : rectsAt (g .bands) c 0 ≡ p .owed = cc (f .bands, rects-back (p .owed) rest (owed-short g p k f)) in
     let hand : rectAt c n ≡ p .hand = cc (rect-from c n, rect-back (p .hand) (fourBytes (p .sent)) (fits-short (width g) 0 (height g) (p .hand) (omega (arith, k)) (omega (arith, k)) (hand-fits g p f))) in
     let sent : four c (n + 8) ≡ p .sent = cc (four-from c (n + 8), four-back (p .sent) (f .counted)) in
     λ i. record { owed = owed i; hand = hand i; sent = sent i }
@@ -267,19 +277,18 @@ sized-panel g k p s z h n = record {
 
 -- ---- a store of one part: the bytes of the state with that part changed, and no other
 
-module _ (g : Geometry) (q : RecordPart) (s t : State) where
-  -- the bytes of the part q of t stored in the bytes of s, where the other parts of the two states are the same
-  put-part : IsGlass g → has q (layout g) ≡ true → Sized g s → length (partBytes g t q) ≡ size g q → (samePart head q ≡ false → s .head ≡ t .head)
-      → ((k : ℕ) → samePart (panel k) q ≡ false → panelOf g s k ≡ panelOf g t k) → (samePart keys q ≡ false → s .keys ≡ t .keys)
-      → (samePart flags q ≡ false → s .flags ≡ t .flags) → withWindow (at g q) (partBytes g t q) (encode g s) ≡ encode g t
-  unfolding encode partBytes
-  put-part l h z n a b c d = part-stored (size g) (partBytes g s) (partBytes g t) q (layout g) (sizes g s z) n but h (l .apart)
-    where
-      but : (p : RecordPart) → samePart p q ≡ false → partBytes g s p ≡ partBytes g t p
-      but head e = ap bytesOfHead (a e)
-      but (panel k) e = ap bytesOfPending (b k e)
-      but keys e = ap wordsBytes (c e)
-      but flags e = ap bytesOfFlags (d e)
+-- the bytes of the part q of t stored in the bytes of s, where the other parts of the two states are the same
+put-part : (g : Geometry) (q : RecordPart) (s t : State) → IsGlass g → has q (layout g) ≡ true → Sized g s → length (partBytes g t q) ≡ size g q
+    → (samePart head q ≡ false → s .head ≡ t .head) → ((k : ℕ) → samePart (panel k) q ≡ false → panelOf g s k ≡ panelOf g t k)
+    → (samePart keys q ≡ false → s .keys ≡ t .keys) → (samePart flags q ≡ false → s .flags ≡ t .flags) → withWindow (at g q) (partBytes g t q) (encode g s) ≡ encode g t
+unfolding encode partBytes
+put-part g q s t l h z n a b c d = part-stored (size g) (partBytes g s) (partBytes g t) q (layout g) (sizes g s z) n but h (l .apart)
+  where
+    but : (p : RecordPart) → samePart p q ≡ false → partBytes g s p ≡ partBytes g t p
+    but head e = ap bytesOfHead (a e)
+    but (panel k) e = ap bytesOfPending (b k e)
+    but keys e = ap wordsBytes (c e)
+    but flags e = ap bytesOfFlags (d e)
 
 pub put-head : (g : Geometry) (h : Head) (s : State) → IsGlass g → Sized g s → withWindow 0 (bytesOfHead h) (encode g s) ≡ encode g (withHead h s)
 unfolding partBytes offset

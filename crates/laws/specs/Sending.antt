@@ -1,7 +1,7 @@
 -- A send on the bytes of a panel's part: what is owed moves into hand, the hand loses a line, the count gains one.
 use mathlib.Core.Path.{_≡_, refl, sym, ap, _∙_}
 use mathlib.Core.Bool.{Bool, true, false}
-use mathlib.Core.List.{List, [], _∷_, _++_, append-assoc}
+use mathlib.Core.List.{List, _++_, append-assoc}
 use Prim.Native.Nat.{ℕ, _+_, _*_, _<_, _≤_, min}
 use native.Mathlib.Omega.{arith}
 use lib.ListN.{length, getD, length-append}
@@ -14,8 +14,8 @@ use Rattle.model.specs.Memory.{withWindow}
 use Rattle.model.specs.Rects.{none, isEmpty}
 use Rattle.model.specs.Bytes.{rectAt, rectBytes, rectsBytes, four, fourBytes, Bytes}
 use Rattle.model.specs.Record.{panel, at, Pending, decode, encode, pendingOf, panelOf, nothingPending, withPanel, withPanels}
-use Rattle.model.specs.Sends.{firstOwed, restOwed, takeOwed, nextLine, lineSent, sendPending}
-use Rattle.laws.specs.Tests.{if-cases, by-test, either, clash}
+use Rattle.model.specs.Sends.{takeOwed, nextLine, lineSent, sendPending}
+use Rattle.laws.specs.Tests.{if-cases, either}
 use Rattle.laws.specs.Rects.{Proper}
 use Rattle.laws.specs.Memory.{window-extend}
 use Rattle.laws.specs.Layout.{length-rects}
