@@ -129,11 +129,7 @@ module _ (g : Geometry) (p : Pending) where
   pub well-pending : length (p .owed) ≡ g .bands → BandsFit (width g) (g .band) 0 (p .owed) → Fits (width g) 0 (height g) (p .hand) → p .sent < 4294967296
       → WellPending g p
   unfolding pendingFits
-  well-pending n o h c = record {
-    passes = λ i. bands-out (width g) (g .band) 0 (p .owed) o i && fits-passes (width g) 0 (height g) (p .hand) h i;
-    bands = n;
-    counted = c;
-  }
+  well-pending n o h c = record { passes = λ i. bands-out (width g) (g .band) 0 (p .owed) o i && fits-passes (width g) 0 (height g) (p .hand) h i; bands = n; counted = c }
 
 -- ---- a mark
 

@@ -9,8 +9,9 @@ use native.Mathlib.Numerals.{add-one}
 use lib.Seq.{drop-cons, drop-drop, getD-take, getD-drop}
 use Rattle.model.specs.declared.Rect.{Rect}
 use Rattle.model.specs.Bytes.{two, four, rectAt, rectsAt, wordsAt, fourBytes, rectBytes, rectsBytes, wordsBytes, Bytes, Words}
-use Rattle.laws.specs.Tests.{by-lt}
-use Rattle.laws.specs.Rects.{rect-equal}
+use Rattle.laws.specs.Tests.{by-lt, either}
+use Rattle.laws.specs.Rects.{Fits, rect-equal}
+use Rattle.laws.specs.Bands.{BandsFit}
 
 -- ---- bytes
 
@@ -146,24 +147,16 @@ four-back n h =
     let k : n / 65536 % 256 + 256 * (n / 16777216 % 256) ≡ n / 65536 = cc (div-div-eq-div-mul n 65536 256, two-back (n / 65536) (omega arith)) in
     omega (arith, k, div-div-eq-div-mul n 256 256)
 
--- the numbers of a rectangle have two bytes each
-pub record Short (q : Rect) : Type 0 where
-  pub left : q .left < 65536
-  pub top : q .top < 65536
-  pub right : q .right < 65536
-  pub bottom : q .bottom < 65536
+-- rectangles within limits of two bytes
+pub rect-back : (w lo hi : ℕ) (q : Rect) (l : List ℕ) → w < 65536 → hi < 65536 → Fits w lo hi q → rectAt (rectBytes q ++ l) 0 ≡ q
+rect-back w lo hi q l hw hh f = either f (λ z. rw z)
+    (λ p. rect-equal (two-back (q .left) (omega (arith, p))) (two-back (q .top) (omega (arith, p))) (two-back (q .right) (omega (arith, p))) (two-back (q .bottom) (omega (arith, p))))
 
-pub rect-back : (q : Rect) (l : List ℕ) → Short q → rectAt (rectBytes q ++ l) 0 ≡ q
-rect-back q l b = rect-equal (two-back (q .left) (b .left)) (two-back (q .top) (b .top)) (two-back (q .right) (b .right)) (two-back (q .bottom) (b .bottom))
-
-abbrev pub AllShort : List Rect → Type 0
-AllShort [] = Unit {0}
-AllShort (q ∷ qs) = Short q × AllShort qs
-
-pub rects-back : (qs : List Rect) (l : List ℕ) → AllShort qs → rectsAt (length qs) (rectsBytes qs ++ l) 0 ≡ qs
-rects-back [] l b = refl
-rects-back (q ∷ qs) l b =
-    cc (rect-back q (rectsBytes qs ++ l) (b .0), rects-from (rectBytes q ++ (rectsBytes qs ++ l)) 8 (length qs), rects-back qs l (b .1))
+pub rects-back : (w b lo : ℕ) (qs : List Rect) (l : List ℕ) → w < 65536 → lo + length qs * b < 65536 → BandsFit w b lo qs → rectsAt (length qs) (rectsBytes qs ++ l) 0 ≡ qs
+rects-back w b lo [] l hw h f = refl
+rects-back w b lo (q ∷ qs) l hw h f =
+    let rest = rectsBytes qs ++ l in
+    cc (rect-back w lo (lo + b) q rest hw (omega arith) (f .0), rects-from (rectBytes q ++ rest) 8 (length qs), rects-back w b (lo + b) qs l hw (omega arith) (f .1))
 
 pub words-back : (ws : List ℕ) (l : List ℕ) → Words ws → wordsAt (length ws) (wordsBytes ws ++ l) 0 ≡ ws
 words-back [] l b = refl

@@ -14,8 +14,8 @@ use Rattle.model.specs.Memory.{window}
 use Rattle.model.specs.Bytes.{rectsAt, rectBytes, rectsBytes, fourBytes}
 use Rattle.model.specs.Record.{headBytes, panel, offset, at, recordBytes, pendingBytes, Pending, State, decode, encode, partBytes, panelOf, nothingPending, withPanel, withPanels, WellPending}
 use Rattle.model.specs.Marks.{joinOwed, owing}
-use Rattle.laws.specs.Layout.{rects-from, rects-back, length-rects}
-use Rattle.laws.specs.Record.{Passing, Sized, later, panel-from, owed-short, has-panel, part-in, part-encode, put-panel, encode-decode, sized-decode, count-decode, sized-panel}
+use Rattle.laws.specs.Layout.{rects-from, length-rects}
+use Rattle.laws.specs.Record.{Passing, Sized, later, panel-from, owed-back, has-panel, part-in, part-encode, put-panel, encode-decode, sized-decode, count-decode, sized-panel}
 use Rattle.laws.specs.States.{well-formed}
 use Rattle.laws.specs.Owed.{joined, window-tail}
 use Rattle.laws.specs.Bands.{length-joinOwed}
@@ -39,7 +39,7 @@ mark-panel g m s k l z c h b =
     let here : drop a r ≡ rectsBytes (p .owed) ++ (t ++ rest) = cc (take-append-drop (pendingBytes g) (drop a r), part-encode g s z (panel k) (has-panel g k h),
         drop-drop (pendingBytes g) a r, append-assoc (rectsBytes (p .owed)) t rest) in
     let there : drop (a + n) r ≡ t ++ rest = cc (drop-drop n a r, drop-at (rectsBytes (p .owed)) (t ++ rest) n (cc (length-rects (p .owed), z .owed k))) in
-    let owed : rectsAt (g .bands) r a ≡ p .owed = cc (rects-from r a (g .bands), z .owed k, rects-back (p .owed) (t ++ rest) (owed-short g p l b)) in
+    let owed : rectsAt (g .bands) r a ≡ p .owed = cc (rects-from r a (g .bands), owed-back g p (t ++ rest) l b) in
     let new = joinOwed (width g) (g .band) 0 m (p .owed) in
     let count : length new ≡ g .bands = length-owing g m p ∙ z .owed k in
     let e : a + n + 12 ≡ a + pendingBytes g = omega arith in

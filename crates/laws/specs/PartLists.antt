@@ -5,7 +5,7 @@ use mathlib.Core.List.{List, [], _∷_, _++_, append-assoc}
 use Prim.Native.Nat.{ℕ, _+_, _-_}
 use native.Mathlib.Nat.{zero-add, add-assoc}
 use native.Mathlib.Omega.{arith}
-use lib.ListN.{length, getD, take, drop, length-drop, length-append, take-append-drop}
+use lib.ListN.{length, getD, take, drop, length-drop, length-append, take-append-drop, drop-of-length-le}
 use lib.Seq.{take-at, drop-at, drop-append-add, take-append-add, drop-drop}
 use borrow.Author.Tests.{eqb-true, eq-eqb, ne-eqb, not-true}
 use Rattle.model.specs.Memory.{window, withWindow}
@@ -106,8 +106,7 @@ module _ (n : RecordPart → ℕ) where
   pub parts-written : (r : List ℕ) (ps : List RecordPart) → distinct ps ≡ true → length r ≡ total n ps
       → written (λ p. window (offset n p ps) (n p) r) ps ≡ r
   unfolding written offset distinct total window
-  parts-written [] [] d l = refl
-  parts-written (x ∷ r) [] d l = absurd (omega arith)
+  parts-written r [] d l = sym (drop-of-length-le r {i = 0} (omega arith))
   parts-written r (p ∷ ps) d l =
       let a = and-true (not (has p ps)) (distinct ps) d in
       let rest = drop (n p) r in

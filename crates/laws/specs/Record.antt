@@ -8,7 +8,6 @@ use native.Mathlib.Nat.{add-zero, zero-add}
 use lib.ListN.{length, getD, drop, length-append, length-replicate, List·getD-eq-default}
 use lib.Seq.{drop-drop, drop-at, getD-set-same, getD-set-other, ext-getD}
 use borrow.Author.Tests.{ne-eqb}
-use Rattle.model.specs.declared.Rect.{Rect}
 use Rattle.model.specs.declared.Head.{Head}
 use Rattle.model.specs.Geometry.{Geometry, width, height, rows, columns, cells, screenBytes}
 use Rattle.model.specs.Memory.{window, withWindow}
@@ -17,13 +16,13 @@ use Rattle.model.specs.Bytes.{four, rectAt, rectsAt, rectBytes, rectsBytes, wor
 use Rattle.model.specs.Flags.{flagsIn, bytesOfFlags, flagBytes}
 use Rattle.model.specs.Record.{RecordPart, head, panel, keys, flags, tag, samePart, has, total, offset, panelsFrom, layout, size, at, partIn, recordBytes, pendingBytes, Pending, State, decode, encode, listing, headOf, pendingOf, bytesOfHead, bytesOfPending, partBytes, panelOf, nothingPending, windows, windowTests, headTests, headFits, partFits, valid, withHead, withPanel, withKeyWords, withFlags, WellPending, WellFormed}
 use Rattle.model.specs.Glass.{IsGlass}
-use Rattle.laws.specs.Tests.{tests, by-test, by-lt, by-eq, clash, all-true, either}
-use Rattle.laws.specs.Rects.{Fits, passes-fits}
+use Rattle.laws.specs.Tests.{tests, by-test, by-lt, by-eq, clash, all-true}
+use Rattle.laws.specs.Rects.{passes-fits}
 use Rattle.laws.specs.Memory.{length-window}
-use Rattle.laws.specs.Bands.{BandsFit, owed-fits, hand-fits}
+use Rattle.laws.specs.Bands.{owed-fits, hand-fits}
 use Rattle.laws.specs.PartLists.{same-part, written-same, all-at, part-written, part-stored, parts-written}
 use Rattle.laws.specs.Flags.{flags-read, flags-written, length-flags, length-flagsIn}
-use Rattle.laws.specs.Layout.{Short, AllShort, bytes-drop, bytes-take, four-from, rect-from, whole, all-again, low, high, byte0, byte1, byte2, byte3, rect-again, four-again, rects-again, two-back, four-back, rect-back, rects-back, words-back, length-rects, length-rectsAt, length-words}
+use Rattle.laws.specs.Layout.{bytes-drop, bytes-take, four-from, rect-from, whole, all-again, low, high, byte0, byte1, byte2, byte3, rect-again, four-again, rects-again, two-back, four-back, rect-back, rects-back, words-back, length-rects, length-rectsAt, length-words}
 
 -- ---- which parts there are
 
@@ -41,10 +40,7 @@ panel-from g i k (suc n) l u =
 from-has : (i k n : ℕ) → has (panel i) (panelsFrom k n) ≡ true → i < k + n
 unfolding has
 from-has i k zero h = clash false h refl
-from-has i k (suc n) h =
-    by-test (samePart (panel i) (panel k))
-    (λ e. omega (arith, tests))
-    (λ e. let r = from-has i (suc k) n (rw e at h) in omega arith)
+from-has i k (suc n) h = by-test (samePart (panel i) (panel k)) (λ e. omega (arith, tests)) (λ e. omega (arith, from-has i (suc k) n (rw e at h)))
 
 module _ (g : Geometry) where
   pub has-head : has head (layout g) ≡ true
@@ -195,16 +191,6 @@ sized-decode g r l = record {
 pub well-sized : (g : Geometry) (s : State) → WellFormed g s → Sized g s
 well-sized g s f = record { owed = all-owed g s (f .count) (λ k h. f .panels k h .bands); keys = f .words; flags = f .flags }
 
-fits-short : (w lo hi : ℕ) (q : Rect) → w < 65536 → hi < 65536 → Fits w lo hi q → Short q
-fits-short w lo hi q hw hh f = either f (λ z. rw z (omega arith)) (λ p. omega (arith, p))
-
-bands-short : (w b lo : ℕ) (qs : List Rect) → w < 65536 → lo + length qs * b < 65536 → BandsFit w b lo qs → AllShort qs
-bands-short w b lo [] hw h f = tt
-bands-short w b lo (q ∷ qs) hw h f = (fits-short w lo (lo + b) q hw (omega arith) (f .0), bands-short w b (lo + b) qs hw (omega arith) (f .1))
-
-pub owed-short : (g : Geometry) (p : Pending) → IsGlass g → WellPending g p → AllShort (p .owed)
-owed-short g p k f = bands-short (width g) (g .band) 0 (p .owed) (omega (arith, k)) (rw (f .bands) (omega (arith, k))) (owed-fits g p f)
-
 -- what a head that passes tells of its numbers
 pub record Numbers (g : Geometry) (h : Head) : Type 0 where
   pub graphics : h .graphics ≤ 65535 - screenBytes g
@@ -235,7 +221,10 @@ pub head-back : (g : Geometry) (h : Head) → headFits g h ≡ true → headOf (
 head-back g h e =
     let n = head-tells g h e in
     head-equal (two-back (h .graphics) (omega (arith, n))) (two-back (h .text) (omega (arith, n))) refl refl refl refl refl refl
-    (rect-back (h .dirty) [] (fits-short 256 0 256 (h .dirty) (omega arith) (omega arith) (passes-fits 256 0 256 (h .dirty) (n .dirty))))
+    (rect-back 256 0 256 (h .dirty) [] (omega arith) (omega arith) (passes-fits 256 0 256 (h .dirty) (n .dirty)))
+
+pub owed-back : (g : Geometry) (p : Pending) (l : List ℕ) → IsGlass g → WellPending g p → rectsAt (g .bands) (rectsBytes (p .owed) ++ l) 0 ≡ p .owed
+owed-back g p l k f = cc (f .bands, rects-back (width g) (g .band) 0 (p .owed) l (omega (arith, k)) (rw (f .bands) (omega (arith, k))) (owed-fits g p f))
 
 pub pending-back : (g : Geometry) (p : Pending) → IsGlass g → WellPending g p → pendingOf g (bytesOfPending p) 0 ≡ p
 pending-back g p k f =
@@ -244,10 +233,9 @@ pending-back g p k f =
     let rest = rectBytes (p .hand) ++ fourBytes (p .sent) in
     let here : drop n c ≡ rest = drop-at (rectsBytes (p .owed)) rest n (omega (arith, length-rects (p .owed), f .bands)) in
     let there : drop (n + 8) c ≡ fourBytes (p .sent) = sym (drop-drop 8 n c) ∙ ap (drop 8) here in
-    let owed : rectsAt (g .bands) c 0 ≡ p .owed = cc (f .bands, rects-back (p .owed) rest (owed-short g p k f)) in
-    let hand : rectAt c n ≡ p .hand = cc (rect-from c n, rect-back (p .hand) (fourBytes (p .sent)) (fits-short (width g) 0 (height g) (p .hand) (omega (arith, k)) (omega (arith, k)) (hand-fits g p f))) in
+    let hand : rectAt c n ≡ p .hand = cc (rect-from c n, rect-back (width g) 0 (height g) (p .hand) (fourBytes (p .sent)) (omega (arith, k)) (omega (arith, k)) (hand-fits g p f)) in
     let sent : four c (n + 8) ≡ p .sent = cc (four-from c (n + 8), four-back (p .sent) (f .counted)) in
-    λ i. record { owed = owed i; hand = hand i; sent = sent i }
+    λ i. record { owed = owed-back g p rest k f i; hand = hand i; sent = sent i }
 
 pub keys-back : (g : Geometry) (s : State) → Sized g s → Words (s .keys) → decode g (encode g s) .keys ≡ s .keys
 unfolding decode partBytes
