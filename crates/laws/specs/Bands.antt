@@ -35,8 +35,7 @@ length-joinOwed w b lo m (r ∷ rs) = ap suc (length-joinOwed w b (lo + b) m rs)
 pub joinOwed-fits : (w b lo : ℕ) (m : Rect) (rs : List Rect) → BandsFit w b lo rs → BandsFit w b lo (joinOwed w b lo m rs)
 unfolding joinOwed
 joinOwed-fits w b lo m [] f = tt
-joinOwed-fits w b lo m (r ∷ rs) f =
-    (join-fits w lo (lo + b) r (cut w lo (lo + b) m) (f .0) (cut-fits w lo (lo + b) m), joinOwed-fits w b (lo + b) m rs (f .1))
+joinOwed-fits w b lo m (r ∷ rs) f = (join-fits w lo (lo + b) r (cut w lo (lo + b) m) (f .0) (cut-fits w lo (lo + b) m), joinOwed-fits w b (lo + b) m rs (f .1))
 
 pub joinOwed-keeps : (w b lo : ℕ) (m : Rect) (rs : List Rect) (x y : ℕ) → InAny rs x y → InAny (joinOwed w b lo m rs) x y
 unfolding joinOwed
@@ -93,7 +92,7 @@ unfolding firstOwed restOwed owedLines
 first-none [] t = (refl, refl)
 first-none (r ∷ rs) t =
     by-test (isEmpty r)
-    (λ e. let k = first-none rs (rw e at t) in rw e (omega (arith, k .0, ap linesOf (empty-none r e)), cc (k .1)))
+    (λ e. let k = first-none rs (rw e at t) in rw e (omega (arith, k .0, ap linesOf (empty-none r e)), cc))
     (λ e. clash (isEmpty r) (rw e at t) e)
 
 -- ---- an empty mark adds nothing

@@ -135,7 +135,7 @@ pub rects-again : (n : ℕ) (r : List ℕ) (i : ℕ) → Bytes r → i + 8 * n �
 rects-again zero r i b h = let e : i + 8 * 0 ≡ i = omega arith in ap (λ (k : ℕ). drop k r) e
 rects-again (suc n) r i b h =
     let e : i + 8 * suc n ≡ i + 8 + 8 * n = omega arith in
-    cc (append-assoc _ _ _, rects-again n r (i + 8) b (omega arith), rect-again r i b (omega arith))
+    cc (rects-again n r (i + 8) b (omega arith), rect-again r i b (omega arith))
 
 -- ---- written, then read: the fields again
 

@@ -67,7 +67,7 @@ module _ (g : Geometry) (m : Rect) (l : IsGlass g) where
       let rest = marks-from (a ++ (q ∷ [])) b (suc k) (withPanel k p s) here (omega (arith, length-append a (q ∷ []))) (length-set (s .panels) k p ∙ c)
           (sized-panel g k p s z (omega arith) (length-owing g m (panelOf g s k) ∙ z .owed k))
           (λ i o j. rw (getD-set-other (s .panels) k i p (nothingPending g) (λ x. omega arith)) (h i (omega arith) j)) in
-      cc (mark-panel g m s k l z c u (h k (omega arith) u), rest, append-snoc a q (map (owing g m) b))
+      cc (mark-panel g m s k l z c u (h k (omega arith) u), append-snoc a q (map (owing g m) b))
 
   -- a state with the mark joined to what each panel is owed
   pub marks-state : (s : State) → length (s .panels) ≡ g .panels → Sized g s → ((i : ℕ) → i < g .panels → WellPending g (panelOf g s i))
@@ -93,7 +93,7 @@ pub is-others-at : (v : Glass) (k : ℕ) → Suits v → k < v .panels → (k �
 is-others-at v zero z h n = absurd (n refl)
 is-others-at v (suc k) z h n =
     let g = geometry v in
-    cc (z .is-others, z .is-pending, later g k .1, panel-from g (suc k) 1 (g .panels - 1) (omega arith) (omega arith) .1)
+    cc (later g k .1, panel-from g (suc k) 1 (g .panels - 1) (omega arith) (omega arith) .1)
 
 -- a panel's part ends within the record, which is short
 pub panel-room : (v : Glass) (k : ℕ) → Suits v → k < v .panels → at (geometry v) (panel k) + pendingBytes (geometry v) ≤ recordBytes (geometry v)
@@ -127,8 +127,8 @@ pub mark-goes : {v : Glass} {m : Rect} {r₀ r : List ℕ} {panels k a : ℕ} {r
 unfolding markFrom
 mark-goes {panels = panels} {k} z i h n e f =
     let c : panels - k ≡ suc (panels - (k + 1)) = omega arith in
-    record { counted = i .counted; some = omega arith; sized = n ∙ i .sized; same = cc (add-one k, z .is-width, i .same) }
+    record { counted = i .counted; some = omega arith; sized = n ∙ i .sized; same = cc (add-one k) }
 
 pub mark-ends : {v : Glass} {m : Rect} {r₀ r : List ℕ} {panels k : ℕ} → Marking v m r₀ r panels k → panels ≤ k → r ≡ markFrom (geometry v) m 0 (v .panels) r₀
 unfolding markFrom
-mark-ends {panels = panels} {k} i h = let z : panels - k ≡ 0 = omega arith in cc (i .same)
+mark-ends {panels = panels} {k} i h = let z : panels - k ≡ 0 = omega arith in cc

@@ -160,7 +160,7 @@ sizes g s z head = refl
 sizes g s z (panel k) =
     let p = panelOf g s k in
     omega (arith, length-append (rectsBytes (p .owed)) (rectBytes (p .hand) ++ fourBytes (p .sent)), length-rects (p .owed), z .owed k)
-sizes g s z keys = cc (length-words (s .keys), z .keys)
+sizes g s z keys = cc (length-words (s .keys))
 sizes g s z flags = length-flags (s .flags) ∙ z .flags
 
 pub count-decode : (g : Geometry) (r : List ℕ) → length (decode g r .panels) ≡ g .panels
@@ -224,7 +224,7 @@ head-back g h e =
     (rect-back 256 0 256 (h .dirty) [] (omega arith) (omega arith) (passes-fits 256 0 256 (h .dirty) (n .dirty)))
 
 pub owed-back : (g : Geometry) (p : Pending) (l : List ℕ) → IsGlass g → WellPending g p → rectsAt (g .bands) (rectsBytes (p .owed) ++ l) 0 ≡ p .owed
-owed-back g p l k f = cc (f .bands, rects-back (width g) (g .band) 0 (p .owed) l (omega (arith, k)) (rw (f .bands) (omega (arith, k))) (owed-fits g p f))
+owed-back g p l k f = cc (rects-back (width g) (g .band) 0 (p .owed) l (omega (arith, k)) (rw (f .bands) (omega (arith, k))) (owed-fits g p f))
 
 pub pending-back : (g : Geometry) (p : Pending) → IsGlass g → WellPending g p → pendingOf g (bytesOfPending p) 0 ≡ p
 pending-back g p k f =
@@ -239,7 +239,7 @@ pending-back g p k f =
 
 pub keys-back : (g : Geometry) (s : State) → Sized g s → Words (s .keys) → decode g (encode g s) .keys ≡ s .keys
 unfolding decode partBytes
-keys-back g s z k = cc (part-encode g s z keys (has-keys g), z .keys, append-nil (wordsBytes (s .keys)), words-back (s .keys) [] k)
+keys-back g s z k = cc (part-encode g s z keys (has-keys g), append-nil (wordsBytes (s .keys)), words-back (s .keys) [] k)
 
 pub decode-encode : (g : Geometry) (s : State) → IsGlass g → WellFormed g s → decode g (encode g s) ≡ s
 unfolding decode partBytes

@@ -65,7 +65,7 @@ module _ {v : Glass} {r : List ℕ} (k : ℕ) (w : Known v r) (h : k < v .panels
 
   pub line-sent : {a : ℕ} {q : Rect} {r′ : List ℕ} → a ≡ at (geometry v) (panel k)
       → InHand (geometry v) a r q r′ → q ≡ takeOwed (panelOf (geometry v) (decode (geometry v) r) k) .hand
-  line-sent e i = cc (i .hand, panel-here)
+  line-sent e i = cc panel-here
 
   -- what is in hand lies on the screen, so that a line can follow its top
   pub line-follows : {a : ℕ} {q : Rect} {r′ : List ℕ} → a ≡ at (geometry v) (panel k) → InHand (geometry v) a r q r′ → q .top < 65535
@@ -78,7 +78,7 @@ module _ {v : Glass} {r : List ℕ} (k : ℕ) (w : Known v r) (h : k < v .panels
   -- idle: the record stays
   pub idle : {a : ℕ} {q : Rect} {r′ : List ℕ} {t : Bool} → a ≡ at (geometry v) (panel k) → InHand (geometry v) a r q r′ → t ≡ isEmpty q → t ≡ true
       → r′ ≡ encode (geometry v) (withPanel k (sendPending (panelOf (geometry v) (decode (geometry v) r) k)) (decode (geometry v) r))
-  unfolding Bytes sendPending
+  unfolding sendPending
   idle {a} {q} {r′} e i f y =
       let g = geometry v in
       let s = decode g r in
@@ -87,9 +87,8 @@ module _ {v : Glass} {r : List ℕ} (k : ℕ) (w : Known v r) (h : k < v .panels
       let room = panel-room v k (w .suits) h in
       let none : isEmpty (takeOwed p .hand) ≡ true = cc (line-sent e i) in
       let same = owed-again (g .bands) c r (w .passing .bytes) (omega (arith, w .passing .sized)) in
-      let still : sendPending p ≡ p = rw none in
       let kept = ap (λ (l : List Pending). encode g (withPanels l s)) (set-getD (s .panels) k (nothingPending g)) in
-      cc (i .owed, panel-here, none-left g p (well-formed g r (w .passing) .panels k h) none .1, encode-decode g r (w .passing))
+      cc (panel-here, none-left g p (well-formed g r (w .passing) .panels k h) none .1, encode-decode g r (w .passing))
 
   -- a line sent
   pub sends : {a : ℕ} {q n : Rect} {c : ℕ} {r′ s t : List ℕ} {u : Bool} → a ≡ at (geometry v) (panel k) → InHand (geometry v) a r q r′ → u ≡ isEmpty q → u ≡ false
@@ -111,7 +110,7 @@ module _ {v : Glass} {r : List ℕ} (k : ℕ) (w : Known v r) (h : k < v .panels
       let two = window-extend d (8 * v .bands) (rectsBytes owed) (rectBytes n) r long starts in
       let three = window-extend d (8 * v .bands + 8) (rectsBytes owed ++ rectBytes n) (fourBytes c) r (omega (arith, length-append (rectsBytes owed) (rectBytes n))) starts in
       let put = put-panel g k (record { owed = owed; hand = n; sent = c }) st (w .suits .glass) (sized-decode g r (w .passing .sized)) h (count-decode g r) count in
-      cc (i .owed, panel-here, line-sent e i, encode-decode g r (w .passing), send-line p some, append-assoc (rectsBytes owed) (rectBytes n) (fourBytes c))
+      cc (panel-here, line-sent e i, encode-decode g r (w .passing), send-line p some, append-assoc (rectsBytes owed) (rectBytes n) (fourBytes c))
 
 -- the rectangle whose top line is sent, and the record
 pub record SentOn (v : Glass) (k : ℕ) (r : List ℕ) (q : Rect) (r′ : List ℕ) : Type 0 where
@@ -124,4 +123,4 @@ pub sent-proper : {v : Glass} {k : ℕ} {r : List ℕ} {q : Rect} {r′ : List �
 sent-proper {v} {k} {r} w h i e f =
     let g = geometry v in
     let p = panelOf g (decode g r) k in
-    rw (i .line) (to-send g p (well-formed g r (w .passing) .panels k h) (cc (i .line)))
+    rw (i .line) (to-send g p (well-formed g r (w .passing) .panels k h) (cc))

@@ -71,20 +71,16 @@ module _ (g : Geometry) (k : IsGlass g) (s : State) (f : WellFormed g s) where
 
   part-fits : (p : RecordPart) → has p (layout g) ≡ true → partFits g p (partBytes g s p) ≡ true
   unfolding partBytes partFits
-  part-fits head h = ap (headFits g) (head-back g (s .head) (f .head)) ∙ f .head
-  part-fits (panel i) h =
-      let w = f .panels i (panel-has g i (k .one) h) in
-      ap (pendingFits g) (pending-back g (panelOf g s i) k w) ∙ w .passes
+  part-fits head h = cc (head-back g (s .head) (f .head))
+  part-fits (panel i) h = let w = f .panels i (panel-has g i (k .one) h) in cc (pending-back g (panelOf g s i) k w)
   part-fits keys h = refl
-  part-fits flags h = ap (λ (n : ℕ). flagsFit n (partBytes g s flags)) (sym (f .flags)) ∙ flags-fit (s .flags)
+  part-fits flags h = cc (flags-fit (s .flags))
 
   pub encode-passing : Passing g (encode g s)
   unfolding encode valid
-  encode-passing =
-      let z = well-sized g s f in
-      record {
-        glass = k;
-        sized = length-written (size g) (partBytes g s) (layout g) (sizes g s z);
-        bytes = bytes-written (partBytes g s) (layout g) part-bytes;
-        passes = all-of (λ p. partFits g p (partIn g p (encode g s))) (layout g) (λ p h. ap (partFits g p) (part-encode g s z p h) ∙ part-fits p h);
-      }
+  encode-passing = record {
+    glass = k;
+    sized = length-written (size g) (partBytes g s) (layout g) (sizes g s (well-sized g s f));
+    bytes = bytes-written (partBytes g s) (layout g) part-bytes;
+    passes = all-of (λ p. partFits g p (partIn g p (encode g s))) (layout g) (λ p h. ap (partFits g p) (part-encode g s (well-sized g s f) p h) ∙ part-fits p h);
+  }
