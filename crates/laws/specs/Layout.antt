@@ -1,14 +1,15 @@
 -- Numbers, rectangles and words as bytes: what is read and written again, and what is written and read again.
-use mathlib.Core.Path.{_≡_, refl, ap, _∙_}
-use mathlib.Core.List.{List, [], _∷_, _++_, append-assoc, append-nil}
+use mathlib.Core.Path.{_≡_, refl, sym, ap, _∙_}
+use mathlib.Core.List.{List, [], _∷_, _++_}
 use Prim.Native.Nat.{ℕ, zero, suc, _+_, _*_, _/_, _%_, _<_, _≤_}
 use native.Mathlib.Nat.{add-zero, zero-add, add-assoc, div-div-eq-div-mul}
 use native.Mathlib.Omega.{arith}
-use lib.ListN.{length, getD, take, drop, length-take, length-drop, drop-of-length-le, List·getD-eq-default}
+use lib.ListN.{length, getD, take, drop, length-take, length-drop, take-append-drop, List·getD-eq-default}
 use native.Mathlib.Numerals.{add-one}
-use lib.Seq.{drop-cons, drop-drop, getD-take, getD-drop}
+use lib.Seq.{length-take-le, take-all, drop-drop, ext-getD, getD-take, getD-drop}
 use Rattle.model.specs.declared.Rect.{Rect}
 use Rattle.model.specs.Bytes.{two, four, rectAt, rectsAt, wordsAt, fourBytes, rectBytes, rectsBytes, wordsBytes, Bytes, Words}
+use Rattle.model.specs.Record.{listing}
 use Rattle.laws.specs.Tests.{by-lt, either}
 use Rattle.laws.specs.Rects.{Fits, rect-equal}
 use Rattle.laws.specs.Bands.{BandsFit}
@@ -84,16 +85,23 @@ module _ (r : List ℕ) (i : ℕ) where
 
 -- ---- read, then written: the bytes again
 
--- the n elements from i on, written out
-abbrev pub elements : ℕ → ℕ → List ℕ → List ℕ
-elements zero i l = []
-elements (suc n) i l = getD l i 0 ∷ elements n (suc i) l
+pub getD-listing : {A : Type 0} (f : ℕ → A) (k n i : ℕ) (d : A) → i < n → getD (listing f k n) i d ≡ f (k + i)
+unfolding listing
+getD-listing f k zero i d h = absurd (omega arith)
+getD-listing f k (suc n) zero d h = ap f (sym (add-zero k))
+getD-listing f k (suc n) (suc i) d h = let e : suc k + i ≡ k + suc i = omega arith in getD-listing f (suc k) n i d (omega arith) ∙ ap f e
 
-pub elements-drop : (n i : ℕ) (l : List ℕ) → i + n ≤ length l → elements n i l ++ drop (i + n) l ≡ drop i l
-elements-drop zero i l h = rw add-zero
-elements-drop (suc n) i l h =
-    let e : i + suc n ≡ suc i + n = omega arith in
-    cc (elements-drop n (suc i) l (omega arith), drop-cons l i 0 (omega arith))
+pub length-listing : {A : Type 0} (f : ℕ → A) (k n : ℕ) → length (listing f k n) ≡ n
+unfolding listing
+length-listing f k zero = refl
+length-listing f k (suc n) = ap suc (length-listing f (suc k) n)
+
+-- the first n elements, written out
+listed : (n : ℕ) (l : List ℕ) → n ≤ length l → listing (λ i. getD l i 0) 0 n ≡ take n l
+listed n l h =
+    let s = length-listing (λ i. getD l i 0) 0 n in
+    ext-getD 0 (listing (λ i. getD l i 0) 0 n) (take n l) (s ∙ sym (length-take-le n l h))
+    (λ i b. let c : i < n = omega arith in cc (getD-listing (λ i. getD l i 0) 0 n i 0 c, zero-add i, getD-take n l i 0 c))
 
 pub low : (a b : ℕ) → a < 256 → (a + 256 * b) % 256 ≡ a
 low a b h = omega arith
@@ -113,22 +121,18 @@ byte2 a b c d h k l = omega arith
 pub byte3 : (a b c d : ℕ) → a < 256 → b < 256 → c < 256 → d < 256 → (a + 256 * b + 65536 * (c + 256 * d)) / 16777216 % 256 ≡ d
 byte3 a b c d h k l m = omega arith
 
-again : (n : ℕ) (x r : List ℕ) (i : ℕ) → x ≡ elements n 0 (drop i r) → i + n ≤ length r → x ++ drop (i + n) r ≡ drop i r
-again n x r i e h = cc (drop-drop n i r, zero-add n, elements-drop n 0 (drop i r) (simp length-drop (omega arith)))
+again : (n : ℕ) (x r : List ℕ) (i : ℕ) → x ≡ listing (λ k. getD (drop i r) k 0) 0 n → i + n ≤ length r → x ++ drop (i + n) r ≡ drop i r
+again n x r i e h = cc (listed n (drop i r) (simp length-drop (omega arith)), take-append-drop n (drop i r), drop-drop n i r)
 
--- nothing is left
-pub whole : (n : ℕ) (x c : List ℕ) → length c ≡ n → x ++ drop n c ≡ c → x ≡ c
-whole n x c l e = cc (append-nil x, drop-of-length-le c {i = n} (omega arith))
-
-pub all-again : (n : ℕ) (x c : List ℕ) → length c ≡ n → x ≡ elements n 0 c → x ≡ c
-all-again n x c l e = whole n x c l (cc (zero-add n, again n x c 0 e (omega arith)))
+pub all-again : (n : ℕ) (x c : List ℕ) → length c ≡ n → x ≡ listing (λ k. getD c k 0) 0 n → x ≡ c
+all-again n x c l e = cc (listed n c (omega arith), take-all n c (omega arith))
 
 pub rect-again : (r : List ℕ) (i : ℕ) → Bytes r → i + 8 ≤ length r → rectBytes (rectAt r i) ++ drop (i + 8) r ≡ drop i r
-unfolding Bytes
+unfolding Bytes listing
 rect-again r i b h = let d = bytes-drop i r b in again 8 (rectBytes (rectAt r i)) r i (ap rectBytes (rect-from r i) ∙ simp (low, high, d)) h
 
 pub four-again : (r : List ℕ) (i : ℕ) → Bytes r → i + 4 ≤ length r → fourBytes (four r i) ++ drop (i + 4) r ≡ drop i r
-unfolding Bytes
+unfolding Bytes listing
 four-again r i b h = let d = bytes-drop i r b in again 4 (fourBytes (four r i)) r i (ap fourBytes (four-from r i) ∙ simp (byte0, byte1, byte2, byte3, d)) h
 
 pub rects-again : (n : ℕ) (r : List ℕ) (i : ℕ) → Bytes r → i + 8 * n ≤ length r → rectsBytes (rectsAt n r i) ++ drop (i + 8 * n) r ≡ drop i r

@@ -1,11 +1,11 @@
 -- The record there and back, over any geometry: each part by its own law, the whole by the laws of lists of parts.
 use mathlib.Core.Path.{_≡_, refl, sym, ap, _∙_}
-use mathlib.Core.List.{List, [], _∷_, _++_, append-assoc, append-nil}
+use mathlib.Core.List.{List, [], _∷_, _++_, append-nil}
 use mathlib.Core.Bool.{Bool, true, false}
 use Prim.Native.Nat.{ℕ, zero, suc, _+_, _-_, _*_, _<_, _≤_}
 use native.Mathlib.Omega.{arith}
-use native.Mathlib.Nat.{add-zero, zero-add}
-use lib.ListN.{length, getD, drop, length-append, length-replicate, List·getD-eq-default}
+use native.Mathlib.Nat.{zero-add}
+use lib.ListN.{length, drop, length-append, length-replicate, drop-of-length-le, List·getD-eq-default}
 use lib.Seq.{drop-drop, drop-at, getD-set-same, getD-set-other, ext-getD}
 use borrow.Author.Tests.{ne-eqb}
 use Rattle.model.specs.declared.Head.{Head}
@@ -22,7 +22,7 @@ use Rattle.laws.specs.Memory.{length-window}
 use Rattle.laws.specs.Bands.{owed-fits, hand-fits}
 use Rattle.laws.specs.PartLists.{same-part, written-same, all-at, part-written, part-stored, parts-written}
 use Rattle.laws.specs.Flags.{flags-read, flags-written, length-flags, length-flagsIn}
-use Rattle.laws.specs.Layout.{bytes-drop, bytes-take, four-from, rect-from, whole, all-again, low, high, byte0, byte1, byte2, byte3, rect-again, four-again, rects-again, two-back, four-back, rect-back, rects-back, words-back, length-rects, length-rectsAt, length-words}
+use Rattle.laws.specs.Layout.{getD-listing, length-listing, bytes-drop, bytes-take, four-from, rect-from, all-again, low, high, byte0, byte1, byte2, byte3, rect-again, four-again, rects-again, two-back, four-back, rect-back, rects-back, words-back, length-rects, length-rectsAt, length-words}
 
 -- ---- which parts there are
 
@@ -98,20 +98,8 @@ bytes-part g q r b = bytes-take (size g q) (drop (at g q) r) (bytes-drop (at g q
 pending-again : (g : Geometry) (c : List ℕ) → Bytes c → length c ≡ pendingBytes g → bytesOfPending (pendingOf g c 0) ≡ c
 pending-again g c b l =
     let n = 8 * g .bands in
-    let e : pendingBytes g ≡ 0 + n + 8 + 4 = omega arith in
-    whole (pendingBytes g) (bytesOfPending (pendingOf g c 0)) c l
-    (cc (append-assoc _ _ _, four-again c (0 + n + 8) b (omega arith), rect-again c (0 + n) b (omega arith), rects-again (g .bands) c 0 b (omega arith)))
-
-getD-listing : {A : Type 0} (f : ℕ → A) (k n i : ℕ) (d : A) → i < n → getD (listing f k n) i d ≡ f (k + i)
-unfolding listing
-getD-listing f k zero i d h = absurd (omega arith)
-getD-listing f k (suc n) zero d h = ap f (sym (add-zero k))
-getD-listing f k (suc n) (suc i) d h = let e : suc k + i ≡ k + suc i = omega arith in getD-listing f (suc k) n i d (omega arith) ∙ ap f e
-
-length-listing : {A : Type 0} (f : ℕ → A) (k n : ℕ) → length (listing f k n) ≡ n
-unfolding listing
-length-listing f k zero = refl
-length-listing f k (suc n) = ap suc (length-listing f (suc k) n)
+    let e = drop-of-length-le c {i = 0 + n + 8 + 4} (omega arith) in
+    cc (four-again c (0 + n + 8) b (omega arith), rect-again c (0 + n) b (omega arith), rects-again (g .bands) c 0 b (omega arith))
 
 -- ---- decode, then encode
 
@@ -133,7 +121,7 @@ module _ (g : Geometry) (r : List ℕ) (k : Passing g r) where
 
   -- what is read of a part is written as its bytes
   part-again : (p : RecordPart) → has p (layout g) ≡ true → partBytes g (decode g r) p ≡ partIn g p r
-  unfolding partBytes decode partFits Bytes
+  unfolding partBytes decode partFits Bytes listing
   part-again head h = let b = bytes-part g head r (k .bytes) in all-again (size g head) _ (partIn g head r) (length-part g head r h (k .sized)) (simp (low, high, b))
   part-again (panel i) h =
       cc (panel-decoded g r i (panel-has g i (k .glass .one) h), pending-again g (partIn g (panel i) r) (bytes-part g (panel i) r (k .bytes)) (length-part g (panel i) r h (k .sized)))

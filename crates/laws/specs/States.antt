@@ -1,5 +1,5 @@
 -- A record that passes STATE means a well formed state, and the bytes of a well formed state pass.
-use mathlib.Core.Path.{_≡_, refl, sym, ap, _∙_}
+use mathlib.Core.Path.{_≡_, refl, ap, _∙_}
 use mathlib.Core.List.{List, [], _∷_, _++_}
 use mathlib.Core.Bool.{true}
 use Prim.Native.Nat.{ℕ, zero, suc, _+_, _*_, _<_}
@@ -7,8 +7,7 @@ use native.Mathlib.Omega.{arith}
 use Rattle.model.specs.declared.Rect.{Rect}
 use Rattle.model.specs.Geometry.{Geometry, cells}
 use Rattle.model.specs.Bytes.{wordsAt, four, rectBytes, rectsBytes, wordsBytes, fourBytes, Bytes, Words}
-use Rattle.model.specs.Flags.{flagsFit}
-use Rattle.model.specs.Record.{RecordPart, head, panel, keys, flags, has, layout, size, partIn, State, decode, encode, bytesOfHead, partBytes, panelOf, headFits, pendingFits, partFits, valid, WellFormed}
+use Rattle.model.specs.Record.{RecordPart, head, panel, keys, flags, has, layout, size, partIn, State, decode, encode, bytesOfHead, partBytes, panelOf, partFits, valid, WellFormed}
 use Rattle.model.specs.Glass.{IsGlass}
 use Rattle.laws.specs.Layout.{bytes-cons, bytes-nil, bytes-append, length-rectsAt}
 use Rattle.laws.specs.PartLists.{length-written, bytes-written, all-of}
