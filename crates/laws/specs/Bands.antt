@@ -57,7 +57,7 @@ joinOwed-marks w b lo m (r ∷ rs) x y hx hl hh i =
 pub owedLines-le : (w b lo : ℕ) (rs : List Rect) → BandsFit w b lo rs → owedLines rs ≤ length rs * b
 unfolding owedLines
 owedLines-le w b lo [] f = omega arith
-owedLines-le w b lo (r ∷ rs) f = let l = owedLines-le w b (lo + b) rs (f .1) in either (f .0) (λ e. omega (arith, ap linesOf e)) (λ p. omega (arith, p))
+owedLines-le w b lo (r ∷ rs) f = let l = owedLines-le w b (lo + b) rs (f .1) in either (f .0) (λ e. omega (arith, ap linesOf e)) (λ p. omega arith)
 
 -- ---- the first taken
 
@@ -75,9 +75,9 @@ taken w b lo hi [] f l = record { count = refl; rest = tt; first = inl refl; low
 taken w b lo hi (r ∷ rs) f l =
     by-test (isEmpty r)
     (λ e. let t = taken w b (lo + b) hi rs (f .1) (omega arith) in
-    rw e (record { count = ap suc (t .count); rest = (f .0, t .rest); first = t .first; low = t .low; sum = omega (arith, t .sum) }))
+    rw e (record { count = ap suc (t .count); rest = (f .0, t .rest); first = t .first; low = t .low; sum = omega arith }))
     (λ e. let p = is-some w lo (lo + b) r (f .0) e in
-    rw e (record { count = refl; rest = (inl refl, f .1); first = inr (omega (arith, p)); low = omega (arith, p); sum = omega arith }))
+    rw e (record { count = refl; rest = (inl refl, f .1); first = inr (omega arith); low = omega arith; sum = omega arith }))
 
 -- and no pixel is lost
 pub in-split : (rs : List Rect) (x y : ℕ) → InAny rs x y → In (firstOwed rs) x y ⊎ InAny (restOwed rs) x y
@@ -160,7 +160,7 @@ module _ (g : Geometry) (p : Pending) (w : WellPending g p) where
       let t = taken (width g) (g .band) 0 (height g) (p .owed) (owed-fits g p w) (rw (w .bands) (omega arith)) in
       if-cases (λ (q : Pending). WellPending g q × (linesOf (p .hand) ≤ g .band - 1 → linesOf (q .hand) ≤ g .band) × (linesLeft q ≡ linesLeft p)) (isEmpty (p .hand))
       (λ e. (well-pending g (record { owed = restOwed (p .owed); hand = firstOwed (p .owed); sent = p .sent }) (t .count ∙ w .bands) (t .rest) (t .first) (w .counted),
-      λ l. t .low, omega (arith, ap linesOf (empty-none (p .hand) e), t .sum)))
+      λ l. t .low, omega (arith, ap linesOf (empty-none (p .hand) e))))
       (λ e. (w, λ l. omega arith, refl))
 
   pub well-take : WellPending g (takeOwed p)

@@ -27,8 +27,7 @@ by-digits : (op : ℕ → ℕ → ℕ) (f : Bool → Bool → Bool)
     → allBelow 2 (λ i. allBelow 2 (digit-rule op f i)) ≡ true → (a b k : ℕ) → bitAt (op a b) k ≡ f (bitAt a k) (bitAt b k)
 unfolding bitAt
 by-digits op f shr low all a b k =
-    ap (λ (n : ℕ). eqb (n % 2) 1) (shr a b k) ∙ ap (λ (n : ℕ). eqb n 1) (low (a / 2 ^ k) (b / 2 ^ k) 1)
-    ∙ same-bool _ _ (every₂-at 2 2 (digit-rule op f) all (a / 2 ^ k % 2) (b / 2 ^ k % 2) (omega arith) (omega arith))
+    rw (shr a b k, low (a / 2 ^ k) (b / 2 ^ k) 1) (same-bool _ _ (every₂-at 2 2 (digit-rule op f) all (a / 2 ^ k % 2) (b / 2 ^ k % 2) (omega arith) (omega arith)))
 
 pub bitAt-and : (a b k : ℕ) → bitAt (bitAnd a b) k ≡ (bitAt a k && bitAt b k)
 bitAt-and = by-digits bitAnd _&&_ and-shr and-mod refl

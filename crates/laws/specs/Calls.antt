@@ -53,8 +53,7 @@ pub record Tested (g : Geometry) (c : Call) (l : Lent) : Type 0 where
 -- then the call's own tests decide
 pub own-decide : (g : Geometry) (c : Call) (l : Lent) → Tested g c l → refusal (refusals g c l) ≡ refusal (ownTests g c l)
 unfolding refusals refusal
-own-decide g c l e =
-    rw (eq-eqb (length (l .rec)) (recordBytes g) (e .sized), e .lengths) (refusal-append (stateTests g (takes c) l) (ownTests g c l) (e .state))
+own-decide g c l e = rw (eq-eqb (length (l .rec)) (recordBytes g) (e .sized), e .lengths) (refusal-append (stateTests g (takes c) l) (ownTests g c l) (e .state))
 
 numbered-state : (g : Geometry) (t : Lending) (l : Lent) → Numbered (stateTests g t l)
 numbered-state g to-open l = tt

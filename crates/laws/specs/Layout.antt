@@ -36,8 +36,7 @@ bytes-append (x ∷ a) b p q = bytes-cons x (a ++ b) (p 0) (bytes-append a b (λ
 
 pub bytes-take : (n : ℕ) (l : List ℕ) → Bytes l → Bytes (take n l)
 unfolding Bytes
-bytes-take n l b i =
-    by-lt i n (λ h. rw (getD-take n l i 0 h) (b i)) (λ h. rw (List·getD-eq-default (take n l) 0 {n = i} (simp length-take (omega arith))) (omega arith))
+bytes-take n l b i = by-lt i n (λ h. rw (getD-take n l i 0 h) (b i)) (λ h. rw (List·getD-eq-default (take n l) 0 {n = i} (simp length-take (omega arith))) (omega arith))
 
 -- ---- where the same bytes stand, the same is read
 
@@ -149,12 +148,12 @@ two-back n h = omega arith
 pub four-back : (n : ℕ) → n < 4294967296 → n % 256 + 256 * (n / 256 % 256) + 65536 * (n / 65536 % 256 + 256 * (n / 16777216 % 256)) ≡ n
 four-back n h =
     let k : n / 65536 % 256 + 256 * (n / 16777216 % 256) ≡ n / 65536 = cc (div-div-eq-div-mul n 65536 256, two-back (n / 65536) (omega arith)) in
-    omega (arith, k, div-div-eq-div-mul n 256 256)
+    omega (arith, div-div-eq-div-mul n 256 256)
 
 -- rectangles within limits of two bytes
 pub rect-back : (w lo hi : ℕ) (q : Rect) (l : List ℕ) → w < 65536 → hi < 65536 → Fits w lo hi q → rectAt (rectBytes q ++ l) 0 ≡ q
 rect-back w lo hi q l hw hh f = either f (λ z. rw z)
-    (λ p. rect-equal (two-back (q .left) (omega (arith, p))) (two-back (q .top) (omega (arith, p))) (two-back (q .right) (omega (arith, p))) (two-back (q .bottom) (omega (arith, p))))
+    (λ p. rect-equal (two-back (q .left) (omega arith)) (two-back (q .top) (omega arith)) (two-back (q .right) (omega arith)) (two-back (q .bottom) (omega arith)))
 
 pub rects-back : (w b lo : ℕ) (qs : List Rect) (l : List ℕ) → w < 65536 → lo + length qs * b < 65536 → BandsFit w b lo qs → rectsAt (length qs) (rectsBytes qs ++ l) 0 ≡ qs
 rects-back w b lo [] l hw h f = refl

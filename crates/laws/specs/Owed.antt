@@ -69,9 +69,9 @@ unfolding joined joinOwed
 join-goes {left = zero} k p e f g h = absurd (omega arith)
 join-goes {w} {band} {m} {r = r} {a} {lo} {left = suc n} {j = j} {r′ = r′} k p e f g h =
     let z : suc n - 1 ≡ n = omega arith in
-    let s : length r′ ≡ length r = cc (length-withWindow a (rectBytes j) r (omega (arith, k .room))) in
-    let t = window-extend a 8 (rectBytes j) (rectsBytes (joinOwed w band (lo + band) m (rectsAt n r (a + 8)))) r refl (omega (arith, k .room)) in
-    record { room = omega (arith, k .room); lines = rw z (omega (arith, k .lines)); sized = s ∙ k .sized; same = cc (rects-past n a j r (omega (arith, k .room))) }
+    let s : length r′ ≡ length r = cc (length-withWindow a (rectBytes j) r (omega arith)) in
+    let t = window-extend a 8 (rectBytes j) (rectsBytes (joinOwed w band (lo + band) m (rectsAt n r (a + 8)))) r refl (omega arith) in
+    record { room = omega arith; lines = rw z (omega arith); sized = s ∙ k .sized; same = cc (rects-past n a j r (omega arith)) }
 
 pub join-ends : (w band : ℕ) (m : Rect) (bands at : ℕ) (r₀ r : List ℕ) (a lo left : ℕ) → Joining w band m bands at r₀ r a lo left → left ≤ 0
     → r ≡ joined w band 0 m bands at r₀
@@ -107,9 +107,9 @@ unfolding rested restOwed firstOwed Bytes
 take-goes {left = zero} k p b e f g = absurd (omega arith)
 take-goes {r = r} {a} {left = suc n} k p b e f g =
     let z : suc n - 1 ≡ n = omega arith in
-    let again = owed-again 1 a r (rw (k .kept) b) (rw (k .kept) (omega (arith, k .room))) in
-    let t = window-extend a 8 (rectBytes (rectAt r a)) (rectsBytes (restOwed (rectsAt n r (a + 8)))) r refl (rw (k .kept) (omega (arith, k .room))) in
-    record { kept = k .kept; sized = k .sized; room = omega (arith, k .room); first = cc; rest = cc }
+    let again = owed-again 1 a r (rw (k .kept) b) (omega arith) in
+    let t = window-extend a 8 (rectBytes (rectAt r a)) (rectsBytes (restOwed (rectsAt n r (a + 8)))) r refl (omega arith) in
+    record { kept = k .kept; sized = k .sized; room = omega arith; first = cc; rest = cc }
 
 -- the first that owes anything
 pub take-finds : {bands at : ℕ} {r₀ r : List ℕ} {a left : ℕ} {q z : Rect} {t : Bool} {r′ : List ℕ} → Taking bands at r₀ r a left → 0 < left → ((i : ℕ) → getD r₀ i 0 < 256)
@@ -117,7 +117,7 @@ pub take-finds : {bands at : ℕ} {r₀ r : List ℕ} {a left : ℕ} {q z : Rect
 unfolding rested restOwed firstOwed Bytes
 take-finds {left = zero} k p b e f g h i = absurd (omega arith)
 take-finds {r = r} {a} {left = suc n} k p b e f g h i =
-    let t = window-tail a 8 (8 * n) (rectBytes none) (rectsBytes (rectsAt n r (a + 8))) r refl (length-read n r (a + 8)) (rects-again n r (a + 8) (rw (k .kept) b) (rw (k .kept) (omega (arith, k .room)))) in
+    let t = window-tail a 8 (8 * n) (rectBytes none) (rectsBytes (rectsAt n r (a + 8))) r refl (length-read n r (a + 8)) (rects-again n r (a + 8) (rw (k .kept) b) (omega arith)) in
     record { first = cc; rest = cc }
 
 pub take-ends : (bands at : ℕ) (r₀ r : List ℕ) (a left : ℕ) {z : Rect} → Taking bands at r₀ r a left → left ≤ 0 → z ≡ none → Took bands at r₀ z r
@@ -141,7 +141,7 @@ unfolding bandsFit
 test-goes {left = zero} k p e f = absurd (omega arith)
 test-goes {w} {band} {r = r} {ok} {a} {lo} {left = suc n} {t = t} k p e f =
     let z : suc n - 1 ≡ n = omega arith in
-    record { room = omega (arith, k .room); lines = rw z (omega (arith, k .lines)); same = cc (and-assoc ok t (bandsFit w band (lo + band) (rectsAt n r (a + 8)))) }
+    record { room = omega arith; lines = rw z (omega arith); same = cc (and-assoc ok t (bandsFit w band (lo + band) (rectsAt n r (a + 8)))) }
 
 pub test-ends : (w band bands at : ℕ) (r : List ℕ) (ok : Bool) (a lo left : ℕ) → Testing w band bands at r ok a lo left → left ≤ 0
     → ok ≡ bandsFit w band 0 (rectsAt bands r at)

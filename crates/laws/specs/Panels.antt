@@ -100,12 +100,12 @@ pub panel-room : (v : Glass) (k : ℕ) → Suits v → k < v .panels → at (geo
 panel-room v k z h = part-in (geometry v) (panel k) (has-panel (geometry v) k h)
 
 pub others-room : (v : Glass) (k : ℕ) → Suits v → k < v .panels → (k ≡ 0 → ⊥) → v .others + (k - 1) * v .pending ≤ 65535
-others-room v k z h n = let r = panel-room v k z h in let e = is-others-at v k z h n in omega (arith, z .glass .long)
+others-room v k z h n = let r = panel-room v k z h in let e = is-others-at v k z h n in omega arith
 
 -- what a panel's loop over bands asks
 pub join-room : {v : Glass} (r : List ℕ) {k a : ℕ} → Suits v → length r ≡ recordBytes (geometry v) → k < v .panels → a ≡ at (geometry v) (panel k)
     → (a + 8 * v .bands ≤ length r) × (v .bands * v .band ≤ 65535)
-join-room {v} r {k} z n h e = let p = panel-room v k z h in (omega arith, omega (arith, z .glass .high))
+join-room {v} r {k} z n h e = let p = panel-room v k z h in (omega arith, omega arith)
 
 -- and what follows the bands
 pub hand-room : {v : Glass} (r : List ℕ) {k a : ℕ} → Suits v → length r ≡ recordBytes (geometry v) → k < v .panels → a ≡ at (geometry v) (panel k)

@@ -208,20 +208,20 @@ head-equal e1 e2 e3 e4 e5 e6 e7 e8 e9 =
 pub head-back : (g : Geometry) (h : Head) → headFits g h ≡ true → headOf (bytesOfHead h) ≡ h
 head-back g h e =
     let n = head-tells g h e in
-    head-equal (two-back (h .graphics) (omega (arith, n))) (two-back (h .text) (omega (arith, n))) refl refl refl refl refl refl
+    head-equal (two-back (h .graphics) (omega arith)) (two-back (h .text) (omega arith)) refl refl refl refl refl refl
     (rect-back 256 0 256 (h .dirty) [] (omega arith) (omega arith) (passes-fits 256 0 256 (h .dirty) (n .dirty)))
 
 pub owed-back : (g : Geometry) (p : Pending) (l : List ℕ) → IsGlass g → WellPending g p → rectsAt (g .bands) (rectsBytes (p .owed) ++ l) 0 ≡ p .owed
-owed-back g p l k f = cc (rects-back (width g) (g .band) 0 (p .owed) l (omega (arith, k)) (rw (f .bands) (omega (arith, k))) (owed-fits g p f))
+owed-back g p l k f = cc (rects-back (width g) (g .band) 0 (p .owed) l (omega arith) (rw (f .bands) (omega arith)) (owed-fits g p f))
 
 pub pending-back : (g : Geometry) (p : Pending) → IsGlass g → WellPending g p → pendingOf g (bytesOfPending p) 0 ≡ p
 pending-back g p k f =
     let n = 0 + 8 * g .bands in
     let c = bytesOfPending p in
     let rest = rectBytes (p .hand) ++ fourBytes (p .sent) in
-    let here : drop n c ≡ rest = drop-at (rectsBytes (p .owed)) rest n (omega (arith, length-rects (p .owed), f .bands)) in
+    let here : drop n c ≡ rest = drop-at (rectsBytes (p .owed)) rest n (omega (arith, length-rects (p .owed))) in
     let there : drop (n + 8) c ≡ fourBytes (p .sent) = sym (drop-drop 8 n c) ∙ ap (drop 8) here in
-    let hand : rectAt c n ≡ p .hand = cc (rect-from c n, rect-back (width g) 0 (height g) (p .hand) (fourBytes (p .sent)) (omega (arith, k)) (omega (arith, k)) (hand-fits g p f)) in
+    let hand : rectAt c n ≡ p .hand = cc (rect-from c n, rect-back (width g) 0 (height g) (p .hand) (fourBytes (p .sent)) (omega arith) (omega arith) (hand-fits g p f)) in
     let sent : four c (n + 8) ≡ p .sent = cc (four-from c (n + 8), four-back (p .sent) (f .counted)) in
     λ i. record { owed = owed-back g p rest k f i; hand = hand i; sent = sent i }
 
@@ -272,8 +272,7 @@ put-head g h s l z = put-part g head s (withHead h s) l (has-head g) z refl (λ 
 
 pub put-keys : (g : Geometry) (ks : List ℕ) (s : State) → IsGlass g → Sized g s → length ks ≡ 8 → withWindow (at g keys) (wordsBytes ks) (encode g s) ≡ encode g (withKeyWords ks s)
 unfolding partBytes
-put-keys g ks s l z n =
-    put-part g keys s (withKeyWords ks s) l (has-keys g) z (cc (length-words ks)) (λ e. refl) (λ k e. refl) (λ e. clash true refl e) (λ e. refl)
+put-keys g ks s l z n = put-part g keys s (withKeyWords ks s) l (has-keys g) z (cc (length-words ks)) (λ e. refl) (λ k e. refl) (λ e. clash true refl e) (λ e. refl)
 
 pub put-flags : (g : Geometry) (fs : List Bool) (s : State) → IsGlass g → Sized g s → length fs ≡ cells g → withWindow (at g flags) (bytesOfFlags fs) (encode g s) ≡ encode g (withFlags fs s)
 unfolding partBytes

@@ -73,7 +73,7 @@ module _ {v : Glass} {r : List ℕ} (k : ℕ) (w : Known v r) (h : k < v .panels
       let g = geometry v in
       let p = panelOf g (decode g r) k in
       rw (line-sent e i)
-      (either (hand-fits g (takeOwed p) (well-take g p (well-formed g r (w .passing) .panels k h))) (λ z. rw z (omega arith)) (λ z. omega (arith, z, w .suits .glass .high)))
+      (either (hand-fits g (takeOwed p) (well-take g p (well-formed g r (w .passing) .panels k h))) (λ z. rw z (omega arith)) (λ z. omega arith))
 
   -- idle: the record stays
   pub idle : {a : ℕ} {q : Rect} {r′ : List ℕ} {t : Bool} → a ≡ at (geometry v) (panel k) → InHand (geometry v) a r q r′ → t ≡ isEmpty q → t ≡ true
@@ -86,7 +86,7 @@ module _ {v : Glass} {r : List ℕ} (k : ℕ) (w : Known v r) (h : k < v .panels
       let c = at g (panel k) in
       let room = panel-room v k (w .suits) h in
       let none : isEmpty (takeOwed p .hand) ≡ true = cc (line-sent e i) in
-      let same = owed-again (g .bands) c r (w .passing .bytes) (omega (arith, w .passing .sized)) in
+      let same = owed-again (g .bands) c r (w .passing .bytes) (omega arith) in
       let kept = ap (λ (l : List Pending). encode g (withPanels l s)) (set-getD (s .panels) k (nothingPending g)) in
       cc (panel-here, none-left g p (well-formed g r (w .passing) .panels k h) none .1, encode-decode g r (w .passing))
 
@@ -106,7 +106,7 @@ module _ {v : Glass} {r : List ℕ} (k : ℕ) (w : Known v r) (h : k < v .panels
       let count : length owed ≡ g .bands = well-take g p (well-formed g r (w .passing) .panels k h) .bands in
       let long : length (rectsBytes owed) ≡ 8 * v .bands = cc (length-rects owed) in
       let l : d + 8 * v .bands + 8 ≡ d + (8 * v .bands + 8) = omega arith in
-      let starts : d ≤ length r = omega (arith, w .passing .sized) in
+      let starts : d ≤ length r = omega arith in
       let two = window-extend d (8 * v .bands) (rectsBytes owed) (rectBytes n) r long starts in
       let three = window-extend d (8 * v .bands + 8) (rectsBytes owed ++ rectBytes n) (fourBytes c) r (omega (arith, length-append (rectsBytes owed) (rectBytes n))) starts in
       let put = put-panel g k (record { owed = owed; hand = n; sent = c }) st (w .suits .glass) (sized-decode g r (w .passing .sized)) h (count-decode g r) count in

@@ -60,7 +60,7 @@ words-bytes (w ∷ ws) = bytes-append (fourBytes w) (wordsBytes ws) (bytes-all (
 module _ (g : Geometry) (k : IsGlass g) (s : State) (f : WellFormed g s) where
   part-bytes : (p : RecordPart) → Bytes (partBytes g s p)
   unfolding partBytes
-  part-bytes head = let n = head-tells g (s .head) (f .head) in bytes-all (bytesOfHead (s .head)) (omega (arith, n, k))
+  part-bytes head = let n = head-tells g (s .head) (f .head) in bytes-all (bytesOfHead (s .head)) (omega arith)
   part-bytes (panel i) =
       let p = panelOf g s i in
       let rest = rectBytes (p .hand) ++ fourBytes (p .sent) in

@@ -25,4 +25,4 @@ module _ (g : Geometry) (z : IsGlass g) where
   unfolding pageOf
   page-sheet s m w h n k =
       let t = head-tells g (s .head) (w .head) in
-      record { wide = z .columns; text = length-window (s .head .text) (cells g) m h; flags = w .flags; row = t .row; room = omega (arith, t .column) }
+      record { wide = z .columns; text = length-window (s .head .text) (cells g) m h; flags = w .flags; row = t .row; room = omega arith }
