@@ -1,5 +1,5 @@
 -- Bytes by their bits: the bits of `&`, `|`, `^`, of a complement and of a masked change; two bytes with equal bits are equal, and two screens with equal pixels are.
-use mathlib.Core.Path.{_≡_, refl, sym, ap, ap₂, _∙_}
+use mathlib.Core.Path.{_≡_, refl, sym, ap₂, _∙_}
 use mathlib.Core.Bool.{Bool, true, false, cond, not, xor, _&&_, _||_, Bool·beq, and-true, and-false, or-false}
 use mathlib.Core.List.{List}
 use Prim.Native.Nat.{ℕ, zero, suc, _+_, _-_, _*_, _/_, _%_, _^_, _<_}

@@ -5,7 +5,6 @@ use Prim.Native.Nat.{ℕ, zero, suc, _+_, _*_, _/_, _%_, _<_, _≤_}
 use native.Mathlib.Nat.{add-zero, zero-add, add-assoc, div-div-eq-div-mul}
 use native.Mathlib.Omega.{arith}
 use lib.ListN.{length, getD, take, drop, length-take, length-drop, take-append-drop, List·getD-eq-default}
-use native.Mathlib.Numerals.{add-one}
 use lib.Seq.{length-take-le, take-all, drop-drop, ext-getD, getD-take, getD-drop}
 use Rattle.model.specs.declared.Rect.{Rect}
 use Rattle.model.specs.Bytes.{two, four, rectAt, rectsAt, wordsAt, fourBytes, rectBytes, rectsBytes, wordsBytes, Bytes, Words}
@@ -193,4 +192,4 @@ word-at (suc n) r k (suc i) h = let e : k + 4 + 4 * i ≡ k + 4 * suc i = omega 
 pub words-more : (ws : List ℕ) (i : ℕ) → i < length ws → wordsBytes (take (i + 1) ws) ≡ wordsBytes (take i ws) ++ fourBytes (getD ws i 0)
 words-more [] i h = absurd (omega arith)
 words-more (w ∷ ws) zero h = refl
-words-more (w ∷ ws) (suc i) h = rw (add-one (suc i)) (cc (words-more ws i (omega arith), add-one i))
+words-more (w ∷ ws) (suc i) h = let e : suc i + 1 ≡ suc (i + 1) = omega arith in rw e (cc (words-more ws i (omega arith)))

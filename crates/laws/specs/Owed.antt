@@ -5,7 +5,6 @@ use mathlib.Core.Bool.{Bool, true, false, _&&_, and-assoc, and-true}
 use mathlib.Core.List.{List, [], _++_, append-assoc}
 use Prim.Native.Nat.{ℕ, zero, suc, _+_, _-_, _*_, _<_, _≤_}
 use native.Mathlib.Omega.{arith}
-use native.Mathlib.Nat.{add-zero}
 use lib.ListN.{length, getD, take, drop, take-append-drop, length-append}
 use lib.Seq.{drop-at, length-take-le}
 use Rattle.model.specs.declared.Rect.{Rect}
@@ -25,7 +24,7 @@ band-in lo band (suc n) h p l = omega arith
 
 window-nothing : (a : ℕ) (r : List ℕ) → withWindow a [] r ≡ r
 unfolding withWindow
-window-nothing a r = cc (add-zero a, take-append-drop a r)
+window-nothing a r = let e : a + 0 ≡ a = omega arith in cc (take-append-drop a r)
 
 -- rectangles that stand there, stored again
 pub owed-again : (n a : ℕ) (r : List ℕ) → Bytes r → a + 8 * n ≤ length r → withWindow a (rectsBytes (rectsAt n r a)) r ≡ r

@@ -9,10 +9,8 @@ use lib.ListN.{length, getD, take, drop, length-drop, length-append, take-append
 use lib.Seq.{take-at, drop-at, drop-append-add, take-append-add, drop-drop}
 use borrow.Author.Tests.{eqb-true, eq-eqb, ne-eqb, not-true}
 use Rattle.model.specs.Memory.{window, withWindow}
-use Rattle.model.specs.Bytes.{Bytes}
 use Rattle.model.specs.Record.{RecordPart, head, panel, keys, flags, tag, samePart, has, distinct, written, total, offset, all}
 use Rattle.laws.specs.Tests.{tests, by-test, clash, and-true, or-left, or-right}
-use Rattle.laws.specs.Layout.{bytes-nil, bytes-append}
 
 -- ---- parts with one number are one part
 
@@ -63,11 +61,6 @@ pub length-written : (n : RecordPart → ℕ) (f : RecordPart → List ℕ) (ps 
 unfolding written total
 length-written n f [] e = refl
 length-written n f (p ∷ ps) e = omega (arith, length-append (f p) (written f ps), e p, length-written n f ps e)
-
-pub bytes-written : (f : RecordPart → List ℕ) (ps : List RecordPart) → ((p : RecordPart) → Bytes (f p)) → Bytes (written f ps)
-unfolding written
-bytes-written f [] b = bytes-nil
-bytes-written f (p ∷ ps) b = bytes-append (f p) (written f ps) (b p) (bytes-written f ps b)
 
 -- ---- the bytes of a part in those of all
 

@@ -4,7 +4,6 @@ use mathlib.Core.List.{List, [], _∷_, _++_, append-nil}
 use mathlib.Core.Bool.{Bool, true, false}
 use Prim.Native.Nat.{ℕ, zero, suc, _+_, _-_, _*_, _<_, _≤_}
 use native.Mathlib.Omega.{arith}
-use native.Mathlib.Nat.{zero-add}
 use lib.ListN.{length, drop, length-append, length-replicate, drop-of-length-le, List·getD-eq-default}
 use lib.Seq.{drop-drop, drop-at, getD-set-same, getD-set-other, ext-getD}
 use borrow.Author.Tests.{ne-eqb}
@@ -112,7 +111,7 @@ pub record Passing (g : Geometry) (r : List ℕ) : Type 0 where
 
 pub panel-decoded : (g : Geometry) (r : List ℕ) (i : ℕ) → i < g .panels → panelOf g (decode g r) i ≡ pendingOf g (partIn g (panel i) r) 0
 unfolding decode
-panel-decoded g r i h = cc (getD-listing (λ j. pendingOf g (partIn g (panel j) r) 0) 0 (g .panels) i (nothingPending g) h, zero-add i)
+panel-decoded g r i h = let e : 0 + i ≡ i = omega arith in cc (getD-listing (λ j. pendingOf g (partIn g (panel j) r) 0) 0 (g .panels) i (nothingPending g) h)
 
 module _ (g : Geometry) (r : List ℕ) (k : Passing g r) where
   pub part-passes : (p : RecordPart) → has p (layout g) ≡ true → partFits g p (partIn g p r) ≡ true

@@ -7,10 +7,10 @@ use native.Mathlib.Omega.{arith}
 use Rattle.model.specs.declared.Rect.{Rect}
 use Rattle.model.specs.Geometry.{Geometry, cells}
 use Rattle.model.specs.Bytes.{wordsAt, four, rectBytes, rectsBytes, wordsBytes, fourBytes, Bytes, Words}
-use Rattle.model.specs.Record.{RecordPart, head, panel, keys, flags, has, layout, size, partIn, State, decode, encode, bytesOfHead, partBytes, panelOf, partFits, valid, WellFormed}
+use Rattle.model.specs.Record.{RecordPart, written, head, panel, keys, flags, has, layout, size, partIn, State, decode, encode, bytesOfHead, partBytes, panelOf, partFits, valid, WellFormed}
 use Rattle.model.specs.Glass.{IsGlass}
 use Rattle.laws.specs.Layout.{bytes-cons, bytes-nil, bytes-append, length-rectsAt}
-use Rattle.laws.specs.PartLists.{length-written, bytes-written, all-of}
+use Rattle.laws.specs.PartLists.{length-written, all-of}
 use Rattle.laws.specs.Flags.{length-flagsIn, flags-fit, flags-bytes}
 use Rattle.laws.specs.Record.{Passing, head-tells, part-passes, has-head, has-flags, has-panel, panel-has, length-part, bytes-part, panel-decoded, count-decode, well-sized, sizes, part-encode, head-back, pending-back}
 
@@ -56,6 +56,11 @@ rects-bytes (q ∷ qs) = bytes-append (rectBytes q) (rectsBytes qs) (bytes-all (
 words-bytes : (ws : List ℕ) → Bytes (wordsBytes ws)
 words-bytes [] = bytes-nil
 words-bytes (w ∷ ws) = bytes-append (fourBytes w) (wordsBytes ws) (bytes-all (fourBytes w) (omega arith)) (words-bytes ws)
+
+bytes-written : (f : RecordPart → List ℕ) (ps : List RecordPart) → ((p : RecordPart) → Bytes (f p)) → Bytes (written f ps)
+unfolding written
+bytes-written f [] b = bytes-nil
+bytes-written f (p ∷ ps) b = bytes-append (f p) (written f ps) (b p) (bytes-written f ps b)
 
 module _ (g : Geometry) (k : IsGlass g) (s : State) (f : WellFormed g s) where
   part-bytes : (p : RecordPart) → Bytes (partBytes g s p)
