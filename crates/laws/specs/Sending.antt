@@ -36,25 +36,16 @@ pub record InHand (g : Geometry) (a : ℕ) (r : List ℕ) (q : Rect) (r′ : Lis
 pub hand-full : (g : Geometry) (a : ℕ) (r : List ℕ) {q : Rect} {t : Bool} → ((i : ℕ) → getD r i 0 < 256) → a + 8 * g .bands ≤ length r
     → q ≡ rectAt r (a + 8 * g .bands) → t ≡ isEmpty q → t ≡ false → InHand g a r q r
 unfolding takeOwed Bytes
-hand-full g a r b h e f k =
-    let y : isEmpty (rectAt r (a + 8 * g .bands)) ≡ false = cc in
-    record { hand = rw y e; owed = rw y (sym (owed-again (g .bands) a r b h)) }
+hand-full g a r b h e f k = record { hand = cc; owed = cc (owed-again (g .bands) a r b h) }
 
 pub hand-taken : (g : Geometry) (a : ℕ) (r : List ℕ) {q p : Rect} {t : Bool} {r′ : List ℕ} → q ≡ rectAt r (a + 8 * g .bands) → t ≡ isEmpty q → t ≡ true
     → Took (g .bands) a r p r′ → InHand g a r p r′
 unfolding takeOwed rested
-hand-taken g a r e f k w =
-    let y : isEmpty (rectAt r (a + 8 * g .bands)) ≡ true = cc in
-    record { hand = rw y (w .first); owed = rw y (w .rest) }
+hand-taken g a r e f k w = record { hand = cc; owed = cc }
 
--- ---- a line sent
-
-send-line : (p : Pending) → isEmpty (takeOwed p .hand) ≡ false
-    → record { owed = takeOwed p .owed; hand = nextLine (takeOwed p .hand); sent = min (p .sent + 1) 4294967295 } ≡ sendPending p
-unfolding sendPending lineSent takeOwed
-send-line p e =
-    let sent : takeOwed p .sent ≡ p .sent = if-cases (λ (q : Pending). q .sent ≡ p .sent) (isEmpty (p .hand)) (λ t. refl) (λ t. refl) in
-    rw e (cc)
+taken-sent : (p : Pending) → takeOwed p .sent ≡ p .sent
+unfolding takeOwed
+taken-sent p = if-cases (λ (q : Pending). q .sent ≡ p .sent) (isEmpty (p .hand)) (λ t. refl) (λ t. refl)
 
 -- ---- as the code goes, with the glass by value
 
@@ -95,6 +86,7 @@ module _ {v : Glass} {r : List ℕ} (k : ℕ) (w : Known v r) (h : k < v .panels
       → n ≡ nextLine q → s ≡ withWindow (a + 8 * v .bands) (rectBytes n) r′ → c ≡ min (four r (a + 8 * v .bands + 8) + 1) 4294967295
       → t ≡ withWindow (a + 8 * v .bands + 8) (fourBytes c) s
       → t ≡ encode (geometry v) (withPanel k (sendPending (panelOf (geometry v) (decode (geometry v) r) k)) (decode (geometry v) r))
+  unfolding sendPending lineSent
   sends {a} {q} {n} {c} e i f y m s j t =
       let g = geometry v in
       let st = decode g r in
@@ -110,7 +102,7 @@ module _ {v : Glass} {r : List ℕ} (k : ℕ) (w : Known v r) (h : k < v .panels
       let two = window-extend d (8 * v .bands) (rectsBytes owed) (rectBytes n) r long starts in
       let three = window-extend d (8 * v .bands + 8) (rectsBytes owed ++ rectBytes n) (fourBytes c) r (omega (arith, length-append (rectsBytes owed) (rectBytes n))) starts in
       let put = put-panel g k (record { owed = owed; hand = n; sent = c }) st (w .suits .glass) (sized-decode g r (w .passing .sized)) h (count-decode g r) count in
-      cc (panel-here, line-sent e i, encode-decode g r (w .passing), send-line p some, append-assoc (rectsBytes owed) (rectBytes n) (fourBytes c))
+      cc (panel-here, line-sent e i, encode-decode g r (w .passing), taken-sent p, append-assoc (rectsBytes owed) (rectBytes n) (fourBytes c))
 
 -- the rectangle whose top line is sent, and the record
 pub record SentOn (v : Glass) (k : ℕ) (r : List ℕ) (q : Rect) (r′ : List ℕ) : Type 0 where
