@@ -48,9 +48,7 @@ unfolding all has
 all-at t [] p e h = clash false h refl
 all-at t (q ∷ ps) p e h =
     let k = and-true (t q) (all t ps) e in
-    by-test (samePart p q)
-    (λ s. ap t (same-part p q s) ∙ k .0)
-    (λ s. all-at t ps p (k .1) (rw s at h))
+    by-test (samePart p q) (λ s. cc (same-part p q s)) (λ s. all-at t ps p (k .1) (rw s at h))
 
 pub all-of : (t : RecordPart → Bool) (ps : List RecordPart) → ((p : RecordPart) → has p ps ≡ true → t p ≡ true) → all t ps ≡ true
 unfolding all has

@@ -77,9 +77,7 @@ offset-fits : (n : RecordPart → ℕ) (q : RecordPart) (ps : List RecordPart) �
 unfolding has offset total
 offset-fits n q [] h = clash false h refl
 offset-fits n q (p ∷ ps) h =
-    by-test (samePart q p)
-    (λ e. rw e (let s = ap n (same-part q p e) in omega arith))
-    (λ e. rw e (let r = offset-fits n q ps (rw e at h) in omega arith))
+    by-test (samePart q p) (λ e. rw e (omega (arith, ap n (same-part q p e)))) (λ e. rw e (omega (arith, offset-fits n q ps (rw e at h))))
 
 -- a part ends within its record
 pub part-in : (g : Geometry) (q : RecordPart) → has q (layout g) ≡ true → at g q + size g q ≤ recordBytes g
@@ -163,9 +161,7 @@ part-encode g s z p h = part-written (size g) (partBytes g s) p (layout g) (size
 pub all-owed : (g : Geometry) (s : State) → length (s .panels) ≡ g .panels → ((k : ℕ) → k < g .panels → length (panelOf g s k .owed) ≡ g .bands)
     → (k : ℕ) → length (panelOf g s k .owed) ≡ g .bands
 unfolding nothingPending
-all-owed g s n e k =
-    by-lt k (g .panels) (e k)
-    (λ l. ap (λ (p : Pending). length (p .owed)) (List·getD-eq-default (s .panels) (nothingPending g) {n = k} (omega arith)) ∙ length-replicate (g .bands) none)
+all-owed g s n e k = by-lt k (g .panels) (e k) (λ l. cc (List·getD-eq-default (s .panels) (nothingPending g) {n = k} (omega arith), length-replicate (g .bands) none))
 
 pub sized-decode : (g : Geometry) (r : List ℕ) → length r ≡ recordBytes g → Sized g (decode g r)
 unfolding decode

@@ -1,5 +1,5 @@
 -- A send on the bytes of a panel's part: what is owed moves into hand, the hand loses a line, the count gains one.
-use mathlib.Core.Path.{_≡_, refl, sym, ap, _∙_}
+use mathlib.Core.Path.{_≡_, refl, ap, _∙_}
 use mathlib.Core.Bool.{Bool, true, false}
 use mathlib.Core.List.{List, _++_, append-assoc}
 use Prim.Native.Nat.{ℕ, _+_, _*_, _<_, _≤_, min}
@@ -13,7 +13,7 @@ use Rattle.model.specs.Glass.{geometry}
 use Rattle.model.specs.Memory.{withWindow}
 use Rattle.model.specs.Rects.{none, isEmpty}
 use Rattle.model.specs.Bytes.{rectAt, rectBytes, rectsBytes, four, fourBytes, Bytes}
-use Rattle.model.specs.Record.{panel, at, Pending, decode, encode, pendingOf, panelOf, nothingPending, withPanel, withPanels}
+use Rattle.model.specs.Record.{panel, at, Pending, decode, encode, pendingOf, panelOf, nothingPending, withPanel, withPanels, WellPending}
 use Rattle.model.specs.Sends.{takeOwed, nextLine, lineSent, sendPending}
 use Rattle.laws.specs.Tests.{if-cases, either}
 use Rattle.laws.specs.Rects.{Proper}
@@ -54,17 +54,16 @@ module _ {v : Glass} {r : List ℕ} (k : ℕ) (w : Known v r) (h : k < v .panels
   panel-here : panelOf (geometry v) (decode (geometry v) r) k ≡ pendingOf (geometry v) r (at (geometry v) (panel k))
   panel-here = panel-decoded (geometry v) r k h ∙ pending-part (geometry v) r k
 
+  well : WellPending (geometry v) (panelOf (geometry v) (decode (geometry v) r) k)
+  well = well-formed (geometry v) r (w .passing) .panels k h
+
   pub line-sent : {a : ℕ} {q : Rect} {r′ : List ℕ} → a ≡ at (geometry v) (panel k)
       → InHand (geometry v) a r q r′ → q ≡ takeOwed (panelOf (geometry v) (decode (geometry v) r) k) .hand
   line-sent e i = cc panel-here
 
   -- what is in hand lies on the screen, so that a line can follow its top
   pub line-follows : {a : ℕ} {q : Rect} {r′ : List ℕ} → a ≡ at (geometry v) (panel k) → InHand (geometry v) a r q r′ → q .top < 65535
-  line-follows e i =
-      let g = geometry v in
-      let p = panelOf g (decode g r) k in
-      rw (line-sent e i)
-      (either (hand-fits g (takeOwed p) (well-take g p (well-formed g r (w .passing) .panels k h))) (λ z. rw z (omega arith)) (λ z. omega arith))
+  line-follows e i = rw (line-sent e i) (either (hand-fits _ _ (well-take _ _ well)) (λ z. rw z (omega arith)) (λ z. omega arith))
 
   -- idle: the record stays
   pub idle : {a : ℕ} {q : Rect} {r′ : List ℕ} {t : Bool} → a ≡ at (geometry v) (panel k) → InHand (geometry v) a r q r′ → t ≡ isEmpty q → t ≡ true
@@ -79,7 +78,7 @@ module _ {v : Glass} {r : List ℕ} (k : ℕ) (w : Known v r) (h : k < v .panels
       let none : isEmpty (takeOwed p .hand) ≡ true = cc (line-sent e i) in
       let same = owed-again (g .bands) c r (w .passing .bytes) (omega arith) in
       let kept = ap (λ (l : List Pending). encode g (withPanels l s)) (set-getD (s .panels) k (nothingPending g)) in
-      cc (panel-here, none-left g p (well-formed g r (w .passing) .panels k h) none .1, encode-decode g r (w .passing))
+      cc (panel-here, none-left g p well none .1, encode-decode g r (w .passing))
 
   -- a line sent
   pub sends : {a : ℕ} {q n : Rect} {c : ℕ} {r′ s t : List ℕ} {u : Bool} → a ≡ at (geometry v) (panel k) → InHand (geometry v) a r q r′ → u ≡ isEmpty q → u ≡ false
@@ -95,7 +94,7 @@ module _ {v : Glass} {r : List ℕ} (k : ℕ) (w : Known v r) (h : k < v .panels
       let room = panel-room v k (w .suits) h in
       let some : isEmpty (takeOwed p .hand) ≡ false = cc (line-sent e i) in
       let owed = takeOwed p .owed in
-      let count : length owed ≡ g .bands = well-take g p (well-formed g r (w .passing) .panels k h) .bands in
+      let count : length owed ≡ g .bands = well-take g p well .bands in
       let long : length (rectsBytes owed) ≡ 8 * v .bands = cc (length-rects owed) in
       let l : d + 8 * v .bands + 8 ≡ d + (8 * v .bands + 8) = omega arith in
       let starts : d ≤ length r = omega arith in
@@ -112,7 +111,4 @@ pub record SentOn (v : Glass) (k : ℕ) (r : List ℕ) (q : Rect) (r′ : List �
 -- the line that is sent lies on the screen
 pub sent-proper : {v : Glass} {k : ℕ} {r : List ℕ} {q : Rect} {r′ : List ℕ} {t : Bool} → Known v r → k < v .panels → SentOn v k r q r′ → t ≡ isEmpty q → t ≡ false
     → Proper (width (geometry v)) 0 (height (geometry v)) q
-sent-proper {v} {k} {r} w h i e f =
-    let g = geometry v in
-    let p = panelOf g (decode g r) k in
-    rw (i .line) (to-send g p (well-formed g r (w .passing) .panels k h) (cc))
+sent-proper {k = k} w h i e f = rw (i .line) (to-send _ _ (well k w h) (cc))
