@@ -32,7 +32,7 @@ unfolding joinOwed
 length-joinOwed w b lo m [] = refl
 length-joinOwed w b lo m (r ∷ rs) = ap suc (length-joinOwed w b (lo + b) m rs)
 
-pub joinOwed-fits : (w b lo : ℕ) (m : Rect) (rs : List Rect) → BandsFit w b lo rs → BandsFit w b lo (joinOwed w b lo m rs)
+joinOwed-fits : (w b lo : ℕ) (m : Rect) (rs : List Rect) → BandsFit w b lo rs → BandsFit w b lo (joinOwed w b lo m rs)
 unfolding joinOwed
 joinOwed-fits w b lo m [] f = tt
 joinOwed-fits w b lo m (r ∷ rs) f = (join-fits w lo (lo + b) r (cut w lo (lo + b) m) (f .0) (cut-fits w lo (lo + b) m), joinOwed-fits w b (lo + b) m rs (f .1))
@@ -54,7 +54,7 @@ joinOwed-marks w b lo m (r ∷ rs) x y hx hl hh i =
 
 -- ---- owedLines
 
-pub owedLines-le : (w b lo : ℕ) (rs : List Rect) → BandsFit w b lo rs → owedLines rs ≤ length rs * b
+owedLines-le : (w b lo : ℕ) (rs : List Rect) → BandsFit w b lo rs → owedLines rs ≤ length rs * b
 unfolding owedLines
 owedLines-le w b lo [] f = omega arith
 owedLines-le w b lo (r ∷ rs) f = let l = owedLines-le w b (lo + b) rs (f .1) in either (f .0) (λ e. omega (arith, ap linesOf e)) (λ p. omega arith)
@@ -125,7 +125,7 @@ module _ (g : Geometry) (p : Pending) where
   unfolding pendingFits
   hand-fits w = passes-fits (width g) 0 (height g) (p .hand) (and-true (bandsFit (width g) (g .band) 0 (p .owed)) (fits (width g) 0 (height g) (p .hand)) (w .passes) .1)
 
-  pub well-pending : length (p .owed) ≡ g .bands → BandsFit (width g) (g .band) 0 (p .owed) → Fits (width g) 0 (height g) (p .hand) → p .sent < 4294967296
+  well-pending : length (p .owed) ≡ g .bands → BandsFit (width g) (g .band) 0 (p .owed) → Fits (width g) 0 (height g) (p .hand) → p .sent < 4294967296
       → WellPending g p
   unfolding pendingFits
   well-pending n o h c = record { passes = λ i. bands-out (width g) (g .band) 0 (p .owed) o i && fits-passes (width g) 0 (height g) (p .hand) h i; bands = n; counted = c }

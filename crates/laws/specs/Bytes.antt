@@ -80,7 +80,7 @@ byte-sum : (b : ℕ) → b < 256 → b ≡ sum 8 (bitAt b)
 unfolding bitAt
 byte-sum b h = eqb-true _ _ (every-at 256 (λ b. eqb b (sum 8 (bitAt b))) refl b h)
 
-pub byte-equal : (a b : ℕ) → a < 256 → b < 256 → ((k : ℕ) → k < 8 → bitAt a k ≡ bitAt b k) → a ≡ b
+byte-equal : (a b : ℕ) → a < 256 → b < 256 → ((k : ℕ) → k < 8 → bitAt a k ≡ bitAt b k) → a ≡ b
 byte-equal a b ha hb e = byte-sum a ha ∙ sum-same 8 (bitAt a) (bitAt b) e ∙ sym (byte-sum b hb)
 
 -- ---- lists of bytes

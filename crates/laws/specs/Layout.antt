@@ -78,7 +78,7 @@ module _ (r : List ℕ) (i : ℕ) where
   pub rects-from : (n : ℕ) → rectsAt n r i ≡ rectsAt n (drop i r) 0
   rects-from n = cc (rects-alike (left-alike (8 * n)) n 0 (omega arith), add-zero i)
 
-  pub words-from : (n : ℕ) → wordsAt n r i ≡ wordsAt n (drop i r) 0
+  words-from : (n : ℕ) → wordsAt n r i ≡ wordsAt n (drop i r) 0
   words-from n = cc (words-alike (left-alike (4 * n)) n 0 (omega arith), add-zero i)
 
 -- ---- read, then written: the bytes again

@@ -17,7 +17,7 @@ use Rattle.model.specs.Sends.{firstOwed, restOwed}
 use Rattle.laws.specs.Memory.{window-extend, length-withWindow}
 use Rattle.laws.specs.Layout.{rects-from, rects-again, length-read}
 
--- the band that comes ends within them
+-- the band that comes ends within the lines of the bands that are left
 pub band-in : (lo band left h : ℕ) → 0 < left → lo + left * band ≤ h → lo + band ≤ h
 band-in lo band zero h p l = absurd (omega arith)
 band-in lo band (suc n) h p l = omega arith
