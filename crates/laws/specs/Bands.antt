@@ -158,10 +158,9 @@ module _ (g : Geometry) (p : Pending) (w : WellPending g p) where
   unfolding takeOwed linesLeft
   moved =
       let t = taken (width g) (g .band) 0 (height g) (p .owed) (owed-fits g p w) (rw (w .bands) (omega arith)) in
+      let new = well-pending g (record { owed = restOwed (p .owed); hand = firstOwed (p .owed); sent = p .sent }) (t .count ∙ w .bands) (t .rest) (t .first) (w .counted) in
       if-cases (λ (q : Pending). WellPending g q × (linesOf (p .hand) ≤ g .band - 1 → linesOf (q .hand) ≤ g .band) × (linesLeft q ≡ linesLeft p)) (isEmpty (p .hand))
-      (λ e. (well-pending g (record { owed = restOwed (p .owed); hand = firstOwed (p .owed); sent = p .sent }) (t .count ∙ w .bands) (t .rest) (t .first) (w .counted),
-      λ l. t .low, omega (arith, ap linesOf (empty-none (p .hand) e))))
-      (λ e. (w, λ l. omega arith, refl))
+      (λ e. (new, λ l. t .low, omega (arith, ap linesOf (empty-none (p .hand) e)))) (λ e. (w, λ l. omega arith, refl))
 
   pub well-take : WellPending g (takeOwed p)
   well-take = moved .0

@@ -73,7 +73,7 @@ opens {v} {h = h} r graphics text version ks z n m e t f k q j =
     let first = put-head g h (clear g (headOf []) p (keysOf [])) (z .glass) (clear-sized g (headOf []) p (keysOf []) count refl) in
     let second = put-keys g ks (clear g h p (keysOf [])) (z .glass) (clear-sized g h p (keysOf []) count refl) m in
     let third = marks-state g all (z .glass) (clear g h p ks) (length-replicate (g .panels) p) (clear-sized g h p ks count m)
-        (λ i l. rw (getD-replicate (v .panels) i p p l) (well-nothing g)) in
+    (λ i l. rw (getD-replicate (v .panels) i p p l) (well-nothing g)) in
     cc (zeros-encode g (z .glass), map-replicate (owing g all) (g .panels) p)
 
 -- what open wrote: its keys read again

@@ -36,8 +36,8 @@ mark-panel g m s k l z c h b =
     let n = 8 * g .bands in
     let t = rectBytes (p .hand) ++ fourBytes (p .sent) in
     let rest = drop (a + pendingBytes g) r in
-    let here : drop a r ≡ rectsBytes (p .owed) ++ (t ++ rest) = cc (take-append-drop (pendingBytes g) (drop a r), part-encode g s z (panel k) (has-panel g k h),
-        drop-drop (pendingBytes g) a r, append-assoc (rectsBytes (p .owed)) t rest) in
+    let part = part-encode g s z (panel k) (has-panel g k h) in
+    let here : drop a r ≡ rectsBytes (p .owed) ++ (t ++ rest) = cc (take-append-drop (pendingBytes g) (drop a r), drop-drop (pendingBytes g) a r, append-assoc (rectsBytes (p .owed)) t rest) in
     let there : drop (a + n) r ≡ t ++ rest = cc (drop-drop n a r, drop-at (rectsBytes (p .owed)) (t ++ rest) n (cc (length-rects (p .owed), z .owed k))) in
     let owed : rectsAt (g .bands) r a ≡ p .owed = cc (rects-from r a (g .bands), owed-back g p (t ++ rest) l b) in
     let new = joinOwed (width g) (g .band) 0 m (p .owed) in
@@ -65,8 +65,8 @@ module _ (g : Geometry) (m : Rect) (l : IsGlass g) where
       let u : k < g .panels = omega (arith, ap length e, length-append a (x ∷ b)) in
       let here : set (s .panels) k p ≡ (a ++ (q ∷ [])) ++ b = cc (set-at a x b p k n, getD-at a x b (nothingPending g) k n, append-snoc a q b) in
       let rest = marks-from (a ++ (q ∷ [])) b (suc k) (withPanel k p s) here (omega (arith, length-append a (q ∷ []))) (length-set (s .panels) k p ∙ c)
-          (sized-panel g k p s z (omega arith) (length-owing g m (panelOf g s k) ∙ z .owed k))
-          (λ i o j. rw (getD-set-other (s .panels) k i p (nothingPending g) (λ x. omega arith)) (h i (omega arith) j)) in
+      (sized-panel g k p s z (omega arith) (length-owing g m (panelOf g s k) ∙ z .owed k))
+      (λ i o j. rw (getD-set-other (s .panels) k i p (nothingPending g) (λ x. omega arith)) (h i (omega arith) j)) in
       cc (mark-panel g m s k l z c u (h k (omega arith) u), append-snoc a q (map (owing g m) b))
 
   -- a state with the mark joined to what each panel is owed

@@ -102,5 +102,5 @@ module _ (n : RecordPart → ℕ) where
       let a = and-true (not (has p ps)) (distinct ps) d in
       let rest = drop (n p) r in
       let same = written-same (λ q. window (offset n q (p ∷ ps)) (n q) r) (λ q. window (offset n q ps) (n q) rest) ps
-          (λ q h. rw (other p q ps (not-true (has p ps) (a .0)) h) (ap (take (n q)) (sym (drop-drop (offset n q ps) (n p) r)))) in
+      (λ q h. rw (other p q ps (not-true (has p ps) (a .0)) h) (ap (take (n q)) (sym (drop-drop (offset n q ps) (n p) r)))) in
       rw (same-self p) (cc (parts-written rest ps (a .1) (simp length-drop (omega arith)), take-append-drop (n p) r))

@@ -231,7 +231,7 @@ decode-encode g s k f =
     let r = encode g s in
     let b = part-encode g s z in
     let panels = ext-getD (nothingPending g) (decode g r .panels) (s .panels) (count-decode g r ∙ sym (f .count))
-        (λ j o. let h : j < g .panels = omega (arith, count-decode g r) in cc (panel-decoded g r j h, b (panel j) (has-panel g j h), pending-back g (panelOf g s j) k (f .panels j h))) in
+    (λ j o. let h : j < g .panels = omega (arith, count-decode g r) in cc (panel-decoded g r j h, b (panel j) (has-panel g j h), pending-back g (panelOf g s j) k (f .panels j h))) in
     λ i. record {
       head = (ap headOf (b head (has-head g)) ∙ head-back g (s .head) (f .head)) i;
       panels = panels i;
