@@ -1,5 +1,5 @@
 -- Bytes by their bits: the bits of `&`, `|`, `^`, of a complement and of a masked change; two bytes with equal bits are equal, and two screens with equal pixels are.
-use mathlib.Core.Path.{_≡_, refl, sym, ap₂, _∙_}
+use mathlib.Core.Path.{_≡_, refl, sym, _∙_}
 use mathlib.Core.Bool.{Bool, true, false, cond, not, xor, _&&_, _||_, Bool·beq, and-true, and-false, or-false}
 use mathlib.Core.List.{List}
 use Prim.Native.Nat.{ℕ, zero, suc, _+_, _-_, _*_, _/_, _%_, _^_, _<_}
@@ -72,16 +72,14 @@ abbrev sum : ℕ → (ℕ → Bool) → ℕ
 sum zero f = 0
 sum (suc n) f = cond (f n) (2 ^ n) 0 + sum n f
 
-sum-same : (n : ℕ) (f g : ℕ → Bool) → ((k : ℕ) → k < n → f k ≡ g k) → sum n f ≡ sum n g
-sum-same zero f g e = refl
-sum-same (suc n) f g e = ap₂ (λ (t : Bool) (m : ℕ). cond t (2 ^ n) 0 + m) (e n (omega arith)) (sum-same n f g (λ k h. e k (omega arith)))
-
 byte-sum : (b : ℕ) → b < 256 → b ≡ sum 8 (bitAt b)
 unfolding bitAt
 byte-sum b h = eqb-true _ _ (every-at 256 (λ b. eqb b (sum 8 (bitAt b))) refl b h)
 
 byte-equal : (a b : ℕ) → a < 256 → b < 256 → ((k : ℕ) → k < 8 → bitAt a k ≡ bitAt b k) → a ≡ b
-byte-equal a b ha hb e = byte-sum a ha ∙ sum-same 8 (bitAt a) (bitAt b) e ∙ sym (byte-sum b hb)
+byte-equal a b ha hb e =
+    let bits : (k : ℕ) → k + 1 - 8 ≡ 0 → bitAt a k ≡ bitAt b k = λ k h. e k (omega arith) in
+    byte-sum a ha ∙ (simp bits) ∙ sym (byte-sum b hb)
 
 -- ---- lists of bytes
 

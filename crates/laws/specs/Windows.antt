@@ -1,17 +1,16 @@
 -- What is read from a window of bytes is read from them at its place: so code reads each part where it stands.
 use mathlib.Core.Path.{_≡_}
 use mathlib.Core.List.{List}
-use Prim.Native.Nat.{ℕ, _+_, _*_}
+use Prim.Native.Nat.{ℕ, _+_, _-_, _*_}
 use native.Mathlib.Omega.{arith}
 use native.Mathlib.Nat.{add-zero, zero-add, add-assoc}
-use lib.ListN.{drop}
+use lib.ListN.{getD, drop}
 use lib.Seq.{getD-take, getD-drop}
 use Rattle.model.specs.Geometry.{Geometry}
 use Rattle.model.specs.Memory.{window}
 use Rattle.model.specs.Bytes.{wordsAt}
-use Rattle.model.specs.Record.{headBytes, head, panel, keys, offset, at, partIn, pendingBytes, headOf, pendingOf, keysOf}
-use Rattle.laws.specs.Layout.{Alike, two-alike, four-alike, rect-alike, rects-alike, words-alike}
-use Rattle.laws.specs.Record.{head-equal}
+use Rattle.model.specs.Record.{head, panel, keys, offset, at, partIn, pendingBytes, headOf, pendingOf, keysOf}
+use Rattle.laws.specs.Layout.{Alike, four-alike, rect-alike, rects-alike, words-alike}
 
 window-alike : (a m : ℕ) (r : List ℕ) → Alike m (window a m r) 0 r a
 unfolding window
@@ -27,9 +26,11 @@ pending-part g r k =
     let w = window-alike a (pendingBytes g) r in
     cc (rects-alike w (g .bands) 0 (omega arith), rect-alike w n (omega arith), four-alike w (n + 8) (omega arith), add-zero a, add-assoc 0 n 8, add-assoc a n 8)
 
+-- k < m, said so that it computes where k is a number
+in-window : (m : ℕ) (r : List ℕ) (k : ℕ) → k + 1 - m ≡ 0 → getD (window 0 m r) k 0 ≡ getD r k 0
+unfolding window
+in-window m r k h = getD-take m r k 0 (omega arith)
+
 pub head-part : (g : Geometry) (r : List ℕ) → headOf (partIn g head r) ≡ headOf r
 unfolding offset
-head-part g r =
-    let w = window-alike 0 headBytes r in
-    head-equal (two-alike w 0 (omega arith)) (two-alike w 2 (omega arith)) (w .each 4 (omega arith)) (w .each 5 (omega arith)) (w .each 6 (omega arith)) (w .each 7 (omega arith))
-    (w .each 8 (omega arith)) (w .each 9 (omega arith)) (rect-alike w 10 (omega arith))
+head-part g r = simp in-window
