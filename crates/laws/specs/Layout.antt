@@ -44,7 +44,7 @@ pub record Alike (n : ℕ) (r : List ℕ) (i : ℕ) (s : List ℕ) (j : ℕ) : T
   pub each : (k : ℕ) → k < n → getD r (i + k) 0 ≡ getD s (j + k) 0
 
 module _ {n : ℕ} {r : List ℕ} {i : ℕ} {s : List ℕ} {j : ℕ} (a : Alike n r i s j) where
-  pub two-alike : (k : ℕ) → k + 2 ≤ n → two r (i + k) ≡ two s (j + k)
+  two-alike : (k : ℕ) → k + 2 ≤ n → two r (i + k) ≡ two s (j + k)
   two-alike k h = cc (a .each k (omega arith), a .each (k + 1) (omega arith), add-assoc i k 1, add-assoc j k 1)
 
   next-alike : (k c : ℕ) → k + c + 2 ≤ n → two r (i + k + c) ≡ two s (j + k + c)
