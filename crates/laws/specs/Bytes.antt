@@ -1,5 +1,5 @@
 -- Bytes by their bits: the bits of `&`, `|`, `^`, of a complement and of a masked change; two bytes with equal bits are equal, and two screens with equal pixels are.
-use mathlib.Core.Path.{_≡_, refl, sym, ap, ap₂, _∙_}
+use mathlib.Core.Path.{_≡_, refl, sym, _∙_}
 use mathlib.Core.Bool.{Bool, true, false, cond, not, xor, _&&_, _||_, Bool·beq, and-true, and-false, or-false}
 use mathlib.Core.List.{List}
 use Prim.Native.Nat.{ℕ, zero, suc, _+_, _-_, _*_, _/_, _%_, _^_, _<_}
@@ -27,8 +27,7 @@ by-digits : (op : ℕ → ℕ → ℕ) (f : Bool → Bool → Bool)
     → allBelow 2 (λ i. allBelow 2 (digit-rule op f i)) ≡ true → (a b k : ℕ) → bitAt (op a b) k ≡ f (bitAt a k) (bitAt b k)
 unfolding bitAt
 by-digits op f shr low all a b k =
-    ap (λ (n : ℕ). eqb (n % 2) 1) (shr a b k) ∙ ap (λ (n : ℕ). eqb n 1) (low (a / 2 ^ k) (b / 2 ^ k) 1)
-    ∙ same-bool _ _ (every₂-at 2 2 (digit-rule op f) all (a / 2 ^ k % 2) (b / 2 ^ k % 2) (omega arith) (omega arith))
+    rw (shr a b k, low (a / 2 ^ k) (b / 2 ^ k) 1) (same-bool _ _ (every₂-at 2 2 (digit-rule op f) all (a / 2 ^ k % 2) (b / 2 ^ k % 2) (omega arith) (omega arith)))
 
 pub bitAt-and : (a b k : ℕ) → bitAt (bitAnd a b) k ≡ (bitAt a k && bitAt b k)
 bitAt-and = by-digits bitAnd _&&_ and-shr and-mod refl
@@ -73,16 +72,14 @@ abbrev sum : ℕ → (ℕ → Bool) → ℕ
 sum zero f = 0
 sum (suc n) f = cond (f n) (2 ^ n) 0 + sum n f
 
-sum-same : (n : ℕ) (f g : ℕ → Bool) → ((k : ℕ) → k < n → f k ≡ g k) → sum n f ≡ sum n g
-sum-same zero f g e = refl
-sum-same (suc n) f g e = ap₂ (λ (t : Bool) (m : ℕ). cond t (2 ^ n) 0 + m) (e n (omega arith)) (sum-same n f g (λ k h. e k (omega arith)))
-
 byte-sum : (b : ℕ) → b < 256 → b ≡ sum 8 (bitAt b)
 unfolding bitAt
 byte-sum b h = eqb-true _ _ (every-at 256 (λ b. eqb b (sum 8 (bitAt b))) refl b h)
 
-pub byte-equal : (a b : ℕ) → a < 256 → b < 256 → ((k : ℕ) → k < 8 → bitAt a k ≡ bitAt b k) → a ≡ b
-byte-equal a b ha hb e = byte-sum a ha ∙ sum-same 8 (bitAt a) (bitAt b) e ∙ sym (byte-sum b hb)
+byte-equal : (a b : ℕ) → a < 256 → b < 256 → ((k : ℕ) → k < 8 → bitAt a k ≡ bitAt b k) → a ≡ b
+byte-equal a b ha hb e =
+    let bits : (k : ℕ) → k + 1 - 8 ≡ 0 → bitAt a k ≡ bitAt b k = λ k h. e k (omega arith) in
+    byte-sum a ha ∙ (simp bits) ∙ sym (byte-sum b hb)
 
 -- ---- lists of bytes
 
@@ -97,12 +94,6 @@ pub bytes-put : (st : ℕ) (s : List ℕ) (x y : ℕ) (v : Bool) → Bytes s →
 unfolding put Bytes
 bytes-put st s x y v hs = bytes-set s (place st x y) _ hs (withBit-lt _ (7 - x % 8) v (hs (place st x y)) (omega arith))
 
--- bit k of byte i is a pixel
-pixel-of : (st i k : ℕ) → 0 < st → k < 8 → (x : ℕ) × (y : ℕ) × (x < 8 * st) × (place st x y ≡ i) × (7 - x % 8 ≡ k)
-pixel-of st i k hst hk =
-    let l : i % st < st = mod-lt i hst in
-    (8 * (i % st) + (7 - k), i / st, omega arith, omega (arith, div-add-mod i st), omega arith)
-
 -- two screens with equal pixels are equal
 pub screens-equal : (st : ℕ) (s t : List ℕ) → 0 < st → length s ≡ length t → Bytes s → Bytes t
     → ((x y : ℕ) → x < 8 * st → bit st s x y ≡ bit st t x y) → s ≡ t
@@ -110,4 +101,8 @@ unfolding bit Bytes
 screens-equal st s t hst hl hs ht e =
     ext-getD 0 s t hl
     (λ i h. byte-equal (getD s i 0) (getD t i 0) (hs i) (ht i)
-    (λ k hk. let p = pixel-of st i k hst hk in rw (p .3, p .4) at (e (p .0) (p .1) (p .2))))
+    (λ k hk. let l : i % st < st = mod-lt i hst in
+    let x = 8 * (i % st) + (7 - k) in
+    let here : place st x (i / st) ≡ i = omega (arith, div-add-mod i st) in
+    let bit : 7 - x % 8 ≡ k = omega arith in
+    rw (here, bit) at (e x (i / st) (omega arith))))

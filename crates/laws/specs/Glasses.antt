@@ -1,21 +1,21 @@
--- Each glass that there is is one that the calls ask for.
-use mathlib.Core.Path.{refl}
+-- Each glass that there is is one that the calls ask for; and Document 01's table of the record, held to what follows from the list of parts.
+use mathlib.Core.Path.{_≡_}
 use native.Mathlib.Omega.{arith}
 use Rattle.model.specs.Geometry.{base}
-use Rattle.model.specs.Record.{has, distinct, total}
+use Rattle.model.specs.Record.{head, panel, keys, flags, has, distinct, total, offset, at, recordBytes}
 use Rattle.model.specs.Glass.{IsGlass}
 
 pub base-glass : IsGlass base
 unfolding has distinct total
-base-glass = record {
-  one = omega arith;
-  apart = refl;
-  columns = omega arith;
-  cursor = omega arith;
-  row = omega arith;
-  filled = refl;
-  high = omega arith;
-  screen = omega arith;
-  text = omega arith;
-  long = omega arith;
-}
+base-glass = search arith
+
+pub record RecordTable : Type 0 where
+  pub head-at : at base head ≡ 0
+  pub panel-at : at base (panel 0) ≡ 18
+  pub keys-at : at base keys ≡ 38
+  pub flags-at : at base flags ≡ 70
+  pub bytes : recordBytes base ≡ 170
+
+pub record-table : RecordTable
+unfolding offset total
+record-table = omega arith

@@ -17,9 +17,7 @@ pub mod Owed
 pub mod Panels
 pub mod StateTest
 pub mod Loops
-pub mod RecordTable
 pub mod Glasses
-pub mod Pendings
 pub mod Updates
 pub mod Sending
 pub mod Opening

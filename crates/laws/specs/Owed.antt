@@ -1,13 +1,12 @@
 -- The owed rectangles on the bytes, band after band: a mark joined to them, the first taken from them, the test of them. In each law `left` bands are to come, the first from
 -- byte a and line lo; what is left, done to what stands, gives the whole.
-use mathlib.Core.Path.{_≡_, refl, sym, ap, _∙_}
+use mathlib.Core.Path.{_≡_, refl, _∙_}
 use mathlib.Core.Bool.{Bool, true, false, _&&_, and-assoc, and-true}
 use mathlib.Core.List.{List, [], _++_, append-assoc}
 use Prim.Native.Nat.{ℕ, zero, suc, _+_, _-_, _*_, _<_, _≤_}
 use native.Mathlib.Omega.{arith}
-use native.Mathlib.Nat.{add-zero}
 use lib.ListN.{length, getD, take, drop, take-append-drop, length-append}
-use lib.Seq.{drop-drop, drop-at, length-take-le}
+use lib.Seq.{drop-at, length-take-le}
 use Rattle.model.specs.declared.Rect.{Rect}
 use Rattle.model.specs.Memory.{withWindow}
 use Rattle.model.specs.Rects.{none, isEmpty, fits, join, cut}
@@ -16,35 +15,23 @@ use Rattle.model.specs.Record.{bandsFit}
 use Rattle.model.specs.Marks.{joinOwed}
 use Rattle.model.specs.Sends.{firstOwed, restOwed}
 use Rattle.laws.specs.Memory.{window-extend, length-withWindow}
-use Rattle.laws.specs.Layout.{rects-at, rect-again, rects-again, length-rects, length-rectsAt}
+use Rattle.laws.specs.Layout.{rects-from, rects-again, length-read}
 
--- the lines of the bands that are left
-pub lines-left : (lo band left h : ℕ) → 0 < left → lo + left * band ≤ h → lo + band + (left - 1) * band ≤ h
-lines-left lo band zero h p l = absurd (omega arith)
-lines-left lo band (suc n) h p l = let e : suc n - 1 ≡ n = omega arith in rw e (omega arith)
-
--- the band that comes ends within them
+-- the band that comes ends within the lines of the bands that are left
 pub band-in : (lo band left h : ℕ) → 0 < left → lo + left * band ≤ h → lo + band ≤ h
 band-in lo band zero h p l = absurd (omega arith)
 band-in lo band (suc n) h p l = omega arith
 
--- what follows a window stays
-pub drop-window : (a n : ℕ) (s r : List ℕ) → length s ≡ n → a ≤ length r → drop (a + n) (withWindow a s r) ≡ drop (a + n) r
+window-nothing : (a : ℕ) (r : List ℕ) → withWindow a [] r ≡ r
 unfolding withWindow
-drop-window a n s r e h =
-    let past = drop-at (take a r) (s ++ drop (a + length s) r) a (length-take-le a r h) in
-    cc (drop-drop n a (take a r ++ (s ++ drop (a + length s) r)), drop-at s (drop (a + length s) r) n e)
+window-nothing a r = let e : a + 0 ≡ a = omega arith in cc (take-append-drop a r)
 
-pub window-nothing : (a : ℕ) (r : List ℕ) → withWindow a [] r ≡ r
+-- rectangles that stand there, stored again
+pub owed-again : (n a : ℕ) (r : List ℕ) → Bytes r → a + 8 * n ≤ length r → withWindow a (rectsBytes (rectsAt n r a)) r ≡ r
 unfolding withWindow
-window-nothing a r = ap (λ (k : ℕ). take a r ++ drop k r) (add-zero a) ∙ take-append-drop a r
+owed-again n a r b h = cc (length-read n r a, rects-again n r a b h, take-append-drop a r)
 
--- bytes that stand there, stored again
-pub window-again : (a n : ℕ) (s r : List ℕ) → length s ≡ n → s ++ drop (a + n) r ≡ drop a r → withWindow a s r ≡ r
-unfolding withWindow
-window-again a n s r e h = ap (λ (k : ℕ). take a r ++ (s ++ drop (a + k) r)) e ∙ ap (λ (x : List ℕ). take a r ++ x) h ∙ take-append-drop a r
-
--- the last of them
+-- a window whose last bytes stand there
 pub window-tail : (a n k : ℕ) (s t r : List ℕ) → length s ≡ n → length t ≡ k → t ++ drop (a + n + k) r ≡ drop (a + n) r → withWindow a (s ++ t) r ≡ withWindow a s r
 unfolding withWindow
 window-tail a n k s t r e f h =
@@ -53,7 +40,10 @@ window-tail a n k s t r e f h =
 
 -- rectangles past a store
 rects-past : (n a : ℕ) (q : Rect) (r : List ℕ) → a ≤ length r → rectsAt n (withWindow a (rectBytes q) r) (a + 8) ≡ rectsAt n r (a + 8)
-rects-past n a q r h = rects-at n (withWindow a (rectBytes q) r) (a + 8) ∙ ap (λ (l : List ℕ). rectsAt n l 0) (drop-window a 8 (rectBytes q) r refl h) ∙ sym (rects-at n r (a + 8))
+unfolding withWindow
+rects-past n a q r h =
+    let past = drop-at (take a r ++ rectBytes q) (drop (a + 8) r) (a + 8) (omega (arith, length-append (take a r) (rectBytes q), length-take-le a r h)) in
+    cc (rects-from (withWindow a (rectBytes q) r) (a + 8) n, append-assoc (take a r) (rectBytes q) (drop (a + 8) r), rects-from r (a + 8) n)
 
 -- ---- a mark
 
@@ -78,14 +68,14 @@ unfolding joined joinOwed
 join-goes {left = zero} k p e f g h = absurd (omega arith)
 join-goes {w} {band} {m} {r = r} {a} {lo} {left = suc n} {j = j} {r′ = r′} k p e f g h =
     let z : suc n - 1 ≡ n = omega arith in
-    let s : length r′ ≡ length r = ap length h ∙ length-withWindow a (rectBytes j) r (omega (arith, k .room)) in
-    let t = window-extend a 8 (rectBytes j) (rectsBytes (joinOwed w band (lo + band) m (rectsAt n r (a + 8)))) r refl (omega (arith, k .room)) in
-    record { room = omega (arith, k .room); lines = lines-left lo band (suc n) 65535 p (k .lines); sized = s ∙ k .sized; same = cc (rects-past n a j r (omega (arith, k .room)), k .same) }
+    let s : length r′ ≡ length r = cc (length-withWindow a (rectBytes j) r (omega arith)) in
+    let t = window-extend a 8 (rectBytes j) (rectsBytes (joinOwed w band (lo + band) m (rectsAt n r (a + 8)))) r refl (omega arith) in
+    record { room = omega arith; lines = rw z (omega arith); sized = s ∙ k .sized; same = cc (rects-past n a j r (omega arith)) }
 
 pub join-ends : (w band : ℕ) (m : Rect) (bands at : ℕ) (r₀ r : List ℕ) (a lo left : ℕ) → Joining w band m bands at r₀ r a lo left → left ≤ 0
     → r ≡ joined w band 0 m bands at r₀
 unfolding joined joinOwed
-join-ends w band m bands at r₀ r a lo left k z = let e : left ≡ 0 = omega arith in cc (window-nothing a r, k .same)
+join-ends w band m bands at r₀ r a lo left k z = let e : left ≡ 0 = omega arith in cc (window-nothing a r)
 
 -- ---- the first taken
 
@@ -116,10 +106,9 @@ unfolding rested restOwed firstOwed Bytes
 take-goes {left = zero} k p b e f g = absurd (omega arith)
 take-goes {r = r} {a} {left = suc n} k p b e f g =
     let z : suc n - 1 ≡ n = omega arith in
-    let y : isEmpty (rectAt r a) ≡ true = cc in
-    let again = window-again a 8 (rectBytes (rectAt r a)) r refl (rect-again r a (rw (k .kept) b) (rw (k .kept) (omega (arith, k .room)))) in
-    let t = window-extend a 8 (rectBytes (rectAt r a)) (rectsBytes (restOwed (rectsAt n r (a + 8)))) r refl (rw (k .kept) (omega (arith, k .room))) in
-    record { kept = k .kept; sized = k .sized; room = omega (arith, k .room); first = cc (k .first); rest = cc (k .rest) }
+    let again = owed-again 1 a r (rw (k .kept) b) (omega arith) in
+    let t = window-extend a 8 (rectBytes (rectAt r a)) (rectsBytes (restOwed (rectsAt n r (a + 8)))) r refl (omega arith) in
+    record { kept = k .kept; sized = k .sized; room = omega arith; first = cc; rest = cc }
 
 -- the first that owes anything
 pub take-finds : {bands at : ℕ} {r₀ r : List ℕ} {a left : ℕ} {q z : Rect} {t : Bool} {r′ : List ℕ} → Taking bands at r₀ r a left → 0 < left → ((i : ℕ) → getD r₀ i 0 < 256)
@@ -127,14 +116,12 @@ pub take-finds : {bands at : ℕ} {r₀ r : List ℕ} {a left : ℕ} {q z : Rect
 unfolding rested restOwed firstOwed Bytes
 take-finds {left = zero} k p b e f g h i = absurd (omega arith)
 take-finds {r = r} {a} {left = suc n} k p b e f g h i =
-    let y : isEmpty (rectAt r a) ≡ false = cc in
-    let m : length (rectsBytes (rectsAt n r (a + 8))) ≡ 8 * n = cc (length-rects (rectsAt n r (a + 8)), length-rectsAt n r (a + 8)) in
-    let t = window-tail a 8 (8 * n) (rectBytes none) (rectsBytes (rectsAt n r (a + 8))) r refl m (rects-again n r (a + 8) (rw (k .kept) b) (rw (k .kept) (omega (arith, k .room)))) in
-    record { first = cc (k .first); rest = cc (k .rest) }
+    let t = window-tail a 8 (8 * n) (rectBytes none) (rectsBytes (rectsAt n r (a + 8))) r refl (length-read n r (a + 8)) (rects-again n r (a + 8) (rw (k .kept) b) (omega arith)) in
+    record { first = cc; rest = cc }
 
 pub take-ends : (bands at : ℕ) (r₀ r : List ℕ) (a left : ℕ) {z : Rect} → Taking bands at r₀ r a left → left ≤ 0 → z ≡ none → Took bands at r₀ z r
 unfolding rested restOwed firstOwed
-take-ends bands at r₀ r a left k n e = let z : left ≡ 0 = omega arith in record { first = cc (k .first); rest = cc (window-nothing a r, k .rest) }
+take-ends bands at r₀ r a left k n e = let z : left ≡ 0 = omega arith in record { first = cc; rest = cc (window-nothing a r) }
 
 -- ---- STATE's test
 
@@ -153,9 +140,9 @@ unfolding bandsFit
 test-goes {left = zero} k p e f = absurd (omega arith)
 test-goes {w} {band} {r = r} {ok} {a} {lo} {left = suc n} {t = t} k p e f =
     let z : suc n - 1 ≡ n = omega arith in
-    record { room = omega (arith, k .room); lines = lines-left lo band (suc n) 65535 p (k .lines); same = cc (and-assoc ok t (bandsFit w band (lo + band) (rectsAt n r (a + 8))), k .same) }
+    record { room = omega arith; lines = rw z (omega arith); same = cc (and-assoc ok t (bandsFit w band (lo + band) (rectsAt n r (a + 8)))) }
 
 pub test-ends : (w band bands at : ℕ) (r : List ℕ) (ok : Bool) (a lo left : ℕ) → Testing w band bands at r ok a lo left → left ≤ 0
     → ok ≡ bandsFit w band 0 (rectsAt bands r at)
 unfolding bandsFit
-test-ends w band bands at r ok a lo left k z = let e : left ≡ 0 = omega arith in cc (and-true ok, k .same)
+test-ends w band bands at r ok a lo left k z = let e : left ≡ 0 = omega arith in cc (and-true ok)

@@ -2,51 +2,39 @@
 use mathlib.Core.Path.{_≡_, refl, sym, ap, _∙_}
 use mathlib.Core.Bool.{Bool, true, false, _&&_, not}
 use mathlib.Core.List.{List, [], _∷_, _++_, append-assoc}
-use Prim.Native.Nat.{ℕ, zero, suc, _+_}
+use Prim.Native.Nat.{ℕ, _+_, _-_}
+use native.Mathlib.Nat.{zero-add, add-assoc}
 use native.Mathlib.Omega.{arith}
-use lib.ListN.{length, take, drop, length-drop, length-append, take-append-drop}
+use lib.ListN.{length, getD, take, drop, length-drop, length-append, take-append-drop, drop-of-length-le}
 use lib.Seq.{take-at, drop-at, drop-append-add, take-append-add, drop-drop}
-use borrow.Author.Tests.{eqb-true, eq-eqb}
+use borrow.Author.Tests.{eqb-true, eq-eqb, ne-eqb, not-true}
 use Rattle.model.specs.Memory.{window, withWindow}
-use Rattle.model.specs.Bytes.{Bytes}
 use Rattle.model.specs.Record.{RecordPart, head, panel, keys, flags, tag, samePart, has, distinct, written, total, offset, all}
-use Rattle.laws.specs.Tests.{by-test, clash, and-true, or-left, or-right}
-use Rattle.laws.specs.Layout.{bytes-nil, bytes-append}
-use Rattle.laws.specs.Memory.{append-window}
+use Rattle.laws.specs.Tests.{tests, by-test, clash, and-true, or-left, or-right}
 
 -- ---- parts with one number are one part
 
 untag : ℕ → RecordPart
-untag zero = head
-untag (suc zero) = keys
-untag (suc (suc zero)) = flags
-untag (suc (suc (suc k))) = panel k
+untag n = getD (head ∷ keys ∷ flags ∷ []) n (panel (n - 3))
 
 untag-tag : (p : RecordPart) → untag (tag p) ≡ p
 unfolding untag
 untag-tag head = refl
 untag-tag keys = refl
 untag-tag flags = refl
-untag-tag (panel k) = refl
+untag-tag (panel k) = ap panel (omega arith)
 
 pub same-part : (p q : RecordPart) → samePart p q ≡ true → p ≡ q
 same-part p q e = sym (untag-tag p) ∙ ap untag (eqb-true (tag p) (tag q) e) ∙ untag-tag q
 
-pub same-self : (p : RecordPart) → samePart p p ≡ true
+same-self : (p : RecordPart) → samePart p p ≡ true
 same-self p = eq-eqb (tag p) (tag p) refl
 
 -- ---- membership
 
-not-true : (b : Bool) → not b ≡ true → b ≡ false
-not-true true e = sym e
-not-true false e = refl
-
 -- a part of what follows is not the first
-pub other : (p q : RecordPart) (ps : List RecordPart) → has p ps ≡ false → has q ps ≡ true → samePart q p ≡ false
-other p q ps n h =
-    by-test (samePart q p)
-    (λ e. clash (has p ps) (ap (λ (x : RecordPart). has x ps) (sym (same-part q p e)) ∙ h) n)
-    (λ e. e)
+other : (p q : RecordPart) (ps : List RecordPart) → has p ps ≡ false → has q ps ≡ true → samePart q p ≡ false
+other p q ps n h = by-test (samePart q p) (λ e. clash (has p ps) (cc (same-part q p e)) n) (λ e. e)
 
 -- ---- what the parts give is the same where they are
 
@@ -60,9 +48,7 @@ unfolding all has
 all-at t [] p e h = clash false h refl
 all-at t (q ∷ ps) p e h =
     let k = and-true (t q) (all t ps) e in
-    by-test (samePart p q)
-    (λ s. ap t (same-part p q s) ∙ k .0)
-    (λ s. all-at t ps p (k .1) (rw s at h))
+    by-test (samePart p q) (λ s. cc (same-part p q s)) (λ s. all-at t ps p (k .1) (rw s at h))
 
 pub all-of : (t : RecordPart → Bool) (ps : List RecordPart) → ((p : RecordPart) → has p ps ≡ true → t p ≡ true) → all t ps ≡ true
 unfolding all has
@@ -74,71 +60,47 @@ unfolding written total
 length-written n f [] e = refl
 length-written n f (p ∷ ps) e = omega (arith, length-append (f p) (written f ps), e p, length-written n f ps e)
 
-pub bytes-written : (f : RecordPart → List ℕ) (ps : List RecordPart) → ((p : RecordPart) → Bytes (f p)) → Bytes (written f ps)
-unfolding written
-bytes-written f [] b = bytes-nil
-bytes-written f (p ∷ ps) b = bytes-append (f p) (written f ps) (b p) (bytes-written f ps b)
-
--- ---- windows
-
-window-first : (n : ℕ) (a l : List ℕ) → length a ≡ n → window 0 n (a ++ l) ≡ a
-unfolding window
-window-first n a l e = take-at a l n e
-
-window-next : (n i k : ℕ) (a l : List ℕ) → length a ≡ n → window (n + i) k (a ++ l) ≡ window i k l
-unfolding window
-window-next n i k a l e = ap (λ (m : ℕ). take k (drop (m + i) (a ++ l))) (sym e) ∙ ap (take k) (drop-append-add a l i)
-
-window-drop : (n i k : ℕ) (r : List ℕ) → window (n + i) k r ≡ window i k (drop n r)
-unfolding window
-window-drop n i k r = ap (take k) (sym (drop-drop i n r))
-
-put-next : (n i : ℕ) (a b l : List ℕ) → length a ≡ n → withWindow (n + i) b (a ++ l) ≡ a ++ withWindow i b l
-unfolding withWindow
-put-next n i a b l e =
-    let s : length a + i + length b ≡ length a + (i + length b) = omega arith in
-    cc (take-append-add a l i, drop-append-add a l (i + length b), append-assoc a (take i l) (b ++ drop (i + length b) l))
+-- ---- the bytes of a part in those of all
 
 module _ (n : RecordPart → ℕ) where
   -- the bytes of a part stand at its offset
   pub part-written : (f : RecordPart → List ℕ) (q : RecordPart) (ps : List RecordPart) → ((p : RecordPart) → length (f p) ≡ n p) → has q ps ≡ true
       → window (offset n q ps) (n q) (written f ps) ≡ f q
-  unfolding written has offset
+  unfolding written has offset window
   part-written f q [] s h = clash false h refl
   part-written f q (p ∷ ps) s h =
       by-test (samePart q p)
-      (λ e. rw e (ap (λ (x : RecordPart). window 0 (n x) (f p ++ written f ps)) (same-part q p e) ∙ window-first (n p) (f p) (written f ps) (s p) ∙ ap f (sym (same-part q p e))))
-      (λ e. rw e (window-next (n p) (offset n q ps) (n q) (f p) (written f ps) (s p) ∙ part-written f q ps s (rw e at h)))
+      (λ e. rw e (cc (same-part q p e, take-at (f p) (written f ps) (n p) (s p))))
+      (λ e. rw e (cc (s p, drop-append-add (f p) (written f ps) (offset n q ps), part-written f q ps s (rw e at h))))
 
   -- a store of the bytes of one part leaves the others
   pub part-stored : (f f′ : RecordPart → List ℕ) (q : RecordPart) (ps : List RecordPart) → ((p : RecordPart) → length (f p) ≡ n p) → length (f′ q) ≡ n q
-      → ((p : RecordPart) → samePart q p ≡ false → f p ≡ f′ p) → has q ps ≡ true → distinct ps ≡ true
+      → ((p : RecordPart) → samePart p q ≡ false → f p ≡ f′ p) → has q ps ≡ true → distinct ps ≡ true
       → withWindow (offset n q ps) (f′ q) (written f ps) ≡ written f′ ps
-  unfolding written has offset distinct
+  unfolding written has offset distinct withWindow
   part-stored f f′ q [] s l k h d = clash false h refl
   part-stored f f′ q (p ∷ ps) s l k h d =
       let a = and-true (not (has p ps)) (distinct ps) d in
       let rest = written f ps in
+      let o = offset n q ps in
+      let m = length (f′ q) in
       by-test (samePart q p)
       (λ e. let same = same-part q p e in
-      let long : length (f p) ≡ length (f′ p) = cc (s p) in
-      let others = written-same f f′ ps (λ x m. k x (by-test (samePart q x) (λ t. clash (has p ps) (cc (same-part q x t)) (not-true (has p ps) (a .0))) (λ t. t))) in
-      rw e (cc (append-window [] (f′ p) (f p ++ rest) 0 refl, drop-at (f p) rest (length (f′ p)) long)))
-      (λ e. rw e (cc (put-next (n p) (offset n q ps) (f p) (f′ q) rest (s p), k p e, part-stored f f′ q ps s l k (rw e at h) (a .1))))
+      let long : length (f p) ≡ m = cc (s p) in
+      let others = written-same f f′ ps (λ x i. k x (other q x ps (cc (not-true (has p ps) (a .0))) i)) in
+      rw e (cc (zero-add m, drop-at (f p) rest m long)))
+      (λ e. let here = k p (ne-eqb (tag p) (tag q) (λ t. omega (arith, tests))) in
+      let past = append-assoc (f p) (take o rest) (f′ q ++ drop (o + m) rest) in
+      rw e (cc (s p, take-append-add (f p) rest o, add-assoc (n p) o m, drop-append-add (f p) rest (o + m), part-stored f f′ q ps s l k (rw e at h) (a .1))))
 
   -- a record is its parts, one after another
   pub parts-written : (r : List ℕ) (ps : List RecordPart) → distinct ps ≡ true → length r ≡ total n ps
       → written (λ p. window (offset n p ps) (n p) r) ps ≡ r
   unfolding written offset distinct total window
-  parts-written [] [] d l = refl
-  parts-written (x ∷ r) [] d l = absurd (omega arith)
+  parts-written r [] d l = sym (drop-of-length-le r {i = 0} (omega arith))
   parts-written r (p ∷ ps) d l =
       let a = and-true (not (has p ps)) (distinct ps) d in
-      let long : length (drop (n p) r) ≡ total n ps = simp length-drop (omega arith) in
-      (λ i. first i ++ written-same (λ q. window (offset n q (p ∷ ps)) (n q) r) (λ q. window (offset n q ps) (n q) (drop (n p) r)) ps
-      (λ q h. rw (other p q ps (not-true (has p ps) (a .0)) h) (window-drop (n p) (offset n q ps) (n q) r)) i)
-      ∙ ap (λ (x : List ℕ). take (n p) r ++ x) (parts-written (drop (n p) r) ps (a .1) long)
-      ∙ take-append-drop (n p) r
-    where
-      first : window (offset n p (p ∷ ps)) (n p) r ≡ take (n p) r
-      first = rw (same-self p)
+      let rest = drop (n p) r in
+      let same = written-same (λ q. window (offset n q (p ∷ ps)) (n q) r) (λ q. window (offset n q ps) (n q) rest) ps
+      (λ q h. rw (other p q ps (not-true (has p ps) (a .0)) h) (ap (take (n q)) (sym (drop-drop (offset n q ps) (n p) r)))) in
+      rw (same-self p) (cc (parts-written rest ps (a .1) (simp length-drop (omega arith)), take-append-drop (n p) r))

@@ -1,55 +1,45 @@
 -- The record there and back, over any geometry: each part by its own law, the whole by the laws of lists of parts.
 use mathlib.Core.Path.{_≡_, refl, sym, ap, _∙_}
-use mathlib.Core.List.{List, [], _∷_, _++_, append-assoc, append-nil}
+use mathlib.Core.List.{List, [], _∷_, _++_, append-nil}
 use mathlib.Core.Bool.{Bool, true, false}
 use Prim.Native.Nat.{ℕ, zero, suc, _+_, _-_, _*_, _<_, _≤_}
 use native.Mathlib.Omega.{arith}
-use native.Mathlib.Nat.{add-zero, zero-add}
-use lib.ListN.{length, getD, drop, length-append, length-replicate, drop-of-length-le}
+use lib.ListN.{length, drop, length-append, length-replicate, drop-of-length-le, List·getD-eq-default}
 use lib.Seq.{drop-drop, drop-at, getD-set-same, getD-set-other, ext-getD}
 use borrow.Author.Tests.{ne-eqb}
-use Rattle.model.specs.declared.Rect.{Rect}
 use Rattle.model.specs.declared.Head.{Head}
 use Rattle.model.specs.Geometry.{Geometry, width, height, rows, columns, cells, screenBytes}
 use Rattle.model.specs.Memory.{window, withWindow}
 use Rattle.model.specs.Rects.{none, fits}
-use Rattle.model.specs.Bytes.{four, rectAt, rectsAt, wordsAt, rectBytes, rectsBytes, wordsBytes, fourBytes, Bytes, Words}
-use Rattle.model.specs.Flags.{flagsIn, bytesOfFlags}
-use Rattle.model.specs.Record.{headBytes, RecordPart, head, panel, keys, flags, tag, samePart, has, written, total, offset, panelsFrom, layout, size, at, partIn, recordBytes, pendingBytes, Pending, State, decode, encode, listing, headOf, pendingOf, bytesOfHead, bytesOfPending, partBytes, panelOf, nothingPending, bandsFit, windows, windowTests, headTests, headFits, pendingFits, partFits, valid, withHead, withPanel, withKeyWords, withFlags, WellPending, WellFormed}
+use Rattle.model.specs.Bytes.{four, rectAt, rectsAt, rectBytes, rectsBytes, wordsBytes, fourBytes, Bytes, Words}
+use Rattle.model.specs.Flags.{flagsIn, bytesOfFlags, flagBytes}
+use Rattle.model.specs.Record.{RecordPart, head, panel, keys, flags, tag, samePart, has, total, offset, panelsFrom, layout, size, at, partIn, recordBytes, pendingBytes, Pending, State, decode, encode, listing, headOf, pendingOf, bytesOfHead, bytesOfPending, partBytes, panelOf, nothingPending, windows, windowTests, headTests, headFits, partFits, valid, withHead, withPanel, withKeyWords, withFlags, WellPending, WellFormed}
 use Rattle.model.specs.Glass.{IsGlass}
-use Rattle.laws.specs.Tests.{tests, by-test, by-lt, by-eq, clash, and-true, all-true, either, or-right}
+use Rattle.laws.specs.Tests.{tests, by-test, by-lt, by-eq, clash, all-true}
 use Rattle.laws.specs.Rects.{passes-fits}
 use Rattle.laws.specs.Memory.{length-window}
-use Rattle.laws.specs.ListLaws.{getD-past}
+use Rattle.laws.specs.Bands.{owed-fits, hand-fits}
 use Rattle.laws.specs.PartLists.{same-part, written-same, all-at, part-written, part-stored, parts-written}
 use Rattle.laws.specs.Flags.{flags-read, flags-written, length-flags, length-flagsIn}
-use Rattle.laws.specs.Layout.{Short, AllShort, bytes-drop, bytes-take, four-from, rect-from, elements, elements-drop, low, high, rect-again, four-again, rects-again, words-again, two-back, four-back, rect-back, rects-back, words-back, length-rects, length-rectsAt, length-words}
+use Rattle.laws.specs.Layout.{getD-listing, length-listing, bytes-drop, bytes-take, four-from, rect-from, all-again, low, high, byte0, byte1, byte2, byte3, rect-again, four-again, rects-again, two-back, four-back, rect-back, rects-back, words-back, length-rects, length-rectsAt, length-words}
 
 -- ---- which parts there are
 
-has-right : (q : RecordPart) (ps qs : List RecordPart) → has q qs ≡ true → has q (ps ++ qs) ≡ true
-unfolding has
-has-right q [] qs h = h
-has-right q (p ∷ ps) qs h = or-right (samePart q p) (has-right q ps qs h)
-
-has-from : (i k n : ℕ) → k ≤ i → i < k + n → has (panel i) (panelsFrom k n) ≡ true
-unfolding has
-has-from i k zero l u = absurd (omega arith)
-has-from i k (suc n) l u =
+-- among n panels from k on stands the panel i, after those before it
+pub panel-from : (g : Geometry) (i k n : ℕ) → k ≤ i → i < k + n
+    → (has (panel i) (panelsFrom k n) ≡ true) × (offset (size g) (panel i) (panelsFrom k n) ≡ (i - k) * pendingBytes g)
+unfolding has offset
+panel-from g i k zero l u = absurd (omega arith)
+panel-from g i k (suc n) l u =
     by-test (samePart (panel i) (panel k))
-    (λ e. rw e)
-    (λ e. or-right (samePart (panel i) (panel k)) (has-from i (suc k) n (next e) (omega arith)))
-  where
-    next : samePart (panel i) (panel k) ≡ false → suc k ≤ i
-    next e = omega (arith, tests)
+    (λ e. let z : i - k ≡ 0 = omega (arith, tests) in rw (e, z) (refl, omega arith))
+    (λ e. let z : i - k ≡ suc (i - suc k) = omega (arith, tests) in
+    let r = panel-from g i (suc k) n (omega (arith, tests)) (omega arith) in rw (e, z) (r .0, omega (arith, r .1)))
 
 from-has : (i k n : ℕ) → has (panel i) (panelsFrom k n) ≡ true → i < k + n
 unfolding has
 from-has i k zero h = clash false h refl
-from-has i k (suc n) h =
-    by-test (samePart (panel i) (panel k))
-    (λ e. omega (arith, tests))
-    (λ e. let r = from-has i (suc k) n (rw e at h) in omega arith)
+from-has i k (suc n) h = by-test (samePart (panel i) (panel k)) (λ e. omega (arith, tests)) (λ e. omega (arith, from-has i (suc k) n (rw e at h)))
 
 module _ (g : Geometry) where
   pub has-head : has head (layout g) ≡ true
@@ -64,19 +54,22 @@ module _ (g : Geometry) where
   unfolding has
   has-flags = refl
 
+  -- the panels after the first stand after the flags
+  pub later : (k : ℕ) → let rest = panelsFrom 1 (g .panels - 1) in
+      (has (panel (suc k)) (layout g) ≡ has (panel (suc k)) rest) × (at g (panel (suc k)) ≡ at g flags + flagBytes (cells g) + offset (size g) (panel (suc k)) rest)
+  unfolding has offset
+  later k =
+      let t = tag (panel (suc k)) in
+      rw (ne-eqb t 0 (λ e. omega arith), ne-eqb t 3 (λ e. omega arith), ne-eqb t 1 (λ e. omega arith), ne-eqb t 2 (λ e. omega arith)) (refl, omega arith)
+
   pub has-panel : (k : ℕ) → k < g .panels → has (panel k) (layout g) ≡ true
   unfolding has
   has-panel zero h = refl
-  has-panel (suc k) h =
-      has-right (panel (suc k)) (head ∷ panel 0 ∷ keys ∷ flags ∷ []) (panelsFrom 1 (g .panels - 1)) (has-from (suc k) 1 (g .panels - 1) (omega arith) (omega arith))
+  has-panel (suc k) h = later k .0 ∙ panel-from g (suc k) 1 (g .panels - 1) (omega arith) (omega arith) .0
 
   pub panel-has : (k : ℕ) → 1 ≤ g .panels → has (panel k) (layout g) ≡ true → k < g .panels
-  unfolding has
   panel-has zero l h = l
-  panel-has (suc k) l h =
-      let t = tag (panel (suc k)) in
-      let r = from-has (suc k) 1 (g .panels - 1) (rw (ne-eqb t 0 (λ e. omega arith), ne-eqb t 3 (λ e. omega arith), ne-eqb t 1 (λ e. omega arith), ne-eqb t 2 (λ e. omega arith)) at h) in
-      omega arith
+  panel-has (suc k) l h = let r = from-has (suc k) 1 (g .panels - 1) (sym (later k .0) ∙ h) in omega arith
 
 -- ---- the bytes of a part in a record
 
@@ -84,9 +77,7 @@ offset-fits : (n : RecordPart → ℕ) (q : RecordPart) (ps : List RecordPart) �
 unfolding has offset total
 offset-fits n q [] h = clash false h refl
 offset-fits n q (p ∷ ps) h =
-    by-test (samePart q p)
-    (λ e. rw e (let s = ap n (same-part q p e) in omega arith))
-    (λ e. rw e (let r = offset-fits n q ps (rw e at h) in omega arith))
+    by-test (samePart q p) (λ e. rw e (omega (arith, ap n (same-part q p e)))) (λ e. rw e (omega (arith, offset-fits n q ps (rw e at h))))
 
 -- a part ends within its record
 pub part-in : (g : Geometry) (q : RecordPart) → has q (layout g) ≡ true → at g q + size g q ≤ recordBytes g
@@ -101,40 +92,11 @@ bytes-part g q r b = bytes-take (size g q) (drop (at g q) r) (bytes-drop (at g q
 
 -- ---- each part there and back: its bytes c, read and written again
 
-exact : (n : ℕ) (a c : List ℕ) → a ++ drop n c ≡ c → length c ≡ n → a ≡ c
-exact n a c e l = sym (append-nil a) ∙ ap (λ (x : List ℕ). a ++ x) (sym (drop-of-length-le c {i = n} (omega arith))) ∙ e
-
-head-elements : (c : List ℕ) → ((i : ℕ) → getD c i 0 < 256) → bytesOfHead (headOf c) ≡ elements headBytes 0 c
-head-elements c b = simp (low, high, b)
-
-head-again : (c : List ℕ) → Bytes c → length c ≡ headBytes → bytesOfHead (headOf c) ≡ c
-unfolding Bytes
-head-again c b l = exact headBytes (bytesOfHead (headOf c)) c (ap (λ (x : List ℕ). x ++ drop headBytes c) (head-elements c b) ∙ elements-drop headBytes 0 c (omega arith)) l
-
-words-whole : (n : ℕ) (c : List ℕ) → Bytes c → length c ≡ 4 * n → wordsBytes (wordsAt n c 0) ≡ c
-words-whole n c b l = exact (4 * n) (wordsBytes (wordsAt n c 0)) c (cc (zero-add (4 * n), words-again n c 0 b (omega arith))) l
-
-pub pending-again : (g : Geometry) (r : List ℕ) (i : ℕ) → Bytes r → i + pendingBytes g ≤ length r
-    → bytesOfPending (pendingOf g r i) ++ drop (i + pendingBytes g) r ≡ drop i r
-pending-again g r i b h =
-    let n = g .bands in
-    let j = i + 8 * n in
-    let e : i + pendingBytes g ≡ j + 8 + 4 = omega arith in
-    cc (append-assoc _ _ _, four-again r (j + 8) b (omega arith), rect-again r j b (omega arith), rects-again n r i b (omega arith))
-
-pub pending-whole : (g : Geometry) (c : List ℕ) → Bytes c → length c ≡ pendingBytes g → bytesOfPending (pendingOf g c 0) ≡ c
-pending-whole g c b l = exact (pendingBytes g) (bytesOfPending (pendingOf g c 0)) c (cc (zero-add (pendingBytes g), pending-again g c 0 b (omega arith))) l
-
-pub getD-listing : {A : Type 0} (f : ℕ → A) (k n i : ℕ) (d : A) → i < n → getD (listing f k n) i d ≡ f (k + i)
-unfolding listing
-getD-listing f k zero i d h = absurd (omega arith)
-getD-listing f k (suc n) zero d h = ap f (sym (add-zero k))
-getD-listing f k (suc n) (suc i) d h = let e : suc k + i ≡ k + suc i = omega arith in getD-listing f (suc k) n i d (omega arith) ∙ ap f e
-
-pub length-listing : {A : Type 0} (f : ℕ → A) (k n : ℕ) → length (listing f k n) ≡ n
-unfolding listing
-length-listing f k zero = refl
-length-listing f k (suc n) = ap suc (length-listing f (suc k) n)
+pending-again : (g : Geometry) (c : List ℕ) → Bytes c → length c ≡ pendingBytes g → bytesOfPending (pendingOf g c 0) ≡ c
+pending-again g c b l =
+    let n = 8 * g .bands in
+    let e = drop-of-length-le c {i = 0 + n + 8 + 4} (omega arith) in
+    cc (four-again c (0 + n + 8) b (omega arith), rect-again c (0 + n) b (omega arith), rects-again (g .bands) c 0 b (omega arith))
 
 -- ---- decode, then encode
 
@@ -147,7 +109,7 @@ pub record Passing (g : Geometry) (r : List ℕ) : Type 0 where
 
 pub panel-decoded : (g : Geometry) (r : List ℕ) (i : ℕ) → i < g .panels → panelOf g (decode g r) i ≡ pendingOf g (partIn g (panel i) r) 0
 unfolding decode
-panel-decoded g r i h = getD-listing (λ j. pendingOf g (partIn g (panel j) r) 0) 0 (g .panels) i (nothingPending g) h ∙ ap (λ (j : ℕ). pendingOf g (partIn g (panel j) r) 0) (zero-add i)
+panel-decoded g r i h = let e : 0 + i ≡ i = omega arith in cc (getD-listing (λ j. pendingOf g (partIn g (panel j) r) 0) 0 (g .panels) i (nothingPending g) h)
 
 module _ (g : Geometry) (r : List ℕ) (k : Passing g r) where
   pub part-passes : (p : RecordPart) → has p (layout g) ≡ true → partFits g p (partIn g p r) ≡ true
@@ -155,13 +117,14 @@ module _ (g : Geometry) (r : List ℕ) (k : Passing g r) where
   part-passes p h = all-at (λ q. partFits g q (partIn g q r)) (layout g) p (k .passes) h
 
   -- what is read of a part is written as its bytes
-  pub part-again : (p : RecordPart) → has p (layout g) ≡ true → partBytes g (decode g r) p ≡ partIn g p r
-  unfolding partBytes decode partFits
-  part-again head h = head-again (partIn g head r) (bytes-part g head r (k .bytes)) (length-part g head r h (k .sized))
+  part-again : (p : RecordPart) → has p (layout g) ≡ true → partBytes g (decode g r) p ≡ partIn g p r
+  unfolding partBytes decode partFits Bytes listing
+  part-again head h = let b = bytes-part g head r (k .bytes) in all-again (size g head) _ (partIn g head r) (length-part g head r h (k .sized)) (simp (low, high, b))
   part-again (panel i) h =
-      ap bytesOfPending (panel-decoded g r i (panel-has g i (k .glass .one) h))
-      ∙ pending-whole g (partIn g (panel i) r) (bytes-part g (panel i) r (k .bytes)) (length-part g (panel i) r h (k .sized))
-  part-again keys h = words-whole 8 (partIn g keys r) (bytes-part g keys r (k .bytes)) (length-part g keys r h (k .sized))
+      cc (panel-decoded g r i (panel-has g i (k .glass .one) h), pending-again g (partIn g (panel i) r) (bytes-part g (panel i) r (k .bytes)) (length-part g (panel i) r h (k .sized)))
+  part-again keys h =
+      let b = bytes-part g keys r (k .bytes) in
+      all-again (size g keys) _ (partIn g keys r) (length-part g keys r h (k .sized)) (simp (byte0, byte1, byte2, byte3, b))
   part-again flags h = flags-read (cells g) (partIn g flags r) (length-part g flags r h (k .sized)) (part-passes flags h)
 
   pub encode-decode : encode g (decode g r) ≡ r
@@ -176,15 +139,13 @@ pub record Sized (g : Geometry) (s : State) : Type 0 where
   pub keys : length (s .keys) ≡ 8
   pub flags : length (s .flags) ≡ cells g
 
-pub length-pending : (g : Geometry) (p : Pending) → length (p .owed) ≡ g .bands → length (bytesOfPending p) ≡ pendingBytes g
-length-pending g p e =
-    omega (arith, length-append (rectsBytes (p .owed)) (rectBytes (p .hand) ++ fourBytes (p .sent)), length-rects (p .owed), ap (λ (n : ℕ). 8 * n) e)
-
 pub sizes : (g : Geometry) (s : State) → Sized g s → (p : RecordPart) → length (partBytes g s p) ≡ size g p
 unfolding partBytes
 sizes g s z head = refl
-sizes g s z (panel k) = length-pending g (panelOf g s k) (z .owed k)
-sizes g s z keys = length-words (s .keys) ∙ ap (λ (n : ℕ). 4 * n) (z .keys)
+sizes g s z (panel k) =
+    let p = panelOf g s k in
+    omega (arith, length-append (rectsBytes (p .owed)) (rectBytes (p .hand) ++ fourBytes (p .sent)), length-rects (p .owed), z .owed k)
+sizes g s z keys = cc (length-words (s .keys))
 sizes g s z flags = length-flags (s .flags) ∙ z .flags
 
 pub count-decode : (g : Geometry) (r : List ℕ) → length (decode g r .panels) ≡ g .panels
@@ -200,9 +161,7 @@ part-encode g s z p h = part-written (size g) (partBytes g s) p (layout g) (size
 pub all-owed : (g : Geometry) (s : State) → length (s .panels) ≡ g .panels → ((k : ℕ) → k < g .panels → length (panelOf g s k .owed) ≡ g .bands)
     → (k : ℕ) → length (panelOf g s k .owed) ≡ g .bands
 unfolding nothingPending
-all-owed g s n e k =
-    by-lt k (g .panels) (e k)
-    (λ l. ap (λ (p : Pending). length (p .owed)) (getD-past (s .panels) k (nothingPending g) (omega arith)) ∙ length-replicate (g .bands) none)
+all-owed g s n e k = by-lt k (g .panels) (e k) (λ l. cc (List·getD-eq-default (s .panels) (nothingPending g) {n = k} (omega arith), length-replicate (g .bands) none))
 
 pub sized-decode : (g : Geometry) (r : List ℕ) → length r ≡ recordBytes g → Sized g (decode g r)
 unfolding decode
@@ -214,19 +173,6 @@ sized-decode g r l = record {
 
 pub well-sized : (g : Geometry) (s : State) → WellFormed g s → Sized g s
 well-sized g s f = record { owed = all-owed g s (f .count) (λ k h. f .panels k h .bands); keys = f .words; flags = f .flags }
-
-pub fits-short : (w lo hi : ℕ) (q : Rect) → w < 65536 → hi < 65536 → fits w lo hi q ≡ true → Short q
-fits-short w lo hi q hw hh e =
-    either (passes-fits w lo hi q e)
-    (λ z. record { left = rw z (omega arith); top = rw z (omega arith); right = rw z (omega arith); bottom = rw z (omega arith) })
-    (λ p. record { left = omega (arith, p); top = omega (arith, p); right = omega (arith, p); bottom = omega (arith, p) })
-
-bands-short : (w band lo : ℕ) (qs : List Rect) → w < 65536 → lo + length qs * band < 65536 → bandsFit w band lo qs ≡ true → AllShort qs
-unfolding bandsFit
-bands-short w band lo [] hw h e = tt
-bands-short w band lo (q ∷ qs) hw h e =
-    let p = and-true (fits w lo (lo + band) q) (bandsFit w band (lo + band) qs) e in
-    (fits-short w lo (lo + band) q hw (omega arith) (p .0), bands-short w band (lo + band) qs hw (omega arith) (p .1))
 
 -- what a head that passes tells of its numbers
 pub record Numbers (g : Geometry) (h : Head) : Type 0 where
@@ -245,17 +191,7 @@ unfolding headFits windows
 head-tells g h e =
     let t = all-true (headTests g h) e in
     let w = all-true (windowTests g (h .graphics) (h .text)) (t .0) in
-    record {
-      graphics = omega (arith, tests);
-      text = omega (arith, tests);
-      row = omega (arith, tests);
-      column = omega (arith, tests);
-      screen = omega (arith, tests);
-      print = omega (arith, tests);
-      cursor = omega (arith, tests);
-      version = omega (arith, tests);
-      dirty = t .1 .1 .1 .1 .1 .1 .1 .0;
-    }
+    search (arith, tests)
 
 pub head-equal : {a b : Head} → a .graphics ≡ b .graphics → a .text ≡ b .text → a .row ≡ b .row → a .column ≡ b .column
     → a .screen ≡ b .screen → a .print ≡ b .print → a .cursor ≡ b .cursor → a .version ≡ b .version → a .dirty ≡ b .dirty → a ≡ b
@@ -267,63 +203,63 @@ head-equal e1 e2 e3 e4 e5 e6 e7 e8 e9 =
 pub head-back : (g : Geometry) (h : Head) → headFits g h ≡ true → headOf (bytesOfHead h) ≡ h
 head-back g h e =
     let n = head-tells g h e in
-    head-equal (two-back (h .graphics) (omega (arith, n))) (two-back (h .text) (omega (arith, n))) refl refl refl refl refl refl
-    (rect-back (h .dirty) [] (fits-short 256 0 256 (h .dirty) (omega arith) (omega arith) (n .dirty)))
+    head-equal (two-back (h .graphics) (omega arith)) (two-back (h .text) (omega arith)) refl refl refl refl refl refl
+    (rect-back 256 0 256 (h .dirty) [] (omega arith) (omega arith) (passes-fits 256 0 256 (h .dirty) (n .dirty)))
+
+pub owed-back : (g : Geometry) (p : Pending) (l : List ℕ) → IsGlass g → WellPending g p → rectsAt (g .bands) (rectsBytes (p .owed) ++ l) 0 ≡ p .owed
+owed-back g p l k f = cc (rects-back (width g) (g .band) 0 (p .owed) l (omega arith) (rw (f .bands) (omega arith)) (owed-fits g p f))
 
 pub pending-back : (g : Geometry) (p : Pending) → IsGlass g → WellPending g p → pendingOf g (bytesOfPending p) 0 ≡ p
-unfolding pendingFits
 pending-back g p k f =
-    let n = g .bands in
+    let n = 0 + 8 * g .bands in
+    let c = bytesOfPending p in
     let rest = rectBytes (p .hand) ++ fourBytes (p .sent) in
-    let t = and-true (bandsFit (width g) (g .band) 0 (p .owed)) (fits (width g) 0 (height g) (p .hand)) (f .passes) in
-    let long : length (rectsBytes (p .owed)) ≡ 8 * n = cc (length-rects (p .owed), f .bands) in
-    let here : drop (0 + 8 * n) (bytesOfPending p) ≡ rest = cc (zero-add (8 * n), drop-at (rectsBytes (p .owed)) rest (8 * n) long) in
-    let there : drop (0 + 8 * n + 8) (bytesOfPending p) ≡ fourBytes (p .sent) = sym (drop-drop 8 (0 + 8 * n) (bytesOfPending p)) ∙ ap (drop 8) here in
-    let owed = rects-back (p .owed) rest (bands-short (width g) (g .band) 0 (p .owed) (omega (arith, k)) (rw (f .bands) (omega (arith, k))) (t .0)) in
-    let hand = rect-back (p .hand) (fourBytes (p .sent)) (fits-short (width g) 0 (height g) (p .hand) (omega (arith, k)) (omega (arith, k)) (t .1)) in
-    λ i. record {
-      owed = (ap (λ (j : ℕ). rectsAt j (bytesOfPending p) 0) (sym (f .bands)) ∙ owed) i;
-      hand = (rect-from (bytesOfPending p) (0 + 8 * n) ∙ ap (λ (l : List ℕ). rectAt l 0) here ∙ hand) i;
-      sent = (four-from (bytesOfPending p) (0 + 8 * n + 8) ∙ ap (λ (l : List ℕ). four l 0) there ∙ four-back (p .sent) (f .counted)) i;
-    }
-
-listing-is : {A : Type 0} (f : ℕ → A) (n : ℕ) (l : List A) (d : A) → length l ≡ n → ((i : ℕ) → i < n → f i ≡ getD l i d) → listing f 0 n ≡ l
-listing-is f n l d e h =
-    ext-getD d (listing f 0 n) l (length-listing f 0 n ∙ sym e)
-    (λ i b. let c : i < n = omega (arith, length-listing f 0 n) in getD-listing f 0 n i d c ∙ ap f (zero-add i) ∙ h i c)
+    let here : drop n c ≡ rest = drop-at (rectsBytes (p .owed)) rest n (omega (arith, length-rects (p .owed))) in
+    let there : drop (n + 8) c ≡ fourBytes (p .sent) = sym (drop-drop 8 n c) ∙ ap (drop 8) here in
+    let hand : rectAt c n ≡ p .hand = cc (rect-from c n, rect-back (width g) 0 (height g) (p .hand) (fourBytes (p .sent)) (omega arith) (omega arith) (hand-fits g p f)) in
+    let sent : four c (n + 8) ≡ p .sent = cc (four-from c (n + 8), four-back (p .sent) (f .counted)) in
+    λ i. record { owed = owed-back g p rest k f i; hand = hand i; sent = sent i }
 
 pub keys-back : (g : Geometry) (s : State) → Sized g s → Words (s .keys) → decode g (encode g s) .keys ≡ s .keys
 unfolding decode partBytes
-keys-back g s z k = cc (part-encode g s z keys (has-keys g), z .keys, append-nil (wordsBytes (s .keys)), words-back (s .keys) [] k)
+keys-back g s z k = cc (part-encode g s z keys (has-keys g), append-nil (wordsBytes (s .keys)), words-back (s .keys) [] k)
 
 pub decode-encode : (g : Geometry) (s : State) → IsGlass g → WellFormed g s → decode g (encode g s) ≡ s
 unfolding decode partBytes
 decode-encode g s k f =
     let z = well-sized g s f in
+    let r = encode g s in
     let b = part-encode g s z in
+    let panels = ext-getD (nothingPending g) (decode g r .panels) (s .panels) (count-decode g r ∙ sym (f .count))
+    (λ j o. let h : j < g .panels = omega (arith, count-decode g r) in cc (panel-decoded g r j h, b (panel j) (has-panel g j h), pending-back g (panelOf g s j) k (f .panels j h))) in
     λ i. record {
       head = (ap headOf (b head (has-head g)) ∙ head-back g (s .head) (f .head)) i;
-      panels = listing-is (λ j. pendingOf g (partIn g (panel j) (encode g s)) 0) (g .panels) (s .panels) (nothingPending g) (f .count)
-          (λ j h. ap (λ (c : List ℕ). pendingOf g c 0) (b (panel j) (has-panel g j h)) ∙ pending-back g (panelOf g s j) k (f .panels j h)) i;
+      panels = panels i;
       keys = keys-back g s z (f .keys) i;
       flags = (ap (flagsIn (cells g)) (b flags (has-flags g)) ∙ flags-written (cells g) (s .flags) (f .flags)) i;
     }
 
+pub sized-panel : (g : Geometry) (k : ℕ) (p : Pending) (s : State) → Sized g s → k < length (s .panels) → length (p .owed) ≡ g .bands → Sized g (withPanel k p s)
+sized-panel g k p s z h n = record {
+  owed = λ i. by-eq i k (λ e. rw (e, getD-set-same (s .panels) k p (nothingPending g) h) n) (λ e. rw (getD-set-other (s .panels) k i p (nothingPending g) e) (z .owed i));
+  keys = z .keys;
+  flags = z .flags;
+}
+
 -- ---- a store of one part: the bytes of the state with that part changed, and no other
 
-module _ (g : Geometry) (q : RecordPart) (s t : State) where
-  -- the bytes of the part q of t stored in the bytes of s, where the other parts of the two states are the same
-  pub put-part : IsGlass g → has q (layout g) ≡ true → Sized g s → length (partBytes g t q) ≡ size g q → (samePart q head ≡ false → s .head ≡ t .head)
-      → ((k : ℕ) → samePart q (panel k) ≡ false → panelOf g s k ≡ panelOf g t k) → (samePart q keys ≡ false → s .keys ≡ t .keys)
-      → (samePart q flags ≡ false → s .flags ≡ t .flags) → withWindow (at g q) (partBytes g t q) (encode g s) ≡ encode g t
-  unfolding encode partBytes
-  put-part l h z n a b c d = part-stored (size g) (partBytes g s) (partBytes g t) q (layout g) (sizes g s z) n but h (l .apart)
-    where
-      but : (p : RecordPart) → samePart q p ≡ false → partBytes g s p ≡ partBytes g t p
-      but head e = ap bytesOfHead (a e)
-      but (panel k) e = ap bytesOfPending (b k e)
-      but keys e = ap wordsBytes (c e)
-      but flags e = ap bytesOfFlags (d e)
+-- the bytes of the part q of t stored in the bytes of s, where the other parts of the two states are the same
+put-part : (g : Geometry) (q : RecordPart) (s t : State) → IsGlass g → has q (layout g) ≡ true → Sized g s → length (partBytes g t q) ≡ size g q
+    → (samePart head q ≡ false → s .head ≡ t .head) → ((k : ℕ) → samePart (panel k) q ≡ false → panelOf g s k ≡ panelOf g t k)
+    → (samePart keys q ≡ false → s .keys ≡ t .keys) → (samePart flags q ≡ false → s .flags ≡ t .flags) → withWindow (at g q) (partBytes g t q) (encode g s) ≡ encode g t
+unfolding encode partBytes
+put-part g q s t l h z n a b c d = part-stored (size g) (partBytes g s) (partBytes g t) q (layout g) (sizes g s z) n but h (l .apart)
+  where
+    but : (p : RecordPart) → samePart p q ≡ false → partBytes g s p ≡ partBytes g t p
+    but head e = ap bytesOfHead (a e)
+    but (panel k) e = ap bytesOfPending (b k e)
+    but keys e = ap wordsBytes (c e)
+    but flags e = ap bytesOfFlags (d e)
 
 pub put-head : (g : Geometry) (h : Head) (s : State) → IsGlass g → Sized g s → withWindow 0 (bytesOfHead h) (encode g s) ≡ encode g (withHead h s)
 unfolding partBytes offset
@@ -331,8 +267,7 @@ put-head g h s l z = put-part g head s (withHead h s) l (has-head g) z refl (λ 
 
 pub put-keys : (g : Geometry) (ks : List ℕ) (s : State) → IsGlass g → Sized g s → length ks ≡ 8 → withWindow (at g keys) (wordsBytes ks) (encode g s) ≡ encode g (withKeyWords ks s)
 unfolding partBytes
-put-keys g ks s l z n =
-    put-part g keys s (withKeyWords ks s) l (has-keys g) z (length-words ks ∙ ap (λ (k : ℕ). 4 * k) n) (λ e. refl) (λ k e. refl) (λ e. clash true refl e) (λ e. refl)
+put-keys g ks s l z n = put-part g keys s (withKeyWords ks s) l (has-keys g) z (cc (length-words ks)) (λ e. refl) (λ k e. refl) (λ e. clash true refl e) (λ e. refl)
 
 pub put-flags : (g : Geometry) (fs : List Bool) (s : State) → IsGlass g → Sized g s → length fs ≡ cells g → withWindow (at g flags) (bytesOfFlags fs) (encode g s) ≡ encode g (withFlags fs s)
 unfolding partBytes
@@ -342,17 +277,7 @@ pub put-panel : (g : Geometry) (k : ℕ) (p : Pending) (s : State) → IsGlass g
     → withWindow (at g (panel k)) (bytesOfPending p) (encode g s) ≡ encode g (withPanel k p s)
 unfolding partBytes
 put-panel g k p s l z h c n =
-    let here : panelOf g (withPanel k p s) k ≡ p = getD-set-same (s .panels) k p (nothingPending g) (omega arith) in
-    ap (λ (q : Pending). withWindow (at g (panel k)) (bytesOfPending q) (encode g s)) (sym here)
-    ∙ put-part g (panel k) s (withPanel k p s) l (has-panel g k h) z (length-pending g (panelOf g (withPanel k p s) k) (rw here n)) (λ e. refl)
-    (λ i e. sym (getD-set-other (s .panels) k i p (nothingPending g) (λ q. omega (arith, tests)))) (λ e. refl) (λ e. refl)
-
-pub sized-panel : (g : Geometry) (k : ℕ) (p : Pending) (s : State) → Sized g s → k < length (s .panels) → length (p .owed) ≡ g .bands → Sized g (withPanel k p s)
-sized-panel g k p s z h n = record {
-  owed = λ i.
-      by-eq i k
-      (λ e. rw (e, getD-set-same (s .panels) k p (nothingPending g) h) n)
-      (λ e. rw (getD-set-other (s .panels) k i p (nothingPending g) e) (z .owed i));
-  keys = z .keys;
-  flags = z .flags;
-}
+    let t = withPanel k p s in
+    let here : panelOf g t k ≡ p = getD-set-same (s .panels) k p (nothingPending g) (omega arith) in
+    cc (put-part g (panel k) s t l (has-panel g k h) z (sizes g t (sized-panel g k p s z (omega arith) n) (panel k)) (λ e. refl)
+    (λ i e. sym (getD-set-other (s .panels) k i p (nothingPending g) (λ q. omega (arith, tests)))) (λ e. refl) (λ e. refl))

@@ -1,7 +1,7 @@
 -- A send on the bytes of a panel's part: what is owed moves into hand, the hand loses a line, the count gains one.
-use mathlib.Core.Path.{_≡_, refl, sym, ap, _∙_}
+use mathlib.Core.Path.{_≡_, refl, ap, _∙_}
 use mathlib.Core.Bool.{Bool, true, false}
-use mathlib.Core.List.{List, [], _∷_, _++_, append-assoc}
+use mathlib.Core.List.{List, _++_, append-assoc}
 use Prim.Native.Nat.{ℕ, _+_, _*_, _<_, _≤_, min}
 use native.Mathlib.Omega.{arith}
 use lib.ListN.{length, getD, length-append}
@@ -12,19 +12,18 @@ use Rattle.model.specs.Geometry.{Geometry, width, height}
 use Rattle.model.specs.Glass.{geometry}
 use Rattle.model.specs.Memory.{withWindow}
 use Rattle.model.specs.Rects.{none, isEmpty}
-use Rattle.model.specs.Bytes.{rectAt, rectsAt, rectBytes, rectsBytes, four, fourBytes, Bytes}
-use Rattle.model.specs.Record.{panel, at, Pending, decode, encode, pendingOf, panelOf, nothingPending, withPanel, withPanels}
-use Rattle.model.specs.Sends.{firstOwed, restOwed, takeOwed, nextLine, lineSent, sendPending}
-use Rattle.laws.specs.Tests.{by-test, either, clash}
+use Rattle.model.specs.Bytes.{rectAt, rectBytes, rectsBytes, four, fourBytes, Bytes}
+use Rattle.model.specs.Record.{panel, at, Pending, decode, encode, pendingOf, panelOf, nothingPending, withPanel, withPanels, WellPending}
+use Rattle.model.specs.Sends.{takeOwed, nextLine, lineSent, sendPending}
+use Rattle.laws.specs.Tests.{if-cases, either}
 use Rattle.laws.specs.Rects.{Proper}
 use Rattle.laws.specs.Memory.{window-extend}
-use Rattle.laws.specs.Layout.{length-rects, length-rectsAt, rects-again}
-use Rattle.laws.specs.Bands.{length-restOwed}
+use Rattle.laws.specs.Layout.{length-rects}
+use Rattle.laws.specs.Bands.{hand-fits, well-take, to-send, none-left}
 use Rattle.laws.specs.Record.{encode-decode, panel-decoded, put-panel, sized-decode, count-decode}
 use Rattle.laws.specs.Windows.{pending-part}
 use Rattle.laws.specs.States.{well-formed}
-use Rattle.laws.specs.Pendings.{hand-fits, well-take, to-send}
-use Rattle.laws.specs.Owed.{Took, rested, window-again}
+use Rattle.laws.specs.Owed.{Took, rested, owed-again}
 use Rattle.laws.specs.Panels.{Known, panel-room}
 
 -- ---- taken in hand
@@ -37,85 +36,39 @@ pub record InHand (g : Geometry) (a : ℕ) (r : List ℕ) (q : Rect) (r′ : Lis
 pub hand-full : (g : Geometry) (a : ℕ) (r : List ℕ) {q : Rect} {t : Bool} → ((i : ℕ) → getD r i 0 < 256) → a + 8 * g .bands ≤ length r
     → q ≡ rectAt r (a + 8 * g .bands) → t ≡ isEmpty q → t ≡ false → InHand g a r q r
 unfolding takeOwed Bytes
-hand-full g a r b h e f k =
-    let y : isEmpty (rectAt r (a + 8 * g .bands)) ≡ false = ap isEmpty (sym e) ∙ sym f ∙ k in
-    record {
-      hand = rw y e;
-      owed = rw y (sym (window-again a (8 * g .bands) (rectsBytes (rectsAt (g .bands) r a)) r
-          (length-rects (rectsAt (g .bands) r a) ∙ ap (λ (n : ℕ). 8 * n) (length-rectsAt (g .bands) r a)) (rects-again (g .bands) r a b h)));
-    }
+hand-full g a r b h e f k = record { hand = cc; owed = cc (owed-again (g .bands) a r b h) }
 
 pub hand-taken : (g : Geometry) (a : ℕ) (r : List ℕ) {q p : Rect} {t : Bool} {r′ : List ℕ} → q ≡ rectAt r (a + 8 * g .bands) → t ≡ isEmpty q → t ≡ true
     → Took (g .bands) a r p r′ → InHand g a r p r′
 unfolding takeOwed rested
-hand-taken g a r e f k w =
-    let y : isEmpty (rectAt r (a + 8 * g .bands)) ≡ true = ap isEmpty (sym e) ∙ sym f ∙ k in
-    record { hand = rw y (w .first); owed = rw y (w .rest) }
-
--- ---- nothing to send
-
-rest-none : (rs : List Rect) → isEmpty (firstOwed rs) ≡ true → restOwed rs ≡ rs
-unfolding firstOwed restOwed
-rest-none [] e = refl
-rest-none (r ∷ rs) e =
-    by-test (isEmpty r)
-    (λ t. rw t (ap (λ (l : List Rect). r ∷ l) (rest-none rs (rw t at e))))
-    (λ t. rw t (clash (isEmpty r) (rw t at e) t))
-
-take-none : (p : Pending) → isEmpty (takeOwed p .hand) ≡ true → takeOwed p .owed ≡ p .owed
-unfolding takeOwed
-take-none p e =
-    by-test (isEmpty (p .hand))
-    (λ t. rw t (rest-none (p .owed) (rw t at e)))
-    (λ t. rw t refl)
-
-length-taken : (p : Pending) → length (takeOwed p .owed) ≡ length (p .owed)
-unfolding takeOwed
-length-taken p = by-test (isEmpty (p .hand)) (λ t. rw t (length-restOwed (p .owed))) (λ t. rw t refl)
+hand-taken g a r e f k w = record { hand = cc; owed = cc }
 
 taken-sent : (p : Pending) → takeOwed p .sent ≡ p .sent
 unfolding takeOwed
-taken-sent p = by-test (isEmpty (p .hand)) (λ t. rw t refl) (λ t. rw t refl)
-
-send-idle : (p : Pending) → isEmpty (takeOwed p .hand) ≡ true → sendPending p ≡ p
-unfolding sendPending
-send-idle p e = rw e
-
-send-line : (p : Pending) → isEmpty (takeOwed p .hand) ≡ false
-    → record { owed = takeOwed p .owed; hand = nextLine (takeOwed p .hand); sent = min (p .sent + 1) 4294967295 } ≡ sendPending p
-unfolding sendPending lineSent
-send-line p e = rw e (λ i. record { owed = takeOwed p .owed; hand = nextLine (takeOwed p .hand); sent = min (sym (taken-sent p) i + 1) 4294967295 })
-
--- three windows, one after another
-three : (a n : ℕ) (x y z d : List ℕ) → length x ≡ 8 * n → length y ≡ 8 → a ≤ length d
-    → withWindow (a + 8 * n + 8) z (withWindow (a + 8 * n) y (withWindow a x d)) ≡ withWindow a (x ++ (y ++ z)) d
-three a n x y z d e f h =
-    let l : a + 8 * n + 8 ≡ a + (8 * n + 8) = omega arith in
-    cc (window-extend a (8 * n) x y d e h, window-extend a (8 * n + 8) (x ++ y) z d (omega (arith, length-append x y)) h, append-assoc x y z)
+taken-sent p = if-cases (λ (q : Pending). q .sent ≡ p .sent) (isEmpty (p .hand)) (λ t. refl) (λ t. refl)
 
 -- ---- as the code goes, with the glass by value
 
 module _ {v : Glass} {r : List ℕ} (k : ℕ) (w : Known v r) (h : k < v .panels) where
   -- the panel's part where it stands
-  pub panel-here : panelOf (geometry v) (decode (geometry v) r) k ≡ pendingOf (geometry v) r (at (geometry v) (panel k))
+  panel-here : panelOf (geometry v) (decode (geometry v) r) k ≡ pendingOf (geometry v) r (at (geometry v) (panel k))
   panel-here = panel-decoded (geometry v) r k h ∙ pending-part (geometry v) r k
+
+  well : WellPending (geometry v) (panelOf (geometry v) (decode (geometry v) r) k)
+  well = well-formed (geometry v) r (w .passing) .panels k h
 
   pub line-sent : {a : ℕ} {q : Rect} {r′ : List ℕ} → a ≡ at (geometry v) (panel k)
       → InHand (geometry v) a r q r′ → q ≡ takeOwed (panelOf (geometry v) (decode (geometry v) r) k) .hand
-  line-sent e i = cc (i .hand, panel-here)
+  line-sent e i = cc panel-here
 
   -- what is in hand lies on the screen, so that a line can follow its top
   pub line-follows : {a : ℕ} {q : Rect} {r′ : List ℕ} → a ≡ at (geometry v) (panel k) → InHand (geometry v) a r q r′ → q .top < 65535
-  line-follows e i =
-      let g = geometry v in
-      let p = panelOf g (decode g r) k in
-      rw (line-sent e i)
-      (either (hand-fits g (takeOwed p) (well-take g p (well-formed g r (w .passing) .panels k h))) (λ z. rw z (omega arith)) (λ z. omega (arith, z, w .suits .glass .high)))
+  line-follows e i = rw (line-sent e i) (either (hand-fits _ _ (well-take _ _ well)) (λ z. rw z (omega arith)) (λ z. omega arith))
 
   -- idle: the record stays
   pub idle : {a : ℕ} {q : Rect} {r′ : List ℕ} {t : Bool} → a ≡ at (geometry v) (panel k) → InHand (geometry v) a r q r′ → t ≡ isEmpty q → t ≡ true
       → r′ ≡ encode (geometry v) (withPanel k (sendPending (panelOf (geometry v) (decode (geometry v) r) k)) (decode (geometry v) r))
-  unfolding Bytes
+  unfolding sendPending
   idle {a} {q} {r′} e i f y =
       let g = geometry v in
       let s = decode g r in
@@ -123,16 +76,16 @@ module _ {v : Glass} {r : List ℕ} (k : ℕ) (w : Known v r) (h : k < v .panels
       let c = at g (panel k) in
       let room = panel-room v k (w .suits) h in
       let none : isEmpty (takeOwed p .hand) ≡ true = cc (line-sent e i) in
-      let n : length (rectsBytes (rectsAt (g .bands) r c)) ≡ 8 * g .bands = cc (length-rects (rectsAt (g .bands) r c), length-rectsAt (g .bands) r c) in
-      let same = window-again c (8 * g .bands) (rectsBytes (rectsAt (g .bands) r c)) r n (rects-again (g .bands) r c (w .passing .bytes) (omega (arith, w .passing .sized))) in
+      let same = owed-again (g .bands) c r (w .passing .bytes) (omega arith) in
       let kept = ap (λ (l : List Pending). encode g (withPanels l s)) (set-getD (s .panels) k (nothingPending g)) in
-      cc (i .owed, panel-here, take-none p none, encode-decode g r (w .passing), send-idle p none)
+      cc (panel-here, none-left g p well none .1, encode-decode g r (w .passing))
 
   -- a line sent
   pub sends : {a : ℕ} {q n : Rect} {c : ℕ} {r′ s t : List ℕ} {u : Bool} → a ≡ at (geometry v) (panel k) → InHand (geometry v) a r q r′ → u ≡ isEmpty q → u ≡ false
       → n ≡ nextLine q → s ≡ withWindow (a + 8 * v .bands) (rectBytes n) r′ → c ≡ min (four r (a + 8 * v .bands + 8) + 1) 4294967295
       → t ≡ withWindow (a + 8 * v .bands + 8) (fourBytes c) s
       → t ≡ encode (geometry v) (withPanel k (sendPending (panelOf (geometry v) (decode (geometry v) r) k)) (decode (geometry v) r))
+  unfolding sendPending lineSent
   sends {a} {q} {n} {c} e i f y m s j t =
       let g = geometry v in
       let st = decode g r in
@@ -141,10 +94,14 @@ module _ {v : Glass} {r : List ℕ} (k : ℕ) (w : Known v r) (h : k < v .panels
       let room = panel-room v k (w .suits) h in
       let some : isEmpty (takeOwed p .hand) ≡ false = cc (line-sent e i) in
       let owed = takeOwed p .owed in
-      let count : length owed ≡ g .bands = cc (length-taken p, panel-here, length-rectsAt (g .bands) r d) in
-      let one = three d (v .bands) (rectsBytes owed) (rectBytes n) (fourBytes c) r (length-rects owed ∙ ap (λ (x : ℕ). 8 * x) count) refl (omega (arith, w .passing .sized)) in
+      let count : length owed ≡ g .bands = well-take g p well .bands in
+      let long : length (rectsBytes owed) ≡ 8 * v .bands = cc (length-rects owed) in
+      let l : d + 8 * v .bands + 8 ≡ d + (8 * v .bands + 8) = omega arith in
+      let starts : d ≤ length r = omega arith in
+      let two = window-extend d (8 * v .bands) (rectsBytes owed) (rectBytes n) r long starts in
+      let three = window-extend d (8 * v .bands + 8) (rectsBytes owed ++ rectBytes n) (fourBytes c) r (omega (arith, length-append (rectsBytes owed) (rectBytes n))) starts in
       let put = put-panel g k (record { owed = owed; hand = n; sent = c }) st (w .suits .glass) (sized-decode g r (w .passing .sized)) h (count-decode g r) count in
-      cc (i .owed, panel-here, line-sent e i, encode-decode g r (w .passing), send-line p some)
+      cc (panel-here, line-sent e i, encode-decode g r (w .passing), taken-sent p, append-assoc (rectsBytes owed) (rectBytes n) (fourBytes c))
 
 -- the rectangle whose top line is sent, and the record
 pub record SentOn (v : Glass) (k : ℕ) (r : List ℕ) (q : Rect) (r′ : List ℕ) : Type 0 where
@@ -154,7 +111,4 @@ pub record SentOn (v : Glass) (k : ℕ) (r : List ℕ) (q : Rect) (r′ : List �
 -- the line that is sent lies on the screen
 pub sent-proper : {v : Glass} {k : ℕ} {r : List ℕ} {q : Rect} {r′ : List ℕ} {t : Bool} → Known v r → k < v .panels → SentOn v k r q r′ → t ≡ isEmpty q → t ≡ false
     → Proper (width (geometry v)) 0 (height (geometry v)) q
-sent-proper {v} {k} {r} w h i e f =
-    let g = geometry v in
-    let p = panelOf g (decode g r) k in
-    rw (i .line) (to-send g p (well-formed g r (w .passing) .panels k h) (ap isEmpty (sym (i .line)) ∙ sym e ∙ f))
+sent-proper {k = k} w h i e f = rw (i .line) (to-send _ _ (well k w h) (cc))

@@ -1,18 +1,16 @@
 -- A record that passes STATE means a well formed state, and the bytes of a well formed state pass.
-use mathlib.Core.Path.{_≡_, refl, sym, ap, _∙_}
+use mathlib.Core.Path.{_≡_, refl, ap, _∙_}
 use mathlib.Core.List.{List, [], _∷_, _++_}
 use mathlib.Core.Bool.{true}
-use Prim.Native.Nat.{ℕ, zero, suc, _+_, _*_, _%_, _/_, _<_}
+use Prim.Native.Nat.{ℕ, zero, suc, _+_, _*_, _<_}
 use native.Mathlib.Omega.{arith}
 use Rattle.model.specs.declared.Rect.{Rect}
-use Rattle.model.specs.declared.Head.{Head}
 use Rattle.model.specs.Geometry.{Geometry, cells}
 use Rattle.model.specs.Bytes.{wordsAt, four, rectBytes, rectsBytes, wordsBytes, fourBytes, Bytes, Words}
-use Rattle.model.specs.Flags.{flagsFit}
-use Rattle.model.specs.Record.{RecordPart, head, panel, keys, flags, has, layout, size, partIn, Pending, State, decode, encode, bytesOfHead, bytesOfPending, partBytes, panelOf, headFits, pendingFits, partFits, valid, WellFormed}
+use Rattle.model.specs.Record.{RecordPart, written, head, panel, keys, flags, has, layout, size, partIn, State, decode, encode, bytesOfHead, partBytes, panelOf, partFits, valid, WellFormed}
 use Rattle.model.specs.Glass.{IsGlass}
 use Rattle.laws.specs.Layout.{bytes-cons, bytes-nil, bytes-append, length-rectsAt}
-use Rattle.laws.specs.PartLists.{length-written, bytes-written, all-of}
+use Rattle.laws.specs.PartLists.{length-written, all-of}
 use Rattle.laws.specs.Flags.{length-flagsIn, flags-fit, flags-bytes}
 use Rattle.laws.specs.Record.{Passing, head-tells, part-passes, has-head, has-flags, has-panel, panel-has, length-part, bytes-part, panel-decoded, count-decode, well-sized, sizes, part-encode, head-back, pending-back}
 
@@ -43,61 +41,50 @@ well-formed g r p = record {
 
 -- ---- a well formed state
 
--- two bytes of a number, before others
-pair : (n : ℕ) (l : List ℕ) → Bytes l → Bytes (n % 256 ∷ n / 256 % 256 ∷ l)
-pair n l b = bytes-cons (n % 256) _ (omega arith) (bytes-cons (n / 256 % 256) _ (omega arith) b)
+abbrev AllBytes : List ℕ → Type 0
+AllBytes [] = Unit {0}
+AllBytes (x ∷ l) = (x < 256) × AllBytes l
 
-rect : (q : Rect) (l : List ℕ) → Bytes l → Bytes (rectBytes q ++ l)
-rect q l b = pair (q .left) _ (pair (q .top) _ (pair (q .right) _ (pair (q .bottom) _ b)))
-
-word : (n : ℕ) (l : List ℕ) → Bytes l → Bytes (fourBytes n ++ l)
-word n l b = pair n _ (bytes-cons (n / 65536 % 256) _ (omega arith) (bytes-cons (n / 16777216 % 256) _ (omega arith) b))
+bytes-all : (l : List ℕ) → AllBytes l → Bytes l
+bytes-all [] a = bytes-nil
+bytes-all (x ∷ l) a = bytes-cons x l (a .0) (bytes-all l (a .1))
 
 rects-bytes : (qs : List Rect) → Bytes (rectsBytes qs)
 rects-bytes [] = bytes-nil
-rects-bytes (q ∷ qs) = rect q (rectsBytes qs) (rects-bytes qs)
+rects-bytes (q ∷ qs) = bytes-append (rectBytes q) (rectsBytes qs) (bytes-all (rectBytes q) (omega arith)) (rects-bytes qs)
 
 words-bytes : (ws : List ℕ) → Bytes (wordsBytes ws)
 words-bytes [] = bytes-nil
-words-bytes (w ∷ ws) = word w (wordsBytes ws) (words-bytes ws)
+words-bytes (w ∷ ws) = bytes-append (fourBytes w) (wordsBytes ws) (bytes-all (fourBytes w) (omega arith)) (words-bytes ws)
 
-head-bytes : (g : Geometry) (h : Head) → IsGlass g → headFits g h ≡ true → Bytes (bytesOfHead h)
-head-bytes g h k e =
-    let n = head-tells g h e in
-    pair (h .graphics) _ (pair (h .text) _
-    (bytes-cons (h .row) _ (omega (arith, n, k)) (bytes-cons (h .column) _ (omega (arith, n, k))
-    (bytes-cons (h .screen) _ (omega (arith, n)) (bytes-cons (h .print) _ (omega (arith, n))
-    (bytes-cons (h .cursor) _ (omega (arith, n)) (bytes-cons (h .version) _ (omega (arith, n)) (rect (h .dirty) [] bytes-nil))))))))
-
-pending-bytes : (p : Pending) → Bytes (bytesOfPending p)
-pending-bytes p =
-    bytes-append (rectsBytes (p .owed)) (rectBytes (p .hand) ++ fourBytes (p .sent)) (rects-bytes (p .owed))
-    (rect (p .hand) (fourBytes (p .sent)) (word (p .sent) [] bytes-nil))
+bytes-written : (f : RecordPart → List ℕ) (ps : List RecordPart) → ((p : RecordPart) → Bytes (f p)) → Bytes (written f ps)
+unfolding written
+bytes-written f [] b = bytes-nil
+bytes-written f (p ∷ ps) b = bytes-append (f p) (written f ps) (b p) (bytes-written f ps b)
 
 module _ (g : Geometry) (k : IsGlass g) (s : State) (f : WellFormed g s) where
   part-bytes : (p : RecordPart) → Bytes (partBytes g s p)
   unfolding partBytes
-  part-bytes head = head-bytes g (s .head) k (f .head)
-  part-bytes (panel i) = pending-bytes (panelOf g s i)
+  part-bytes head = let n = head-tells g (s .head) (f .head) in bytes-all (bytesOfHead (s .head)) (omega arith)
+  part-bytes (panel i) =
+      let p = panelOf g s i in
+      let rest = rectBytes (p .hand) ++ fourBytes (p .sent) in
+      bytes-append (rectsBytes (p .owed)) rest (rects-bytes (p .owed)) (bytes-all rest (omega arith))
   part-bytes keys = words-bytes (s .keys)
   part-bytes flags = flags-bytes (s .flags)
 
   part-fits : (p : RecordPart) → has p (layout g) ≡ true → partFits g p (partBytes g s p) ≡ true
   unfolding partBytes partFits
-  part-fits head h = ap (headFits g) (head-back g (s .head) (f .head)) ∙ f .head
-  part-fits (panel i) h =
-      let w = f .panels i (panel-has g i (k .one) h) in
-      ap (pendingFits g) (pending-back g (panelOf g s i) k w) ∙ w .passes
+  part-fits head h = cc (head-back g (s .head) (f .head))
+  part-fits (panel i) h = let w = f .panels i (panel-has g i (k .one) h) in cc (pending-back g (panelOf g s i) k w)
   part-fits keys h = refl
-  part-fits flags h = ap (λ (n : ℕ). flagsFit n (partBytes g s flags)) (sym (f .flags)) ∙ flags-fit (s .flags)
+  part-fits flags h = cc (flags-fit (s .flags))
 
   pub encode-passing : Passing g (encode g s)
   unfolding encode valid
-  encode-passing =
-      let z = well-sized g s f in
-      record {
-        glass = k;
-        sized = length-written (size g) (partBytes g s) (layout g) (sizes g s z);
-        bytes = bytes-written (partBytes g s) (layout g) part-bytes;
-        passes = all-of (λ p. partFits g p (partIn g p (encode g s))) (layout g) (λ p h. ap (partFits g p) (part-encode g s z p h) ∙ part-fits p h);
-      }
+  encode-passing = record {
+    glass = k;
+    sized = length-written (size g) (partBytes g s) (layout g) (sizes g s (well-sized g s f));
+    bytes = bytes-written (partBytes g s) (layout g) part-bytes;
+    passes = all-of (λ p. partFits g p (partIn g p (encode g s))) (layout g) (λ p h. ap (partFits g p) (part-encode g s (well-sized g s f) p h) ∙ part-fits p h);
+  }

@@ -1,5 +1,5 @@
 -- The text of a glass: its rows on the screen, and its page in record and memory.
-use mathlib.Core.Path.{_≡_, sym, ap, _∙_}
+use mathlib.Core.Path.{_≡_, ap}
 use mathlib.Core.List.{List}
 use Prim.Native.Nat.{ℕ, _+_, _*_, _≤_}
 use native.Mathlib.Nat.{mul-le-mul-left}
@@ -13,22 +13,16 @@ use Rattle.laws.specs.Memory.{length-window}
 use Rattle.laws.specs.Record.{head-tells}
 use Rattle.laws.specs.Pages.{Sheet}
 
-turned : (s r : ℕ) → s * (glyphHeight * r) ≡ r * (glyphHeight * s)
-turned s r = omega arith
-
 module _ (g : Geometry) (z : IsGlass g) where
   pub screen-rows : screenBytes g ≡ rows g * rowBytes g
-  screen-rows = ap (λ (n : ℕ). g .stride * n) (sym (z .filled)) ∙ turned (g .stride) (rows g)
+  screen-rows = omega (arith, ap (λ (n : ℕ). g .stride * n) (z .filled))
 
   -- a text row of the screen lies on it
   pub row-room : rowBytes g ≤ screenBytes g
-  row-room =
-      let r : glyphHeight ≤ height g = omega (arith, z .row) in
-      let e : g .stride * glyphHeight ≤ g .stride * height g = mul-le-mul-left (g .stride) r in
-      omega arith
+  row-room = omega (arith, mul-le-mul-left {m = glyphHeight} {n = height g} (g .stride) (omega (arith, z)))
 
   pub page-sheet : (s : State) (m : List ℕ) → WellFormed g s → s .head .text + cells g ≤ length m → (n : ℕ) → n ≤ 1 → Sheet (rows g) (columns g) n (pageOf g s m)
   unfolding pageOf
   page-sheet s m w h n k =
       let t = head-tells g (s .head) (w .head) in
-      record { wide = z .columns; text = length-window (s .head .text) (cells g) m h; flags = w .flags; row = t .row; room = omega (arith, t .column) }
+      record { wide = z .columns; text = length-window (s .head .text) (cells g) m h; flags = w .flags; row = t .row; room = omega arith }

@@ -17,10 +17,9 @@ use Rattle.model.specs.Lists.{Effect, nothing, marks, opens, sends, affected, I
 use Rattle.laws.specs.Tests.{tests, if-cases, by-test, by-eq, by-lt, clash, either}
 use Rattle.laws.specs.Pixels.{place-lt, length-copyRun, copyRun-other, copyRun-same}
 use Rattle.laws.specs.Rects.{Proper, decIn, in-not-none, not-in-none}
-use Rattle.laws.specs.Bands.{joinOwed-keeps, joinOwed-marks, in-split}
+use Rattle.laws.specs.Bands.{joinOwed-keeps, joinOwed-marks, in-split, well-owing, well-open, well-send, low-send, to-send}
 use Rattle.laws.specs.Writes.{AgreeOutside}
 use Rattle.laws.specs.Counts.{none-differ}
-use Rattle.laws.specs.Pendings.{well-owing, well-open, well-send, low-send, to-send}
 
 -- the screen, the panel, and what the panel has still to be sent
 pub record PanelState : Type 0 where

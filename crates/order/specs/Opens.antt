@@ -26,7 +26,7 @@ use Rattle.laws.specs.Writes.{whole-agrees}
 use Rattle.laws.specs.Loops.{length-zeros, length-withKeys}
 use Rattle.laws.specs.Record.{head-tells}
 use Rattle.laws.specs.Flags.{length-no-flags}
-use Rattle.laws.specs.Pendings.{well-open, well-send}
+use Rattle.laws.specs.Bands.{well-open, well-send}
 use Rattle.order.specs.Held.{length-send}
 use Rattle.order.specs.Step.{panel-formed, page-formed, Lendable, old, screenHeld, Step, known, stored, rewritten-step}
 

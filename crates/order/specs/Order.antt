@@ -14,7 +14,7 @@ use Rattle.model.specs.Refusals.{refusal, ruled}
 use Rattle.model.specs.Calls.{Call, opening, send, Lent, answered, refusals, done, outcome}
 use Rattle.model.specs.Lists.{accepted, Typed, Item, here, after, run, Effect, opens, effect, affected, effectAt, itemEffect, reckoned, linesLeft, differing}
 use Rattle.laws.specs.Calls.{own-decide, outcome-done}
-use Rattle.laws.specs.Pendings.{lines-send, idle-iff, lines-bound}
+use Rattle.laws.specs.Bands.{lines-send, idle-iff, lines-bound}
 use Rattle.order.specs.Held.{PanelState, Held, held-open, held-after, none-left}
 use Rattle.order.specs.Step.{Lendable, view, Step}
 use Rattle.order.specs.Opens.{opening-step}

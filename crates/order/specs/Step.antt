@@ -23,7 +23,7 @@ use Rattle.laws.specs.Memory.{length-window, length-withWindow, window-same}
 use Rattle.laws.specs.Writes.{AgreeOutside}
 use Rattle.laws.specs.Record.{Passing, head-tells, decode-encode}
 use Rattle.laws.specs.States.{well-formed, encode-passing}
-use Rattle.laws.specs.Pendings.{well-owing}
+use Rattle.laws.specs.Bands.{well-owing}
 use Rattle.order.specs.Held.{PanelState, Follows}
 
 -- ---- a head that passes STATE

@@ -25,7 +25,7 @@ use Rattle.laws.specs.Loops.{length-zeros}
 use Rattle.laws.specs.Record.{Passing, decode-encode}
 use Rattle.laws.specs.Glasses.{base-glass}
 use Rattle.laws.specs.States.{well-formed, encode-passing}
-use Rattle.laws.specs.Pendings.{well-nothing}
+use Rattle.laws.specs.Bands.{well-nothing}
 use Rattle.order.specs.Step.{panel-formed, marked-formed, screen-in, screen-long}
 use Rattle.order.specs.Opens.{open-formed}
 use Rattle.pictures.specs.Picture.{graphicsIn, screenIn, Unmarked, withMarks, Drew}

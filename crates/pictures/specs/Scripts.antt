@@ -31,7 +31,7 @@ use Rattle.laws.specs.States.{encode-passing}
 use Rattle.laws.specs.Memory.{length-withWindow, window-same}
 use Rattle.laws.specs.Loops.{length-zeros}
 use Rattle.laws.specs.Counts.{byteDiffers, bytesDiffer, differing-bytes}
-use Rattle.laws.specs.Pendings.{well-send}
+use Rattle.laws.specs.Bands.{well-send}
 use Rattle.order.specs.Step.{panel-formed, marked-formed}
 use Rattle.order.specs.Opens.{length-clear-memory, open-formed}
 use Rattle.pictures.specs.Picture.{rect}
