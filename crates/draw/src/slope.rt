@@ -5,7 +5,7 @@ ghost use Prim.Native.Nat.{_+_, _-_, _%_, _≤_, _<_, min, max};
 ghost use lib.Dec.{leb, ltb};
 ghost use Rattle.model.specs.Pixels.{Screen, draw, seen};
 ghost use Rattle.model.specs.Lines.{errorSum, stepped, nextError, slope, sloped};
-ghost use Rattle.laws.specs.Lines.{slopeBy};
+ghost use Rattle.laws.specs.Slopes.{slopeBy};
 use model::Canvas;
 use model::DrawMode;
 use pixels::point::plot_seen;

@@ -27,6 +27,8 @@ pub mod Cursors
 pub mod Writes
 pub mod Points
 pub mod Lines
+pub mod Slopes
+pub mod Masks
 pub mod Runs
 pub mod Boxes
 pub mod Bitmaps

@@ -13,7 +13,7 @@ use Rattle.model.specs.Ellipses.{ellipse, radiiFit}
 use Rattle.model.specs.Bitmaps.{bitmap}
 use Rattle.laws.specs.Writes.{OwesItsMark}
 use Rattle.laws.specs.Points.{point-owes}
-use Rattle.laws.specs.Lines.{line-owes}
+use Rattle.laws.specs.Slopes.{line-owes}
 use Rattle.laws.specs.Boxes.{box-owes}
 use Rattle.laws.specs.EllipseMarks.{ellipse-owes}
 use Rattle.laws.specs.Bitmaps.{bitmap-owes}

@@ -23,7 +23,7 @@ use Rattle.model.specs.Lists.{accepted, Typed, Item, after, draws, effect, item
 use Rattle.laws.specs.Tests.{if-cases}
 use Rattle.laws.specs.Record.{head-tells}
 use Rattle.laws.specs.Points.{point-fits}
-use Rattle.laws.specs.Lines.{line-fits}
+use Rattle.laws.specs.Slopes.{line-fits}
 use Rattle.laws.specs.Boxes.{box-fits}
 use Rattle.laws.specs.EllipseMarks.{ellipse-fits}
 use Rattle.laws.specs.Bitmaps.{bitmap-fits}

@@ -17,7 +17,8 @@ use Rattle.model.specs.Bytes.{Bytes}
 use Rattle.model.specs.Sends.{copyLine}
 use Rattle.laws.specs.Tests.{by-lt}
 use Rattle.laws.specs.Bytes.{mixed, mix-masked}
-use Rattle.laws.specs.Runs.{startMask, endMask, Mask, start-mask, end-mask, both-masks, Run, run-masked, run-bytes, run-line, run-equal, run-copyRun, line-in}
+use Rattle.laws.specs.Masks.{startMask, endMask, Mask, start-mask, end-mask, both-masks, Run, run-masked, run-bytes, run-line, run-equal, run-copyRun}
+use Rattle.laws.specs.Runs.{line-in}
 use Rattle.send.specs.Line.{LineOn}
 
 -- the line lies within the bytes of the screen

@@ -1,4 +1,4 @@
-use Rattle.laws.specs.Lines.{line-horizontal, line-unknown, line-vertical, line-slopes}
+use Rattle.laws.specs.Slopes.{line-horizontal, line-unknown, line-vertical, line-slopes}
 use borrow.Author.Needs.{needs}
 use Rattle.draw.proofs.line.draw_line.Statement.{statement}
 use Rattle.draw.proofs.line.draw_line.Tie as tie

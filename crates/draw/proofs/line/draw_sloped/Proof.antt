@@ -1,4 +1,4 @@
-use Rattle.laws.specs.Lines.{sloped-marked}
+use Rattle.laws.specs.Slopes.{sloped-marked}
 use borrow.Author.Needs.{needs}
 use Rattle.draw.proofs.line.draw_sloped.Statement.{statement}
 use Rattle.draw.proofs.line.draw_sloped.Tie as tie

@@ -1,4 +1,4 @@
-use Rattle.laws.specs.Lines.{slope-flat, slope-steep}
+use Rattle.laws.specs.Slopes.{slope-flat, slope-steep}
 use borrow.Author.Needs.{needs}
 use Rattle.draw.proofs.slope.draw_slope.Statement.{statement}
 use Rattle.draw.proofs.slope.draw_slope.Tie as tie

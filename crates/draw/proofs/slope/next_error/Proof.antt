@@ -1,4 +1,4 @@
-use Rattle.laws.specs.Lines.{error-taken, error-left}
+use Rattle.laws.specs.Slopes.{error-taken, error-left}
 use borrow.Author.Needs.{needs}
 use Rattle.draw.proofs.slope.next_error.Statement.{statement}
 use Rattle.draw.proofs.slope.next_error.Tie as tie

@@ -1,4 +1,4 @@
-use Rattle.laws.specs.Lines.{step-taken, step-left}
+use Rattle.laws.specs.Slopes.{step-taken, step-left}
 use borrow.Author.Needs.{needs}
 use Rattle.draw.proofs.slope.step_x.Statement.{statement}
 use Rattle.draw.proofs.slope.step_x.Tie as tie
