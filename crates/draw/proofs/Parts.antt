@@ -6,7 +6,7 @@ use Prim.Native.Nat.{ℕ}
 use Rattle.model.specs.declared.DrawMode.{DrawMode}
 use Rattle.model.specs.Pixels.{draw, seen}
 use Rattle.model.specs.Ellipses.{part, partWrites}
-use Rattle.laws.specs.Ellipses.{painted, painted-one, painted-none}
+use Rattle.laws.specs.EllipseWalks.{painted, painted-one, painted-none}
 use Rattle.ellipse_walk.specs.declared.EllipsePart.{EllipsePart}
 use Rattle.ellipse_walk.specs.declared.EllipsePart.the-variants.{Nothing, At}
 use Rattle.ellipse_walk.specs.Walk.{partsOf}

@@ -22,7 +22,8 @@ use Rattle.laws.specs.Pixels.{Each}
 use Rattle.laws.specs.Writes.{within-none, within-more, within-append, within-seen, OwesItsMark, drawn-append}
 use Rattle.laws.specs.Points.{on-true, point-within, point-fits, both, bothLowered}
 use Rattle.laws.specs.Lines.{horizontal-within, solid, horizontal-solid, solid-known}
-use Rattle.laws.specs.Ellipses.{Round, Inner, parts-in, never-endless, painted}
+use Rattle.laws.specs.Ellipses.{Round, Inner, parts-in, never-endless}
+use Rattle.laws.specs.EllipseWalks.{painted}
 
 -- ---- the mark
 

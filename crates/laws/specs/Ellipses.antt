@@ -1,21 +1,18 @@
 -- The walk of an ellipse, of radii rx and ry of which r is the larger. With p steps along x left and j steps along y done, fxy with its sign is
 -- p * p + j * j - r * r: the walk keeps to the circle of radius r, and tmp follows at the scale of each radius.
--- So it ends, none of its parts exceeds a radius, and what is left of it, drawn on what stands, gives the whole.
+-- So it ends, after a known number of steps, and none of its parts exceeds a radius.
 use mathlib.Core.Path.{_≡_, refl, ap, sym, _∙_}
 use mathlib.Core.Logic.{_⊎_, inl, inr}
 use mathlib.Core.Bool.{Bool, true, false, not, cond, _&&_}
-use mathlib.Core.List.{List, [], _∷_, _++_, append-nil, append-assoc}
-use Prim.Native.Nat.{ℕ, zero, suc, _+_, _-_, _*_, _%_, _≤_, _<_, max, _/_}
+use mathlib.Core.List.{List, [], _∷_, _++_}
+use Prim.Native.Nat.{ℕ, zero, suc, _+_, _-_, _*_, _%_, _≤_, _<_, max}
 use native.Mathlib.Nat.{le-of-mul-le-mul-right, mul-le-mul, mul-le-mul-right, le-refl}
 use native.Mathlib.Omega.{arith}
 use lib.Dec.{ltb, leb, eqb}
-use borrow.Author.Tests.{lt-ltb, le-ltb, eq-eqb, le-leb}
-use Rattle.model.specs.Ellipses.{Axis, Walk, start, fed, moves, advanced, turns, turned, apart, xStep, yStep, step, early, xParts, yParts, Part, stepParts, ended, partsFrom, stepsFrom, mostSteps, parts, steps, part, partWrites, partsWrites}
-use Rattle.model.specs.declared.DrawMode.{DrawMode}
-use Rattle.model.specs.Pixels.{PixelWrite, draw, seen}
-use Rattle.laws.specs.Tests.{tests, by-test, by-lt, either, if-cases, clash}
+use borrow.Author.Tests.{lt-ltb, le-ltb, eq-eqb, eqb-true, le-leb, leb-true}
+use Rattle.model.specs.Ellipses.{Axis, Walk, start, fed, moves, advanced, turns, turned, apart, xStep, yStep, step, early, xParts, yParts, Part, stepParts, ended, partsFrom, stepsFrom, mostSteps, parts, steps}
+use Rattle.laws.specs.Tests.{tests, by-test, by-lt, either, if-cases, and-true, and-false}
 use Rattle.laws.specs.Pixels.{Each}
-use Rattle.laws.specs.Writes.{drawn-append}
 
 -- ---- one axis
 
@@ -126,9 +123,11 @@ pub record OnWay (r rx ry n : ℕ) (w : Walk) : Type 0 where
   pub walking : Walking r rx ry (suc p) j w
   pub left : n ≡ suc p + (r - j)
 
--- the next step is the last, or one fewer are left
+-- the next step is the last, and then n is 1 unless rx is 0 or r is 1; or one fewer are left
 abbrev Next : ℕ → ℕ → ℕ → ℕ → Walk → Type 0
-Next r rx ry n w = (ended (step r rx ry w) ≡ true) ⊎ ((m : ℕ) × (ended (step r rx ry w) ≡ false) × (n ≡ suc m) × OnWay r rx ry m (step r rx ry w))
+Next r rx ry n w =
+    ((ended (step r rx ry w) ≡ true) × (0 < rx → 2 ≤ r → n ≡ 1))
+    ⊎ ((m : ℕ) × (ended (step r rx ry w) ≡ false) × (n ≡ suc m) × OnWay r rx ry m (step r rx ry w))
 
 step-is : (r rx ry : ℕ) (w : Walk) {t : Bool} → w .neg ≡ t → step r rx ry w ≡ cond t (yStep r ry w) (xStep r rx w)
 unfolding step
@@ -144,7 +143,7 @@ each-append : {A : Type 0} (P : A → Type 0) (l m : List A) → Each P l → Ea
 each-append P [] m a b = b
 each-append P (x ∷ l) m a b = (a .0, each-append P l m (a .1) b)
 
-on-start : (r rx ry : ℕ) → Radii r rx ry → OnWay r rx ry (r + r) (start r rx)
+pub on-start : (r rx ry : ℕ) → Radii r rx ry → OnWay r rx ry (r + r) (start r rx)
 unfolding start
 on-start zero rx ry q = absurd (omega arith)
 on-start (suc p) rx ry q = record {
@@ -178,28 +177,48 @@ module _ (r rx ry : ℕ) (q : Radii r rx ry) where
       rw (x-straight r rx p (w .x) (k .x))
       (record { x = x-on r rx p (w .x) (k .x) (q .some) (q .x) (q .most); y = k .y; circle = x-circle (w .fxy) (w .x .f) (suc p) j r (k .x .f) (rw n at (k .circle)) })
 
+  -- tmp is 0 with a step along x left only where rx is 0
   goes-on : (n p j : ℕ) (w : Walk) → Walking r rx ry (suc p) j (step r rx ry w) → n ≡ suc (suc p + (r - j)) → Next r rx ry n w
-  goes-on n p j w k e = by-test (ended (step r rx ry w)) inl (λ t. inr (suc p + (r - j), t, e, record { p = p; j = j; walking = k; left = refl }))
+  unfolding ended
+  goes-on n p j w k e =
+      by-test (eqb (step r rx ry w .x .tmp) 0)
+      (λ t. inl (t, λ z h. absurd (omega (arith, k .x .at .on, ap (λ (s : ℕ). s * r) (eqb-true (step r rx ry w .x .tmp) 0 t)))))
+      (λ t. inr (suc p + (r - j), t, e, record { p = p; j = j; walking = k; left = refl }))
 
-  -- a step along x, from p + 1: the last where p is 0
+  -- a step along x, from p + 1: the last where p is 0, with no step along y left unless r is 1
   next-x : (n p j : ℕ) (w : Walk) → Walking r rx ry (suc p) j w → n ≡ suc p + (r - j) → w .neg ≡ false → Next r rx ry n w
   unfolding xStep ended
-  next-x n zero j w k l e = inl (rw (step-is r rx ry w e) (eq-eqb _ 0 (x-last r rx (w .x) (k .x) (q .some) (q .x) (q .most))))
+  next-x n zero j w k l e =
+      let c : Circle false (w .fxy) 1 j r = rw e at (k .circle) in
+      inl (
+        rw (step-is r rx ry w e) (eq-eqb _ 0 (x-last r rx (w .x) (k .x) (q .some) (q .x) (q .most))),
+        λ z h. by-lt j r (λ s. absurd (omega (arith, mul-le-mul s (le-refl r), mul-le-mul (le-refl j) s))) (λ s. omega arith),
+      )
   next-x n (suc p) j w k l e = goes-on n p j w (rw (step-is r rx ry w e) (step-x p j w k e)) (omega arith)
 
   next-y : (n p j : ℕ) (w : Walk) → Walking r rx ry (suc p) j w → n ≡ suc p + (r - j) → w .neg ≡ true → Next r rx ry n w
   next-y n p j w k l e = let s = step-y p j w k e in goes-on n p (suc j) w (rw (step-is r rx ry w e) (s .1)) (omega arith)
 
-  next : (n : ℕ) (w : Walk) → OnWay r rx ry n w → Next r rx ry n w
+  pub next : (n : ℕ) (w : Walk) → OnWay r rx ry n w → Next r rx ry n w
   next n w o = by-test (w .neg) (next-y n (o .p) (o .j) w (o .walking) (o .left)) (next-x n (o .p) (o .j) w (o .walking) (o .left))
 
   -- ---- how many steps
 
-  counted : (k n : ℕ) (w : Walk) → OnWay r rx ry n w → stepsFrom k r rx ry w ≤ n
+  counted : 0 < rx → 2 ≤ r → (k n : ℕ) (w : Walk) → OnWay r rx ry n w → n ≤ k → stepsFrom k r rx ry w ≡ n
   unfolding stepsFrom
-  counted zero n w o = omega arith
-  counted (suc k) n w o =
-      either (next n w o) (λ t. rw t (omega (arith, o .left))) (λ g. rw (g .1) (omega (arith, counted k (g .0) (step r rx ry w) (g .3), g .2)))
+  counted z h zero n w o l = omega arith
+  counted z h (suc k) n w o l =
+      either (next n w o) (λ g. rw (g .0) (sym (g .1 z h))) (λ g. rw (g .1) (omega (arith, counted z h k (g .0) (step r rx ry w) (g .3) (omega (arith, g .2)), g .2)))
+
+  -- where r is 1 or rx is 0, the first step is the last
+  once : (k : ℕ) → (r ≤ 1) ⊎ (rx ≤ 0) → stepsFrom (suc k) r rx ry (start r rx) ≡ 1
+  unfolding stepsFrom step xStep ended start
+  once k c =
+      let a = start r rx .x in
+      let i : (a .delta ≡ 0) × (a .tmp ≡ rx) × (a .inc ≡ 255) = (refl, refl, refl) in
+      let m = moved r rx a (q .some) (q .x) (q .most) in
+      let e : advanced r rx a .tmp ≡ 0 = either c (λ l. either m (λ s. omega arith) (λ s. omega arith)) (λ l. either m (λ s. omega arith) (λ s. omega arith)) in
+      rw e
 
   -- ---- no part exceeds a radius
 
@@ -221,7 +240,7 @@ module _ (r rx ry : ℕ) (q : Radii r rx ry) where
   parts-from zero n w o = tt
   parts-from (suc k) n w o =
       each-append (Inner rx ry) (stepParts r rx ry w) _ (step-parts n w o)
-      (either (next n w o) (λ t. rw t tt) (λ g. rw (g .1) (parts-from k (g .0) (step r rx ry w) (g .3))))
+      (either (next n w o) (λ g. rw (g .0) tt) (λ g. rw (g .1) (parts-from k (g .0) (step r rx ry w) (g .3))))
 
 -- the radii of an ellipse that is walked
 pub record Round (rx ry : ℕ) : Type 0 where
@@ -232,13 +251,25 @@ pub record Round (rx ry : ℕ) : Type 0 where
 pub radii : (rx ry : ℕ) {r : ℕ} → r ≡ max rx ry → Round rx ry → Radii r rx ry
 radii rx ry e o = omega arith
 
--- at most twice the larger radius: so ENDLESS is never due
-pub never-endless : (rx ry : ℕ) → Round rx ry → leb (steps rx ry) mostSteps ≡ true
+-- twice the larger radius if that is at least 2 and the horizontal radius at least 1, else 1
+abbrev pub stepCount : ℕ → ℕ → ℕ
+stepCount rx ry = cond (leb 2 (max rx ry) && leb 1 rx) (2 * max rx ry) 1
+
+pub steps-are : (rx ry : ℕ) → Round rx ry → steps rx ry ≡ stepCount rx ry
 unfolding steps
-never-endless rx ry o =
+steps-are rx ry o =
     let r = max rx ry in
     let q = radii rx ry refl o in
-    le-leb (steps rx ry) mostSteps (omega (arith, counted r rx ry q (suc mostSteps) (r + r) (start r rx) (on-start r rx ry q)))
+    if-cases (λ (n : ℕ). steps rx ry ≡ n) (leb 2 r && leb 1 rx)
+    (λ e. let p = and-true (leb 2 r) (leb 1 rx) e in
+    counted r rx ry q (leb-true 1 rx (p .1)) (leb-true 2 r (p .0)) (suc mostSteps) (r + r) (start r rx) (on-start r rx ry q) (omega arith) ∙ omega arith)
+    (λ e. once r rx ry q mostSteps (either (and-false (leb 2 r) (leb 1 rx) e) (λ f. inl (omega (arith, tests))) (λ f. inr (omega (arith, tests)))))
+
+-- so ENDLESS is never due
+pub never-endless : (rx ry : ℕ) → Round rx ry → leb (steps rx ry) mostSteps ≡ true
+never-endless rx ry o =
+    rw (steps-are rx ry o)
+    (if-cases (λ (n : ℕ). leb n mostSteps ≡ true) (leb 2 (max rx ry) && leb 1 rx) (λ e. le-leb (2 * max rx ry) mostSteps (omega arith)) (λ e. refl))
 
 pub parts-in : (rx ry : ℕ) → Round rx ry → Each (Inner rx ry) (parts rx ry)
 unfolding parts
@@ -246,99 +277,3 @@ parts-in rx ry o =
     let r = max rx ry in
     let q = radii rx ry refl o in
     (omega arith, parts-from r rx ry q mostSteps (r + r) (start r rx) (on-start r rx ry q))
-
--- ---- drawing along the walk
-
--- what some parts leave on a screen
-abbrev pub painted : ℕ → ℕ → ℕ → ℕ → Bool → DrawMode → List Part → List ℕ → List ℕ
-painted st h x y fill d qs s = draw st (seen st h (partsWrites st h x y fill d qs)) s
-
--- the steps that are left, from f of both axes
-abbrev stepsLeft : ℕ → Walk → ℕ
-stepsLeft r w = (w .x .f + 1) / 2 + (r - w .y .f / 2)
-
-left-is : (r rx ry n : ℕ) (w : Walk) → OnWay r rx ry n w → stepsLeft r w ≡ n
-left-is r rx ry n w o = omega (arith, o .walking .x .f, o .walking .y .f)
-
-module _ (st h x y : ℕ) (fill : Bool) (d : DrawMode) where
-  writes-append : (ps qs : List Part) → partsWrites st h x y fill d (ps ++ qs) ≡ partsWrites st h x y fill d ps ++ partsWrites st h x y fill d qs
-  unfolding partsWrites
-  writes-append [] qs = refl
-  writes-append (p ∷ ps) qs = cc (writes-append ps qs, append-assoc _ _ _)
-
-  painted-append : (ps qs : List Part) (s : List ℕ) → painted st h x y fill d (ps ++ qs) s ≡ painted st h x y fill d qs (painted st h x y fill d ps s)
-  painted-append ps qs s = cc (writes-append ps qs, drawn-append st h _ _ s)
-
-  -- one part, or none
-  pub painted-one : (q : Part) (s : List ℕ) → painted st h x y fill d (q ∷ []) s ≡ draw st (seen st h (partWrites st h x y fill d q)) s
-  unfolding partsWrites
-  painted-one q s = ap (λ (l : List PixelWrite). draw st (seen st h l) s) (append-nil (partWrites st h x y fill d q))
-
-  pub painted-none : (s : List ℕ) → painted st h x y fill d [] s ≡ s
-  unfolding partsWrites seen draw
-  painted-none s = refl
-
--- at w, with s on the screen, the parts that are left make it t
-pub record Painting (st h x y r rx ry : ℕ) (fill : Bool) (d : DrawMode) (w : Walk) (s t : List ℕ) : Type 0 where
-  pub most : ℕ
-  pub left : ℕ
-  pub way : OnWay r rx ry left w
-  pub enough : left ≤ most
-  pub rest : painted st h x y fill d (partsFrom most r rx ry w) s ≡ t
-
--- with ps still to be drawn, which are the last where b says so
-pub record LeftToDraw (st h x y r rx ry : ℕ) (fill : Bool) (d : DrawMode) (b : Bool) (w : Walk) (ps : List Part) (s t : List ℕ) : Type 0 where
-  pub last : b ≡ true → painted st h x y fill d ps s ≡ t
-  pub more : b ≡ false → Painting st h x y r rx ry fill d w (painted st h x y fill d ps s) t
-
--- the turns that are left then
-abbrev pub turnsLeft : ℕ → Bool → Walk → ℕ
-turnsLeft r b w = cond b 0 (suc (stepsLeft r w))
-
-module _ (st h x y r rx ry : ℕ) (fill : Bool) (d : DrawMode) where
-  -- the walk begins, with the first part still to be drawn
-  pub painting-starts : Radii r rx ry → {w : Walk} {ps : List Part} (s : List ℕ) → r ≡ max rx ry → w ≡ start r rx → ps ≡ part rx 0 ∷ []
-      → LeftToDraw st h x y r rx ry fill d false w ps s (painted st h x y fill d (parts rx ry) s)
-  unfolding parts
-  painting-starts q {w} s m f g =
-      let t = painted-append st h x y fill d (part rx 0 ∷ []) (partsFrom mostSteps r rx ry (start r rx)) s in
-      record { last = λ z. clash false z refl; more = λ z. rw (f, g) (record { most = mostSteps; left = r + r; way = on-start r rx ry q; enough = omega arith; rest = cc }) }
-
-  -- a step's parts drawn, the rest is left
-  turned-rest : (w : Walk) (s e t : List ℕ) (k : Painting st h x y r rx ry fill d w s t) → e ≡ painted st h x y fill d (stepParts r rx ry w) s
-      → painted st h x y fill d (cond (ended (step r rx ry w)) [] (partsFrom (k .most - 1) r rx ry (step r rx ry w))) e ≡ t
-  unfolding partsFrom
-  turned-rest w s e t k p =
-      let n : k .most ≡ suc (k .most - 1) = omega (arith, k .enough, k .way .left) in
-      cc (painted-append st h x y fill d _ _ s)
-
-  painting-turn : Radii r rx ry → (w : Walk) (s e t : List ℕ) → Painting st h x y r rx ry fill d w s t
-      → e ≡ painted st h x y fill d (stepParts r rx ry w) s → ended (step r rx ry w) ≡ false
-      → Painting st h x y r rx ry fill d (step r rx ry w) e t × (stepsLeft r (step r rx ry w) < stepsLeft r w)
-  painting-turn q w s e t k p f =
-      either (next r rx ry q (k .left) w (k .way)) (λ g. clash (ended (step r rx ry w)) g f)
-      (λ g. (
-        record { most = k .most - 1; left = g .0; way = g .3; enough = omega (arith, k .enough, g .2); rest = rw f at (turned-rest w s e t k p) },
-        omega (arith, left-is r rx ry (k .left) w (k .way), left-is r rx ry (g .0) (step r rx ry w) (g .3), g .2),
-      ))
-
-  painting-end : (w : Walk) (s e t : List ℕ) → Painting st h x y r rx ry fill d w s t
-      → e ≡ painted st h x y fill d (stepParts r rx ry w) s → ended (step r rx ry w) ≡ true → e ≡ t
-  painting-end w s e t k p f = sym (painted-none st h x y fill d e) ∙ (rw f at (turned-rest w s e t k p))
-
-  -- the same of what the code has: ps are drawn and were not the last, and a step gave v and qs
-  module _ (q : Radii r rx ry) {w v : Walk} {ps qs : List Part} {b c : Bool} {s e t : List ℕ} (k : LeftToDraw st h x y r rx ry fill d b w ps s t)
-      (p : e ≡ painted st h x y fill d ps s) (n : b ≡ false) (f : v ≡ step r rx ry w) (g : qs ≡ stepParts r rx ry w) (o : c ≡ ended v) where
-    painting-now : Painting st h x y r rx ry fill d w e t
-    painting-now = rw p (k .more n)
-
-    drawn-so : painted st h x y fill d qs e ≡ painted st h x y fill d (stepParts r rx ry w) e
-    drawn-so = ap (λ (l : List Part). painted st h x y fill d l e) g
-
-    pub painting-steps : LeftToDraw st h x y r rx ry fill d c v qs e t
-    painting-steps =
-        record { last = λ z. painting-end w e _ t painting-now drawn-so (sym (o ∙ ap ended f) ∙ z); more = λ z. rw f (painting-turn q w e _ t painting-now drawn-so (sym (o ∙ ap ended f) ∙ z) .0) }
-
-    pub painting-less : turnsLeft r c v < turnsLeft r b w
-    painting-less =
-        by-test c (λ z. rw (z, n) (omega arith)) (λ z. rw (z, n, f) (omega (arith, painting-turn q w e _ t painting-now drawn-so (sym (o ∙ ap ended f) ∙ z) .1)))

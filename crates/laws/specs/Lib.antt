@@ -33,6 +33,7 @@ pub mod Runs
 pub mod Boxes
 pub mod Bitmaps
 pub mod Ellipses
+pub mod EllipseWalks
 pub mod EllipseMarks
 pub mod NoWriteOutside
 pub mod Counts

@@ -4,7 +4,8 @@ use native.Mathlib.Omega.{arith}
 use Rattle.model.specs.Pixels.{Screen}
 use Rattle.model.specs.Ellipses.{parts}
 use Rattle.laws.specs.Writes.{screen-draw}
-use Rattle.laws.specs.Ellipses.{radii, painted, LeftToDraw, turnsLeft, painting-starts, painting-steps, painting-less}
+use Rattle.laws.specs.Ellipses.{radii}
+use Rattle.laws.specs.EllipseWalks.{painted, LeftToDraw, turnsLeft, painting-starts, painting-steps, painting-less}
 use Rattle.pixels.specs.Raster.{modeOf}
 use Rattle.ellipse_walk.specs.Walk.{walkOf, partsOf}
 use Rattle.draw.proofs.Parts.{parts-at}
