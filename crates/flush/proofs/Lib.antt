@@ -4,6 +4,5 @@ pub mod Painting
 pub mod Fitting
 pub mod Showing
 pub mod Texts
-pub mod Clearing
 pub mod Whole
 pub mod Places

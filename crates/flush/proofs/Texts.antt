@@ -1,19 +1,30 @@
--- The whole text: what is left of the walk, painted on the screen as it stands, gives what the whole gives.
+-- A screen cleared in Text mode, then the whole text on it: what is left of the walk, painted on the screen as it stands, gives what the whole gives.
 use mathlib.Core.Path.{_≡_, sym, ap, _∙_}
 use mathlib.Core.Bool.{Bool}
 use mathlib.Core.List.{List, _++_}
 use Prim.Native.Nat.{ℕ, _*_, _≤_, _<_}
 use native.Mathlib.Nat.{mul-le-mul}
 use native.Mathlib.Omega.{arith}
+use borrow.Author.Tests.{eq-eqb, ne-eqb}
 use lib.ListN.{length}
 use Rattle.model.specs.declared.Spot.{Spot}
 use Rattle.model.specs.declared.Shown.{Shown}
+use Rattle.model.specs.Memory.{zeros}
 use Rattle.model.specs.Glyphs.{Fonts, Store, paint}
-use Rattle.model.specs.Flush.{spot, shownAt, nextSpot, shownStores, stores, textStores}
+use Rattle.model.specs.Flush.{clearedInText, spot, shownAt, nextSpot, shownStores, stores, textStores}
 use Rattle.laws.specs.Glyphs.{paint-append}
 use Rattle.laws.specs.FlushWalk.{Within, rest, rest-more, rest-end, rest-start}
 use Rattle.flush.specs.Rooms.{TextScreen, OnScreen}
 use Rattle.flush.proofs.Walking.{cell-small}
+
+pub clears : (mode : ℕ) (s : List ℕ) {t : List ℕ} → mode ≡ 0 → t ≡ zeros (length s) → t ≡ clearedInText mode s (length s)
+clears mode s e h = rw (eq-eqb mode 0 e) h
+
+pub keeps : (mode : ℕ) (s : List ℕ) → (mode ≡ 0 → ⊥) → s ≡ clearedInText mode s (length s)
+keeps mode s e = rw (ne-eqb mode 0 e)
+
+pub painted-on : (ws : List Store) {s t u : List ℕ} → u ≡ paint ws t → t ≡ s → u ≡ paint ws s
+painted-on ws e h = e ∙ ap (paint ws) h
 
 pub same-screen : (st n : ℕ) (old : List ℕ) {screen : List ℕ} → TextScreen st n old → length screen ≡ length old → TextScreen st n screen
 same-screen st n old p e = record { text = p .text; small = omega (arith, p .small); sized = omega (arith, p .sized) }

@@ -1,7 +1,7 @@
 use Prim.Native.Nat.{_*_}
 use native.Mathlib.Omega.{arith}
 use Rattle.laws.specs.Bitmaps.{bitmap-painted, bitmap-beside, bitmap-below}
-use Rattle.bitmap.proofs.Painting.{visible-given, visible-lies, source-screen}
+use Rattle.bitmap.proofs.Sources.{visible-given, visible-lies, source-screen}
 use borrow.Author.Needs.{needs}
 use Rattle.bitmap.proofs.paint.paint_bitmap.Statement.{statement}
 use Rattle.bitmap.proofs.paint.paint_bitmap.Tie as tie

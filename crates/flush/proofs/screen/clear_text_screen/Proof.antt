@@ -1,4 +1,4 @@
-use Rattle.flush.proofs.Clearing.{clears, keeps}
+use Rattle.flush.proofs.Texts.{clears, keeps}
 use borrow.Author.Needs.{needs}
 use Rattle.flush.proofs.screen.clear_text_screen.Statement.{statement}
 use Rattle.flush.proofs.screen.clear_text_screen.Tie as tie

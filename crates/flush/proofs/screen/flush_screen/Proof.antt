@@ -1,4 +1,4 @@
-use Rattle.flush.proofs.Clearing.{painted-on}
+use Rattle.flush.proofs.Texts.{painted-on}
 use Rattle.flush.proofs.Texts.{same-screen}
 use borrow.Author.Needs.{needs}
 use Rattle.flush.proofs.screen.flush_screen.Statement.{statement}
