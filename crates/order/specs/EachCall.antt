@@ -32,7 +32,7 @@ use Rattle.laws.specs.Calls.{accepted-call}
 use Rattle.order.specs.Step.{still-fits, Lendable, old, Step, known, same-step, changed-step}
 use Rattle.order.specs.Accepted.{by-item}
 use Rattle.order.specs.Opens.{opening-step, reset-step, send-step}
-use Rattle.order.specs.Marks.{poke-step, flush-step, drawing-step, blink-step, clear-cursor-step, cleared-step, page-step}
+use Rattle.order.specs.MarkSteps.{poke-step, flush-step, drawing-step, blink-step, clear-cursor-step, cleared-step, page-step}
 
 module _ (g : Geometry) (l : Lent) (q : Lendable g l) where
   abbrev z : IsGlass g

@@ -4,7 +4,7 @@ pub mod Accepted
 pub mod Held
 pub mod Step
 pub mod Opens
-pub mod Marks
+pub mod MarkSteps
 pub mod EachCall
 pub mod Parts
 pub mod Order

@@ -28,7 +28,8 @@ use Rattle.laws.specs.States.{well-formed, encode-passing}
 use Rattle.laws.specs.Bands.{well-nothing}
 use Rattle.order.specs.Step.{panel-formed, marked-formed, screen-in, screen-long}
 use Rattle.order.specs.Opens.{open-formed}
-use Rattle.pictures.specs.Picture.{graphicsIn, screenIn, Unmarked, withMarks, Drew}
+use Rattle.order.specs.Theorem.{screenIn}
+use Rattle.pictures.specs.Picture.{graphicsIn, Unmarked, withMarks, Drew}
 use Rattle.pictures.specs.Writes.{pictured, pictured-changed}
 
 -- ---- bytes to start from: a record as it is opened, but with nothing owed, and a memory of zeros

@@ -24,7 +24,8 @@ use Rattle.model.specs.Ellipses.{start, moves, advanced, turns, turned, xStep, 
 use Rattle.model.specs.Calls.{drawPoint, drawLine, drawBox, drawCircle, paintBitmap, Lent, lent, Outcome, answered, refusals, drawingWith, drawing, done, refused, outcome}
 use Rattle.laws.specs.Calls.{own-decide}
 use Rattle.laws.specs.Updates.{unmarked}
-use Rattle.pictures.specs.Picture.{rect, sets, clears, inverts, graphicsIn, screenIn, Unmarked, Drew, Picture}
+use Rattle.order.specs.Theorem.{screenIn}
+use Rattle.pictures.specs.Picture.{rect, sets, clears, inverts, graphicsIn, Unmarked, Drew, Picture}
 use Rattle.pictures.specs.Writes.{hits, made, alike, names, allOf, pictured}
 use Rattle.pictures.specs.Drawings.{passing, screen-fits, entered, done-on, drew}
 
