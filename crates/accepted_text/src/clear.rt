@@ -9,20 +9,9 @@ ghost use mathlib.Core.List.{[]};
 ghost use Prim.Native.Nat.{_+_, _≤_};
 ghost use lib.ListN.{length};
 ghost use Rattle.model.specs.Glass.{geometry, Suits};
-ghost use Rattle.model.specs.Text.{atPlace, withScreenMode, clearedMemory};
+ghost use Rattle.model.specs.Text.{clearedMemory};
 ghost use Rattle.model.specs.Calls.{cls, setScreenMode, lent, answered, done};
 ghost use Rattle.accepted.specs.Given.{Given};
-
-// Row and column 0, and a screen mode; all else stays.
-fn first_place(h: Head, mode: u8) -> Head
-    ensures { λ r. ⌜ r ≡ atPlace 0 0 (withScreenMode mode h) ⌝ }
-{
-    let mut n = h;
-    n.row = 0;
-    n.column = 0;
-    n.screen = mode;
-    n
-}
 
 // Text and screen.
 fn clear_windows(memory: &mut [u8], glass: Glass, h: Head)
@@ -44,7 +33,7 @@ pub fn set_screen_mode(rec: &mut [u8], memory: &mut [u8], glass: Glass, h: Head,
 {
     clear_windows(memory, glass, h);
     let m = mark::whole_marks(canvas_of(glass));
-    update::clear_record(rec, first_place(h, mode), m);
+    update::clear_record(rec, heads::first_place(h, mode), m);
 }
 
 // The screen mode stays.

@@ -15,7 +15,6 @@ ghost use Rattle.model.specs.Geometry.{glyphHeight};
 ghost use Rattle.model.specs.Glass.{geometry, Suits};
 ghost use Rattle.model.specs.Pixels.{Screen};
 ghost use Rattle.model.specs.Marks.{drawn, drawnOn};
-ghost use Rattle.model.specs.Text.{withCursor};
 ghost use Rattle.model.specs.Cursor.{cursorFor, blinkOf, blinkNext, cursorBox, underCursor};
 ghost use Rattle.model.specs.Calls.{blinkCursor, clearCursor, lent, answered, done};
 ghost use Rattle.laws.specs.Record.{Numbers};
@@ -40,14 +39,6 @@ fn blink_next(cursor: u8, b: u8) -> u8
     ensures { λ r. ⌜ r ≡ blinkNext cursor b ⌝ }
 {
     if cursor == 0 { cursor_for(b) } else { 0 }
-}
-
-fn with_cursor(h: Head, cursor: u8) -> Head
-    ensures { λ r. ⌜ r ≡ withCursor cursor h ⌝ }
-{
-    let mut n = h;
-    n.cursor = cursor;
-    n
 }
 
 fn under_cursor(memory: &[u8], glass: Glass, h: Head) -> u8
@@ -95,7 +86,7 @@ pub fn blink_cursor(rec: &mut [u8], memory: &mut [u8], glass: Glass, h: Head)
         h.column,
         cursor,
     );
-    update::mark_head(rec, with_cursor(h, blink_next(h.cursor, b)), m);
+    update::mark_head(rec, heads::with_cursor(h, blink_next(h.cursor, b)), m);
 }
 
 pub fn clear_cursor(rec: &mut [u8], memory: &mut [u8], glass: Glass, h: Head)
@@ -111,5 +102,5 @@ pub fn clear_cursor(rec: &mut [u8], memory: &mut [u8], glass: Glass, h: Head)
         blink_cursor(rec, memory, glass, h);
         return;
     }
-    update::set_head(rec, with_cursor(h, 0));
+    update::set_head(rec, heads::with_cursor(h, 0));
 }

@@ -1,24 +1,13 @@
 // `caption_take_dirty_area`.
 use marks::rect;
 use model::Area;
-use model::Head;
 use model::Rect;
 use record::entry;
 use record::update;
 ghost use mathlib.Core.Path.{_≡_};
 ghost use mathlib.Core.List.{[]};
 ghost use Rattle.model.specs.Geometry.{base};
-ghost use Rattle.model.specs.Rects.{none};
-ghost use Rattle.model.specs.Marks.{withDirty};
 ghost use Rattle.model.specs.Calls.{takeDirtyArea, lent, answered, areaNumbers, rectNumbers, outcome};
-
-fn with_no_dirty(h: Head) -> Head
-    ensures { λ r. ⌜ r ≡ withDirty none h ⌝ }
-{
-    let mut n = h;
-    n.dirty = rect::empty();
-    n
-}
 
 fn area(code: u32, q: Rect) -> Area
     ensures { λ r. ⌜ (r .code ≡ code) × (areaNumbers r ≡ rectNumbers q) ⌝ }
@@ -43,6 +32,6 @@ pub extern "C" fn caption_take_dirty_area(rec: &mut [u8]) -> Area
     }
     let h = e.head;
     let dirty = h.dirty;
-    update::set_head(rec, with_no_dirty(h));
+    update::set_head(rec, heads::with_no_dirty(h));
     area(0, dirty)
 }

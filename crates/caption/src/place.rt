@@ -1,5 +1,4 @@
 // Row, column and print mode.
-use model::Head;
 use model::Value;
 use model::refusal;
 use record::entry;
@@ -8,7 +7,6 @@ use record::update;
 ghost use mathlib.Core.Path.{_≡_};
 ghost use mathlib.Core.List.{[], _∷_};
 ghost use Rattle.model.specs.Geometry.{base};
-ghost use Rattle.model.specs.Text.{withRow, withColumn, printMode, withPrintMode};
 ghost use Rattle.model.specs.Calls.{getRow, getColumn, setRow, setColumn, setPrintMode, lent, answered, valueNumbers, outcome};
 
 fn value(code: u32, n: u8) -> Value
@@ -44,14 +42,6 @@ pub extern "C" fn caption_get_column(rec: &[u8]) -> Value
     value(0, e.head.column)
 }
 
-fn with_row(h: Head, row: u8) -> Head
-    ensures { λ r. ⌜ r ≡ withRow row h ⌝ }
-{
-    let mut n = h;
-    n.row = row;
-    n
-}
-
 #[no_mangle]
 pub extern "C" fn caption_set_row(rec: &mut [u8], row: u8) -> u32
     ensures { λ r. ⌜ answered r [] (lent (now (rec .exit)) [] []) ≡ outcome base (setRow row) (lent (now (rec .entry)) [] []) ⌝ }
@@ -65,16 +55,8 @@ pub extern "C" fn caption_set_row(rec: &mut [u8], row: u8) -> u32
     if (row as usize) >= glass.rows {
         return refusal::VALUE;
     }
-    update::set_head(rec, with_row(e.head, row));
+    update::set_head(rec, heads::with_row(e.head, row));
     0
-}
-
-fn with_column(h: Head, column: u8) -> Head
-    ensures { λ r. ⌜ r ≡ withColumn column h ⌝ }
-{
-    let mut n = h;
-    n.column = column;
-    n
 }
 
 #[no_mangle]
@@ -90,24 +72,8 @@ pub extern "C" fn caption_set_column(rec: &mut [u8], column: u8) -> u32
     if (column as usize) >= glass.columns {
         return refusal::VALUE;
     }
-    update::set_head(rec, with_column(e.head, column));
+    update::set_head(rec, heads::with_column(e.head, column));
     0
-}
-
-// Flash while Inverse gives Normal.
-fn print_mode(old: u8, new: u8) -> u8
-    ensures { λ r. ⌜ r ≡ printMode old new ⌝ }
-{
-    if (old == 1) & (new == 2) { 0 } else { new }
-}
-
-fn with_print_mode(h: Head, mode: u8) -> Head
-    ensures { λ r. ⌜ r ≡ withPrintMode mode h ⌝ }
-{
-    let old = h.print;
-    let mut n = h;
-    n.print = print_mode(old, mode);
-    n
 }
 
 #[no_mangle]
@@ -122,6 +88,6 @@ pub extern "C" fn caption_set_print_mode(rec: &mut [u8], mode: u8) -> u32
     if mode > 2 {
         return refusal::VALUE;
     }
-    update::set_head(rec, with_print_mode(e.head, mode));
+    update::set_head(rec, heads::with_print_mode(e.head, mode));
     0
 }

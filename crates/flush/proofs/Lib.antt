@@ -1,4 +1,3 @@
-pub mod Choosing
 pub mod Walking
 pub mod Painting
 pub mod Fitting

@@ -1,3 +1,2 @@
-pub mod Choice
 pub mod Rooms
 pub mod Fits

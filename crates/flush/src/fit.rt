@@ -2,8 +2,8 @@
 use crate::cells::next_spot;
 use crate::cells::shown_at;
 use crate::cells::start;
-use crate::codes::glyph_of;
 use crate::glyph::digit_of;
+use glyph_choice::glyph_of;
 use model::CellKind;
 use model::Glyph;
 use model::Shown;

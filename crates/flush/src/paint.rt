@@ -2,13 +2,13 @@
 use crate::cells::next_spot;
 use crate::cells::shown_at;
 use crate::cells::start;
-use crate::codes::glyph_of;
 use crate::glyph::glyph_part;
 use crate::glyph::load_glyph;
 use crate::glyph::paint_character;
 use crate::glyph::paint_code;
 use crate::glyph::paint_halves;
 use flags::is_inverse;
+use glyph_choice::glyph_of;
 use model::CellKind;
 use model::Glyph;
 use model::Shown;

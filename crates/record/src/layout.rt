@@ -1,27 +1,15 @@
-// Rectangles, the head and the keys in lent bytes, least byte first, at places that the caller says.
+// The head and the keys in lent bytes, least byte first.
 use marks::rect;
 use model::Head;
-use model::Rect;
 use model::glass::HEAD_BYTES;
+use owed::rects;
 ghost use mathlib.Core.Path.{_≡_};
 ghost use Prim.Native.Nat.{_+_, _*_, _≤_};
 ghost use lib.ListN.{length};
 ghost use Rattle.model.specs.Memory.{withWindow};
-ghost use Rattle.model.specs.Bytes.{rectAt, rectBytes, wordsBytes};
+ghost use Rattle.model.specs.Bytes.{wordsBytes};
 ghost use Rattle.model.specs.Record.{headBytes, headOf, bytesOfHead};
 ghost use Rattle.model.specs.Open.{clearHead};
-
-pub fn load_rect(bytes: &[u8], at: usize) -> Rect
-    requires { ⌜ at + 8 ≤ length (now bytes) ⌝ }
-    ensures { λ r. ⌜ r ≡ rectAt (now (bytes .entry)) at ⌝ }
-{
-    Rect {
-        left: slices::load_two(bytes, at),
-        top: slices::load_two(bytes, at + 2),
-        right: slices::load_two(bytes, at + 4),
-        bottom: slices::load_two(bytes, at + 6),
-    }
-}
 
 pub fn load_head(rec: &[u8]) -> Head
     requires { ⌜ headBytes ≤ length (now rec) ⌝ }
@@ -36,7 +24,7 @@ pub fn load_head(rec: &[u8]) -> Head
         print: rec[7],
         cursor: rec[8],
         version: rec[9],
-        dirty: load_rect(rec, 10),
+        dirty: rects::load_rect(rec, 10),
     }
 }
 
@@ -80,29 +68,6 @@ fn head_bytes(h: Head) -> [u8; HEAD_BYTES]
         (h.dirty.bottom % 256) as u8,
         (h.dirty.bottom / 256 % 256) as u8,
     ]
-}
-
-fn rect_bytes(q: Rect) -> [u8; 8]
-    ensures { λ r. ⌜ r ≡ rectBytes q ⌝ }
-{
-    [
-        (q.left % 256) as u8,
-        (q.left / 256 % 256) as u8,
-        (q.top % 256) as u8,
-        (q.top / 256 % 256) as u8,
-        (q.right % 256) as u8,
-        (q.right / 256 % 256) as u8,
-        (q.bottom % 256) as u8,
-        (q.bottom / 256 % 256) as u8,
-    ]
-}
-
-pub fn store_rect(bytes: &mut [u8], at: usize, q: Rect)
-    requires { ⌜ at + 8 ≤ length (now bytes) ⌝ }
-    ensures { λ _. ⌜ now (bytes .exit) ≡ withWindow at (rectBytes q) (now (bytes .entry)) ⌝ }
-{
-    let b = rect_bytes(q);
-    slices::put_bytes(bytes, at, &b);
 }
 
 pub fn store_head(rec: &mut [u8], h: Head)

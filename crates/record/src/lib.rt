@@ -4,7 +4,6 @@ pub mod glass;
 pub mod keys;
 pub mod layout;
 pub mod open;
-pub mod owed;
 pub mod panels;
 pub mod state;
 pub mod update;

@@ -1,8 +1,8 @@
 // The panels' parts in the lent record, for the glass that is told.
-use crate::owed;
 use model::Rect;
 use model::glass::Glass;
 use model::glass::HEAD_BYTES;
+use owed::bands;
 ghost use mathlib.Core.Path.{_≡_};
 ghost use Prim.Native.Nat.{_<_};
 ghost use lib.ListN.{length};
@@ -32,7 +32,7 @@ pub fn mark_panels(rec: &mut [u8], glass: Glass, m: Rect)
     let mut k: usize = 0;
     while k < panels {
         let at = panel_at(glass, k);
-        owed::join_owed(rec, at, glass.bands, glass.band, glass.width, m);
+        bands::join_owed(rec, at, glass.bands, glass.band, glass.width, m);
         k += 1;
     }
 }

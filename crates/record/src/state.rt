@@ -1,10 +1,10 @@
 // STATE: what every part of a record must be, for the glass that is told.
-use crate::layout;
-use crate::owed;
 use crate::panels;
 use marks::rect;
 use model::Head;
 use model::glass::Glass;
+use owed::bands;
+use owed::rects;
 ghost use mathlib.Core.Path.{_≡_};
 ghost use Prim.Native.Nat.{_<_};
 ghost use lib.ListN.{length};
@@ -45,8 +45,8 @@ fn pending_fits(rec: &[u8], glass: Glass, k: usize) -> bool
 {
     let a = panels::panel_at(glass, k);
     let bands = glass.bands;
-    let owed = owed::bands_fit(rec, a, bands, glass.band, glass.width);
-    let hand = layout::load_rect(rec, a + 8 * bands);
+    let owed = bands::bands_fit(rec, a, bands, glass.band, glass.width);
+    let hand = rects::load_rect(rec, a + 8 * bands);
     owed & rect::rect_fits(glass.width, 0, glass.height, hand)
 }
 

@@ -1,6 +1,6 @@
 // The two numbers of the last line: differing pixels, counted by bytes, and lines left.
 use model::Rect;
-use record::layout;
+use owed::rects;
 ghost use mathlib.Core.Path.{_≡_};
 ghost use Prim.Native.Nat.{_+_, _*_, _≤_, _<_};
 ghost use lib.ListN.{length};
@@ -50,9 +50,9 @@ pub fn lines_left(rec: &[u8], at: usize, bands: usize) -> u32
     let mut place = at;
     let mut left = bands;
     while 0 < left {
-        owed += lines_of(layout::load_rect(rec, place));
+        owed += lines_of(rects::load_rect(rec, place));
         place += 8;
         left -= 1;
     }
-    lines_of(layout::load_rect(rec, place)) + owed
+    lines_of(rects::load_rect(rec, place)) + owed
 }

@@ -2,8 +2,8 @@
 use marks::rect;
 use model::Rect;
 use model::glass::Glass;
-use record::layout;
-use record::owed;
+use owed::bands;
+use owed::rects;
 use record::panels;
 ghost use mathlib.Core.Path.{_≡_};
 ghost use Prim.Native.Nat.{_+_, _*_, _<_, _≤_, min};
@@ -19,9 +19,9 @@ fn take_hand(rec: &mut [u8], glass: Glass, at: usize) -> Rect
     ensures { λ r. ⌜ InHand (geometry glass) at (now (rec .entry)) r (now (rec .exit)) ⌝ }
 {
     let bands = glass.bands;
-    let hand = layout::load_rect(rec, at + 8 * bands);
+    let hand = rects::load_rect(rec, at + 8 * bands);
     if rect::is_empty(hand) {
-        return owed::take_owed(rec, at, bands);
+        return bands::take_owed(rec, at, bands);
     }
     hand
 }
@@ -63,7 +63,7 @@ pub fn send_panel(rec: &mut [u8], glass: Glass, k: usize) -> Rect
     if rect::is_empty(hand) {
         return hand;
     }
-    layout::store_rect(rec, in_hand, next_line(hand));
+    rects::store_rect(rec, in_hand, next_line(hand));
     slices::store_four(rec, in_hand + 8, count_line(sent));
     hand
 }

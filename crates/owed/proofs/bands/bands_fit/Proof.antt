@@ -1,0 +1,54 @@
+use Rattle.laws.specs.Owed.{Testing, test-starts, test-goes, test-ends, band-in}
+use native.Mathlib.Omega.{arith}
+use borrow.Author.Needs.{needs}
+use Rattle.owed.proofs.bands.bands_fit.Statement.{statement}
+use Rattle.owed.proofs.bands.bands_fit.Tie as tie
+
+abbrev Inv-loop : tie.InvT-loop
+Inv-loop rec at bands band width ok₀ a₀ lo₀ left₀ ok a lo left = Testing width band bands at rec ok a lo left
+
+abbrev μ-loop : tie.MeasureT-loop
+μ-loop rec at bands band width ok₀ a₀ lo₀ left₀ ok a lo left = left
+
+loop-holds : tie.Need-loop-holds Inv-loop μ-loop
+loop-holds c = search test-starts
+
+load-rect-requires : tie.Need-load-rect-requires Inv-loop μ-loop
+load-rect-requires c κs = search needs
+
+add-hi : tie.Need-add-hi Inv-loop μ-loop
+add-hi c = let l = c .before in omega (arith, band-in _ _ _ _ (l .loop-test .taken) (l .before .loop .inv .lines))
+
+rect-fits-requires : tie.Need-rect-fits-requires Inv-loop μ-loop
+rect-fits-requires c κs = search needs
+
+add-a : tie.Need-add-a Inv-loop μ-loop
+add-a c = search needs
+
+sub-left : tie.Need-sub-left Inv-loop μ-loop
+sub-left c = search needs
+
+loop-less : tie.Need-loop-less Inv-loop μ-loop
+loop-less c = search needs
+
+loop-again : tie.Need-loop-again Inv-loop μ-loop
+loop-again c = let l = c .before .before in test-goes (l .before .loop .inv) (l .loop-test .taken) (c .before .load-rect .ensures) (c .rect-fits .ensures)
+
+returns : tie.Need-returns Inv-loop μ-loop
+returns c = search test-ends
+
+pub bands-fit-spec : {M : Type 1} → statement M
+bands-fit-spec =
+    tie.close
+    (tie.spec
+    Inv-loop
+    μ-loop
+    loop-holds
+    load-rect-requires
+    add-hi
+    rect-fits-requires
+    add-a
+    sub-left
+    loop-less
+    loop-again
+    returns)

@@ -1,0 +1,42 @@
+// A rectangle in lent bytes: left, top, right, bottom, two bytes each, least byte first.
+use model::Rect;
+ghost use mathlib.Core.Path.{_≡_};
+ghost use Prim.Native.Nat.{_+_, _≤_};
+ghost use lib.ListN.{length};
+ghost use Rattle.model.specs.Memory.{withWindow};
+ghost use Rattle.model.specs.Bytes.{rectAt, rectBytes};
+
+pub fn load_rect(bytes: &[u8], at: usize) -> Rect
+    requires { ⌜ at + 8 ≤ length (now bytes) ⌝ }
+    ensures { λ r. ⌜ r ≡ rectAt (now (bytes .entry)) at ⌝ }
+{
+    Rect {
+        left: slices::load_two(bytes, at),
+        top: slices::load_two(bytes, at + 2),
+        right: slices::load_two(bytes, at + 4),
+        bottom: slices::load_two(bytes, at + 6),
+    }
+}
+
+fn rect_bytes(q: Rect) -> [u8; 8]
+    ensures { λ r. ⌜ r ≡ rectBytes q ⌝ }
+{
+    [
+        (q.left % 256) as u8,
+        (q.left / 256 % 256) as u8,
+        (q.top % 256) as u8,
+        (q.top / 256 % 256) as u8,
+        (q.right % 256) as u8,
+        (q.right / 256 % 256) as u8,
+        (q.bottom % 256) as u8,
+        (q.bottom / 256 % 256) as u8,
+    ]
+}
+
+pub fn store_rect(bytes: &mut [u8], at: usize, q: Rect)
+    requires { ⌜ at + 8 ≤ length (now bytes) ⌝ }
+    ensures { λ _. ⌜ now (bytes .exit) ≡ withWindow at (rectBytes q) (now (bytes .entry)) ⌝ }
+{
+    let b = rect_bytes(q);
+    slices::put_bytes(bytes, at, &b);
+}
