@@ -11,7 +11,7 @@ use Rattle.model.specs.Calls.{opening, reset, lent, answered, done}
 use Rattle.laws.specs.Opening.{open-keys}
 use Rattle.record.specs.Update.{updated}
 use Rattle.record.proofs.Updating.{updated-for}
-use Rattle.accepted.specs.Given.{Given}
+use Rattle.record.specs.Given.{Given}
 use Rattle.accepted.specs.Opened.{Opened}
 
 module _ {v : Glass} {r m keys : List ℕ} (o : Opened v r m keys) (graphics text version : ℕ) {s : List ℕ}

@@ -24,7 +24,7 @@ use Rattle.laws.specs.Points.{both}
 use Rattle.laws.specs.Updates.{unmarked}
 use Rattle.record.specs.Update.{updated}
 use Rattle.record.proofs.Updating.{updated-for}
-use Rattle.accepted.specs.Given.{Given}
+use Rattle.record.specs.Given.{Given}
 
 pub is-ignored : (keys : List ℕ) (a : ℕ) {k : Bool} → k ≡ isKey keys a → (leb 57344 a || k) ≡ ignored keys a
 unfolding ignored

@@ -19,9 +19,9 @@ use Rattle.model.specs.Sends.{takeOwed, sendPending, lineNumbers, sendNumbers, 
 use Rattle.model.specs.Calls.{send, lent, answered, sentNumbers, done}
 use Rattle.laws.specs.Sending.{SentOn, sent-proper}
 use Rattle.send.specs.Line.{LineOn}
-use Rattle.accepted.specs.Given.{Given}
+use Rattle.record.specs.Given.{Given}
 use Rattle.accepted.specs.NoLine.{noLine}
-use Rattle.accepted.proofs.Drawing.{screenPart, screen-is, screen-part}
+use Rattle.record.proofs.Drawing.{screenPart, screen-is, screen-part}
 
 module _ {v : Glass} {r : List ℕ} {h : Head} {m : List ℕ} (w : Given v r h m) {q : Rect} {s : List ℕ} (i : SentOn v 0 r q s) {t : Bool} (e : t ≡ isEmpty q) where
   empty-as : {u : Bool} → t ≡ u → isEmpty (takeOwed (panelOf (geometry v) (decode (geometry v) r) 0) .hand) ≡ u

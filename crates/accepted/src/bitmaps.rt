@@ -10,7 +10,7 @@ ghost use mathlib.Core.List.{[]};
 ghost use Rattle.model.specs.Glass.{geometry};
 ghost use Rattle.model.specs.Bitmaps.{paintMode, sourceFits};
 ghost use Rattle.model.specs.Calls.{paintBitmap, lent, answered, done};
-ghost use Rattle.accepted.specs.Given.{Given};
+ghost use Rattle.record.specs.Given.{Given};
 pub use bitmap::source_fits;
 
 // The longest source, 255 lines of 32 bytes.

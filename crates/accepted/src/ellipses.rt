@@ -11,7 +11,7 @@ ghost use Rattle.model.specs.Glass.{geometry};
 ghost use Rattle.model.specs.Points.{drawMode};
 ghost use Rattle.model.specs.Ellipses.{radiiFit};
 ghost use Rattle.model.specs.Calls.{drawEllipse, filled, lent, answered, done};
-ghost use Rattle.accepted.specs.Given.{Given};
+ghost use Rattle.record.specs.Given.{Given};
 
 // What RADIUS tests.
 pub fn radii_fit(rx: u8, ry: u8, fill: u8, mode: u8) -> bool

@@ -8,7 +8,7 @@ ghost use mathlib.Core.Path.{_≡_};
 ghost use mathlib.Core.List.{[]};
 ghost use Rattle.model.specs.Glass.{geometry};
 ghost use Rattle.model.specs.Calls.{drawLine, drawBox, fillFits, lent, answered, done};
-ghost use Rattle.accepted.specs.Given.{Given};
+ghost use Rattle.record.specs.Given.{Given};
 
 pub fn draw_line(
     rec: &mut [u8],

@@ -8,7 +8,7 @@ ghost use mathlib.Core.Path.{_≡_};
 ghost use mathlib.Core.List.{[]};
 ghost use Rattle.model.specs.Glass.{geometry};
 ghost use Rattle.model.specs.Calls.{opening, reset, lent, answered, done};
-ghost use Rattle.accepted.specs.Given.{Given};
+ghost use Rattle.record.specs.Given.{Given};
 ghost use Rattle.accepted.specs.Opened.{Opened};
 
 pub fn open(

@@ -13,7 +13,7 @@ ghost use Rattle.model.specs.Glass.{geometry, Suits};
 ghost use Rattle.model.specs.Memory.{screenOf};
 ghost use Rattle.model.specs.Points.{drawMode, isSet};
 ghost use Rattle.model.specs.Calls.{drawPoint, lent, answered, flag, done};
-ghost use Rattle.accepted.specs.Given.{Given};
+ghost use Rattle.record.specs.Given.{Given};
 
 // The listed draw modes; what is not listed is refused before.
 pub fn draw_mode(mode: u8) -> DrawMode

@@ -13,7 +13,7 @@ ghost use Rattle.model.specs.Record.{decode};
 ghost use Rattle.model.specs.Poke.{ignored, inScreen, byteRect};
 ghost use Rattle.model.specs.Calls.{writeByte, lent, answered, done};
 ghost use Rattle.laws.specs.Panels.{Known};
-ghost use Rattle.accepted.specs.Given.{Given};
+ghost use Rattle.record.specs.Given.{Given};
 
 // Addresses from 0xe000 on and key addresses.
 fn is_ignored(rec: &[u8], glass: Glass, address: u16) -> bool

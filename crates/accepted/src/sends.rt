@@ -14,7 +14,7 @@ ghost use Rattle.model.specs.Glass.{geometry};
 ghost use Rattle.model.specs.Sends.{lineNumbers};
 ghost use Rattle.model.specs.Calls.{lent, answered, sentNumbers, done};
 ghost use Rattle.model.specs.Calls as calls;
-ghost use Rattle.accepted.specs.Given.{Given};
+ghost use Rattle.record.specs.Given.{Given};
 ghost use Rattle.accepted.specs.NoLine.{noLine};
 
 // No line: idle, or a refusal.

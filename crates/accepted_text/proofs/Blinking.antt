@@ -22,8 +22,8 @@ use Rattle.laws.specs.Record.{Numbers}
 use Rattle.laws.specs.Cursors.{cell-of, byte-of}
 use Rattle.record.specs.Update.{updated}
 use Rattle.record.proofs.Updating.{updated-for}
-use Rattle.accepted.specs.Given.{Given}
-use Rattle.accepted.proofs.Drawing.{screenPart, drew-with}
+use Rattle.record.specs.Given.{Given}
+use Rattle.record.proofs.Drawing.{screenPart, drew-with}
 
 -- ---- the cell under it
 

@@ -22,8 +22,8 @@ use Rattle.laws.specs.Memory.{length-withWindow}
 use Rattle.laws.specs.Updates.{whole-of}
 use Rattle.record.specs.Update.{updated}
 use Rattle.record.proofs.Updating.{updated-for}
-use Rattle.accepted.specs.Given.{Given}
-use Rattle.accepted.proofs.Drawing.{part-length}
+use Rattle.record.specs.Given.{Given}
+use Rattle.record.proofs.Drawing.{part-length}
 
 -- a part that was lent and cleared
 cleared-part : (a n : ℕ) (m : List ℕ) {s : List ℕ} → a + n ≤ length m → s ≡ zeros (length (take (a + n - a) (drop a m)))

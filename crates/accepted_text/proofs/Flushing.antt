@@ -30,9 +30,9 @@ use Rattle.record.proofs.Updating.{updated-for}
 use Rattle.flush.specs.Fits.{textFits}
 use Rattle.flush.specs.Rooms.{TextScreen}
 use Rattle.flush.proofs.Fitting.{text-fits}
-use Rattle.accepted.specs.Given.{Given}
+use Rattle.record.specs.Given.{Given}
 use Rattle.accepted_text.specs.Texts.{glyphsFit}
-use Rattle.accepted.proofs.Drawing.{screenPart, textPart, flagsPart, screen-length, flags-length, screen-is, text-is}
+use Rattle.record.proofs.Drawing.{screenPart, textPart, flagsPart, screen-length, flags-length, screen-is, text-is}
 
 -- GLYPH as the definitions test it
 pub glyphs-tested : (g : Geometry) (r m : List ℕ) (f : Fonts) → fontsFit (flushStores g f (decode g r) m) ≡ glyphsFit g m (decode g r .head) f

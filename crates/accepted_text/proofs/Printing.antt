@@ -34,9 +34,9 @@ use Rattle.record.specs.Update.{updated}
 use Rattle.record.proofs.Updating.{still-chosen, updated-for}
 use Rattle.text.specs.declared.page.Place.{Place}
 use Rattle.text.specs.Written.{page, Ready, Written}
-use Rattle.accepted.specs.Given.{Given}
+use Rattle.record.specs.Given.{Given}
 use Rattle.accepted_text.specs.Pages.{placeOf, PageStored}
-use Rattle.accepted.proofs.Drawing.{screenPart, textPart, flagsPart, text-room, screen-length, text-length, flags-length, screen-is, text-is}
+use Rattle.record.proofs.Drawing.{screenPart, textPart, flagsPart, text-room, screen-length, text-length, flags-length, screen-is, text-is}
 
 module _ {v : Glass} {r : List ℕ} {h : Head} {m : List ℕ} (w : Given v r h m) where
   -- ---- the screen and the record

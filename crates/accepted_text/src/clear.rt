@@ -11,7 +11,7 @@ ghost use lib.ListN.{length};
 ghost use Rattle.model.specs.Glass.{geometry, Suits};
 ghost use Rattle.model.specs.Text.{clearedMemory};
 ghost use Rattle.model.specs.Calls.{cls, setScreenMode, lent, answered, done};
-ghost use Rattle.accepted.specs.Given.{Given};
+ghost use Rattle.record.specs.Given.{Given};
 
 // Text and screen.
 fn clear_windows(memory: &mut [u8], glass: Glass, h: Head)

@@ -18,7 +18,7 @@ ghost use Rattle.model.specs.Marks.{drawn, drawnOn};
 ghost use Rattle.model.specs.Cursor.{cursorFor, blinkOf, blinkNext, cursorBox, underCursor};
 ghost use Rattle.model.specs.Calls.{blinkCursor, clearCursor, lent, answered, done};
 ghost use Rattle.laws.specs.Record.{Numbers};
-ghost use Rattle.accepted.specs.Given.{Given};
+ghost use Rattle.record.specs.Given.{Given};
 
 // Half or full, by the byte under it.
 fn cursor_for(b: u8) -> u8

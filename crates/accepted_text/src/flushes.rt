@@ -16,7 +16,7 @@ ghost use Rattle.model.specs.Glass.{geometry, Suits, textBytes};
 ghost use Rattle.model.specs.Glyphs.{fonts};
 ghost use Rattle.model.specs.Calls as calls;
 ghost use Rattle.model.specs.Calls.{lent, answered, done};
-ghost use Rattle.accepted.specs.Given.{Given};
+ghost use Rattle.record.specs.Given.{Given};
 ghost use Rattle.accepted_text.specs.Texts.{glyphsFit};
 
 // GLYPH: every byte that the flush would paint is in its font.

@@ -14,7 +14,7 @@ ghost use Prim.Native.Nat.{_<_};
 ghost use Rattle.model.specs.Glass.{geometry};
 ghost use Rattle.model.specs.Text.{atPlace};
 ghost use Rattle.model.specs.Calls.{print, newline, lent, answered, done};
-ghost use Rattle.accepted.specs.Given.{Given};
+ghost use Rattle.record.specs.Given.{Given};
 ghost use Rattle.accepted_text.specs.Pages.{placeOf, PageStored};
 
 fn place_of(h: Head) -> Place

@@ -20,7 +20,7 @@ use Rattle.record.specs.declared.entry.Entry.{Entry}
 use Rattle.record.specs.Entry.{Chosen, Entered}
 use Rattle.record.specs.Update.{updated}
 use Rattle.record.proofs.Updating.{known-glass, head-for}
-use Rattle.accepted.specs.Given.{Given}
+use Rattle.record.specs.Given.{Given}
 
 -- ---- tests
 

@@ -17,7 +17,7 @@ use Rattle.model.specs.Flush.{flushStores}
 use Rattle.laws.specs.Tests.{and-true}
 use Rattle.record.specs.declared.entry.Entry.{Entry}
 use Rattle.record.specs.Entry.{Chosen, Entered}
-use Rattle.accepted.specs.Given.{Given}
+use Rattle.record.specs.Given.{Given}
 use Rattle.accepted_text.specs.Texts.{glyphsFit}
 use Rattle.accepted_text.proofs.Flushing.{glyphs-tested}
 use Rattle.caption.proofs.Calls.{knows, loads}

@@ -1,5 +1,4 @@
 pub mod Writing
-pub mod Counting
 pub mod Running
 pub mod Whole
 pub mod Sizing

@@ -1,4 +1,3 @@
 // A script run: its calls made, and what they print written into lent bytes.
-pub mod count;
 pub mod output;
 pub mod runner;

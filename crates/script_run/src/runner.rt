@@ -1,5 +1,4 @@
 // A script run: its calls made one after another, and what each prints.
-use crate::count;
 use crate::output;
 use model::Sent;
 use model::glass::SCREEN_BYTES;
@@ -91,9 +90,9 @@ fn put_ending(out: &mut [u8], at: usize, rec: &[u8], memory: &[u8], panel: &[u8]
 {
     let from = GRAPHICS_BASE as usize;
     let to = from + SCREEN_BYTES;
-    let differing = count::count_differing(&memory[from..to], panel);
+    let differing = level::count_differing(&memory[from..to], panel);
     let glass = glass_of(rec.len());
-    let left = count::lines_left(rec, panel_at(glass, 0), glass.bands);
+    let left = level::lines_left(rec, panel_at(glass, 0), glass.bands);
     output::put_printed(out, at, b"end", &[differing, left])
 }
 

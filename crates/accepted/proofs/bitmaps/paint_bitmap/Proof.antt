@@ -8,8 +8,8 @@ use Rattle.model.specs.Memory.{window}
 use Rattle.model.specs.Bitmaps.{sourceBytes, bitmap}
 use Rattle.model.specs.Calls.{done}
 use Rattle.laws.specs.Parts.{part-window}
-use Rattle.accepted.proofs.Drawing.{screen-room, screen-part, drew, stands}
-use Rattle.accepted.proofs.Kept.{kept, kept-length, kept-room}
+use Rattle.record.proofs.Drawing.{screen-room, screen-part, drew, stands}
+use Rattle.record.proofs.Kept.{kept, kept-length, kept-room}
 use Rattle.accepted.proofs.Painting.{is-source, source-length}
 use borrow.Author.Needs.{needs}
 use Rattle.accepted.proofs.bitmaps.paint_bitmap.Statement.{statement}

@@ -1,7 +1,7 @@
 use mathlib.Core.Path.{ap, _∙_}
 use Rattle.model.specs.Ellipses.{radiiFit, ellipse}
 use Rattle.model.specs.Calls.{filled, done}
-use Rattle.accepted.proofs.Drawing.{screen-room, screen-part, drew, stands}
+use Rattle.record.proofs.Drawing.{screen-room, screen-part, drew, stands}
 use borrow.Author.Needs.{needs}
 use Rattle.accepted.proofs.ellipses.draw_ellipse.Statement.{statement}
 use Rattle.accepted.proofs.ellipses.draw_ellipse.Tie as tie

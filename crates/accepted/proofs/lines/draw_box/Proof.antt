@@ -1,6 +1,6 @@
 use Rattle.model.specs.Boxes.{box}
 use Rattle.model.specs.Calls.{filled, done}
-use Rattle.accepted.proofs.Drawing.{screen-room, screen-part, drew, stands}
+use Rattle.record.proofs.Drawing.{screen-room, screen-part, drew, stands}
 use borrow.Author.Needs.{needs}
 use Rattle.accepted.proofs.lines.draw_box.Statement.{statement}
 use Rattle.accepted.proofs.lines.draw_box.Tie as tie

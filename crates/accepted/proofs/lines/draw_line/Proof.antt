@@ -1,6 +1,6 @@
 use Rattle.model.specs.Lines.{line}
 use Rattle.model.specs.Calls.{done}
-use Rattle.accepted.proofs.Drawing.{screen-room, screen-part, drew, stands}
+use Rattle.record.proofs.Drawing.{screen-room, screen-part, drew, stands}
 use borrow.Author.Needs.{needs}
 use Rattle.accepted.proofs.lines.draw_line.Statement.{statement}
 use Rattle.accepted.proofs.lines.draw_line.Tie as tie

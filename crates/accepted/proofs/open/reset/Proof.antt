@@ -1,4 +1,4 @@
-use Rattle.accepted.proofs.Drawing.{stands, head-stands}
+use Rattle.record.proofs.Drawing.{stands, head-stands}
 use Rattle.accepted.proofs.Opening.{was-reset}
 use borrow.Author.Needs.{needs}
 use Rattle.accepted.proofs.open.reset.Statement.{statement}

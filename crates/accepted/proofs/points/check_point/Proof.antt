@@ -1,6 +1,6 @@
 use mir.Syntax.{w32}
 use mir.Facts.{toZ-ofZ}
-use Rattle.accepted.proofs.Drawing.{part-screen, checked}
+use Rattle.record.proofs.Drawing.{part-screen, checked}
 use borrow.Author.Needs.{needs}
 use Rattle.accepted.proofs.points.check_point.Statement.{statement}
 use Rattle.accepted.proofs.points.check_point.Tie as tie

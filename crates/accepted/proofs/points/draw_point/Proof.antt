@@ -1,6 +1,6 @@
 use Rattle.model.specs.Points.{point}
 use Rattle.model.specs.Calls.{done}
-use Rattle.accepted.proofs.Drawing.{screen-room, screen-part, drew, stands}
+use Rattle.record.proofs.Drawing.{screen-room, screen-part, drew, stands}
 use borrow.Author.Needs.{needs}
 use Rattle.accepted.proofs.points.draw_point.Statement.{statement}
 use Rattle.accepted.proofs.points.draw_point.Tie as tie

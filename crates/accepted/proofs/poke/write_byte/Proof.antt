@@ -1,4 +1,4 @@
-use Rattle.accepted.proofs.Drawing.{stands}
+use Rattle.record.proofs.Drawing.{stands}
 use borrow.Author.Tests.{not-true, not-false}
 use Rattle.accepted.proofs.Poking.{from-base, on-screen, poke-ignored, poke-elsewhere, poke-screen}
 use borrow.Author.Needs.{needs}

@@ -1,4 +1,4 @@
-use Rattle.accepted.proofs.Drawing.{screen-room}
+use Rattle.record.proofs.Drawing.{screen-room}
 use Rattle.accepted.proofs.Sending.{idles, may-copy, sends-line}
 use borrow.Author.Needs.{needs}
 use Rattle.accepted.proofs.sends.send.Statement.{statement}

@@ -2,7 +2,7 @@ use mathlib.Core.Path.{ap}
 use mathlib.Core.List.{[]}
 use Rattle.model.specs.Calls.{answered, done}
 use Rattle.laws.specs.Updates.{screen-small}
-use Rattle.accepted.proofs.Drawing.{screen-room, text-room, stands}
+use Rattle.record.proofs.Drawing.{screen-room, text-room, stands}
 use Rattle.accepted_text.proofs.Clearing.{was-cleared}
 use borrow.Author.Needs.{needs}
 use Rattle.accepted_text.proofs.clear.set_screen_mode.Statement.{statement}

@@ -3,7 +3,7 @@ use mathlib.Core.List.{[]}
 use Rattle.model.specs.Calls.{answered, done}
 use Rattle.laws.specs.Updates.{head-numbers}
 use Rattle.laws.specs.Cursors.{blink-fits, box-bottom, box-right}
-use Rattle.accepted.proofs.Drawing.{screen-room, screen-part, text-room, stands}
+use Rattle.record.proofs.Drawing.{screen-room, screen-part, text-room, stands}
 use Rattle.accepted_text.proofs.Blinking.{blink-graph, blink-drew}
 use borrow.Author.Needs.{needs}
 use Rattle.accepted_text.proofs.cursor.blink_cursor.Statement.{statement}

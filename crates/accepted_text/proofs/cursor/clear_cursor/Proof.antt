@@ -1,4 +1,4 @@
-use Rattle.accepted.proofs.Drawing.{stands}
+use Rattle.record.proofs.Drawing.{stands}
 use mathlib.Core.Path.{ap, _∙_}
 use mathlib.Core.List.{[]}
 use Rattle.model.specs.Calls.{answered, done}

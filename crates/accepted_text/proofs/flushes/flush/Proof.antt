@@ -2,8 +2,8 @@ use native.Mathlib.Omega.{arith}
 use mathlib.Core.Path.{sym, _∙_}
 use Rattle.laws.specs.StateTest.{flags-room}
 use Rattle.laws.specs.Updates.{screen-small}
-use Rattle.accepted.proofs.Drawing.{screen-in, screen-room, text-room, text-length, stands}
-use Rattle.accepted.proofs.Kept.{kept, kept-length, kept-room}
+use Rattle.record.proofs.Drawing.{screen-in, screen-room, text-room, text-length, stands}
+use Rattle.record.proofs.Kept.{kept, kept-length, kept-room}
 use Rattle.accepted_text.proofs.Flushing.{glyphs-are, flags-counted, text-screen, flush-drew}
 use borrow.Author.Needs.{needs}
 use Rattle.accepted_text.proofs.flushes.flush.Statement.{statement}

@@ -1,6 +1,6 @@
 use native.Mathlib.Omega.{arith}
 use Rattle.model.specs.Print.{newlineOn}
-use Rattle.accepted.proofs.Drawing.{text-room}
+use Rattle.record.proofs.Drawing.{text-room}
 use Rattle.accepted_text.proofs.Printing.{flags-end, ready, few-scrolls, newline-keeps, place-in, given-after, page-stored, newline-left}
 use borrow.Author.Needs.{needs}
 use Rattle.accepted_text.proofs.print.newline.Statement.{statement}

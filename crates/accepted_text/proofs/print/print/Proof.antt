@@ -3,7 +3,7 @@ use mathlib.Core.Bool.{not}
 use lib.Dec.{eqb}
 use Rattle.model.specs.Print.{printOn}
 use Rattle.laws.specs.Pages.{print-sheet}
-use Rattle.accepted.proofs.Drawing.{text-room}
+use Rattle.record.proofs.Drawing.{text-room}
 use Rattle.accepted_text.proofs.Printing.{flags-end, ready, no-scrolls, place-in, given-after, page-stored, print-left}
 use borrow.Author.Needs.{needs}
 use Rattle.accepted_text.proofs.print.print.Statement.{statement}

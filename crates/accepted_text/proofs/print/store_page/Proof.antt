@@ -1,5 +1,5 @@
 use Rattle.laws.specs.Updates.{screen-small}
-use Rattle.accepted.proofs.Drawing.{screen-room, stands}
+use Rattle.record.proofs.Drawing.{screen-room, stands}
 use Rattle.accepted_text.proofs.Printing.{rows-lent, place-short, page-follows}
 use borrow.Author.Needs.{needs}
 use Rattle.accepted_text.proofs.print.store_page.Statement.{statement}

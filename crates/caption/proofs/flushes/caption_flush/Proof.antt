@@ -1,4 +1,4 @@
-use Rattle.accepted.proofs.Drawing.{text-room}
+use Rattle.record.proofs.Drawing.{text-room}
 use native.Mathlib.Omega.{arith}
 use mathlib.Core.Path.{refl, sym, _∙_}
 use mathlib.Core.List.{[]}

@@ -9,7 +9,7 @@ use Rattle.model.specs.Glass.{geometry}
 use Rattle.model.specs.Memory.{screenOf}
 use Rattle.model.specs.Points.{isSet}
 use Rattle.model.specs.Calls.{lent, answered, flag, done}
-use Rattle.accepted.proofs.Drawing.{screen-room}
+use Rattle.record.proofs.Drawing.{screen-room}
 use Rattle.caption.proofs.Calls.{none-left, stops, ends, loads, given}
 use borrow.Author.Needs.{needs}
 use Rattle.caption.proofs.points.caption_check_point.Statement.{statement}

@@ -1,4 +1,4 @@
-// The two numbers of the last line: differing pixels, counted by bytes, and lines left.
+// How far a panel is from level: the pixels that differ, counted by bytes, and the lines left.
 use model::Rect;
 use owed::rects;
 ghost use mathlib.Core.Path.{_≡_};

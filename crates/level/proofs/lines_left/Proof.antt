@@ -4,9 +4,9 @@ use mathlib.Core.Path.{_≡_}
 use Prim.Native.Nat.{_+_, _*_, _≤_}
 use Rattle.model.specs.Bytes.{rectsAt}
 use Rattle.model.specs.Lists.{owedLines}
-use Rattle.script_run.proofs.Counting.{left-turn, left-end}
-use Rattle.script_run.proofs.count.lines_left.Statement.{statement}
-use Rattle.script_run.proofs.count.lines_left.Tie as tie
+use Rattle.level.proofs.Counting.{left-turn, left-end}
+use Rattle.level.proofs.lines_left.Statement.{statement}
+use Rattle.level.proofs.lines_left.Tie as tie
 
 abbrev Inv-loop : tie.InvT-loop
 Inv-loop rec at bands owed₀ place₀ left₀ owed place left =

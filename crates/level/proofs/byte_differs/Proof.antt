@@ -1,7 +1,7 @@
 use native.Mathlib.Omega.{arith}
-use Rattle.script_run.proofs.Counting.{ones-differ, ones-small}
-use Rattle.script_run.proofs.count.byte_differs.Statement.{statement}
-use Rattle.script_run.proofs.count.byte_differs.Tie as tie
+use Rattle.level.proofs.Counting.{ones-differ, ones-small}
+use Rattle.level.proofs.byte_differs.Statement.{statement}
+use Rattle.level.proofs.byte_differs.Tie as tie
 
 returns : tie.Need-returns
 returns c = (ones-differ (c .args .a) (c .args .b) (omega arith) (omega arith), ones-small (c .args .a) (c .args .b) (omega arith) (omega arith))

@@ -3,10 +3,10 @@ use native.Mathlib.Omega.{arith}
 use mathlib.Core.Path.{_≡_}
 use Prim.Native.Nat.{_+_, _-_, _*_, _≤_}
 use lib.ListN.{length, drop}
-use Rattle.script_run.proofs.Counting.{count-turn, count-end}
+use Rattle.level.proofs.Counting.{count-turn, count-end}
 use Rattle.laws.specs.Counts.{bytesDiffer}
-use Rattle.script_run.proofs.count.count_differing.Statement.{statement}
-use Rattle.script_run.proofs.count.count_differing.Tie as tie
+use Rattle.level.proofs.count_differing.Statement.{statement}
+use Rattle.level.proofs.count_differing.Tie as tie
 
 abbrev Inv-loop : tie.InvT-loop
 Inv-loop screen panel n₀ i₀ n i = (n + bytesDiffer (drop i screen) (drop i panel) ≡ bytesDiffer screen panel) × (n ≤ 8 * i) × (i ≤ length screen)

@@ -27,9 +27,9 @@ use Rattle.laws.specs.Parts.{part-window, part-back}
 use Rattle.laws.specs.Record.{Passing, length-part, has-flags}
 use Rattle.laws.specs.StateTest.{flags-part}
 use Rattle.laws.specs.Updates.{head-numbers}
 use Rattle.record.specs.Update.{updated}
 use Rattle.record.proofs.Updating.{passes-for, updated-for}
-use Rattle.accepted.specs.Given.{Given}
+use Rattle.record.specs.Given.{Given}
 
 pub unknown-mode : (n : ℕ) → 3 ≤ n → Unknown ≡ drawMode n
 unknown-mode zero h = absurd (omega arith)
