@@ -6,7 +6,7 @@ use model::refusal;
 use record::entry;
 use record::glass::glass_of;
 ghost use mathlib.Core.Path.{_≡_};
-ghost use mathlib.Core.List.{[], _∷_};
+ghost use mathlib.Core.List.{[]};
 ghost use Rattle.model.specs.Geometry.{base};
 ghost use Rattle.model.specs.Calls.{drawPoint, checkPoint, lent, answered, valueNumbers, outcome};
 

@@ -1,7 +1,7 @@
 // `draw_ellipse`: one walk along a quarter of the outline, each part drawn as it comes.
 ghost use mathlib.Core.Path.{_≡_};
 ghost use mathlib.Core.Bool.{true, cond};
-ghost use Prim.Native.Nat.{_+_, _*_, _≤_, _<_, max};
+ghost use Prim.Native.Nat.{_+_, _≤_, _<_, max};
 ghost use lib.Dec.{ltb};
 ghost use Rattle.model.specs.Pixels.{Screen, draw, seen};
 ghost use Rattle.model.specs.Marks.{drawn, drawnOn};
@@ -10,13 +10,13 @@ ghost use Rattle.laws.specs.Ellipses.{Round};
 ghost use Rattle.laws.specs.EllipseWalks.{painted};
 ghost use Rattle.pixels.specs.Raster.{modeOf, IsOp};
 ghost use Rattle.ellipse_walk.specs.Walk.{partsOf};
+use draw_lines::ends::greatest;
+use draw_lines::line::draw_hor_line;
+use draw_lines::line::is_unknown;
 use ellipse_walk::EllipsePart;
 use ellipse_walk::ended;
 use ellipse_walk::next_step;
 use ellipse_walk::start;
-use lines::ends::greatest;
-use lines::line::draw_hor_line;
-use lines::line::is_unknown;
 use marks::mark::whole_screen;
 use marks::span::no_marks;
 use marks::span::owed_as_is;

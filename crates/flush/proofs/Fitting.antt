@@ -15,7 +15,7 @@ use Rattle.model.specs.declared.CellKind.the-variants.{Blank, Single, Pair, Cod
 use Rattle.model.specs.Glyphs.{Fonts, digit, glyphOf, fontsFit, columnStores, codeStores}
 use Rattle.model.specs.declared.Shown.{Shown}
 use Rattle.model.specs.Flush.{topOf, rightOf, flagAt, halfStores, glyphStores, kindStores, stores, textStores, spot, shownAt, nextSpot, walk}
-use Rattle.laws.specs.Tests.{tests, by-lt, and-true}
+use Rattle.laws.specs.Tests.{by-lt, and-true}
 use Rattle.laws.specs.Glyphs.{fits-append, column-fits, lines-fits}
 use Rattle.laws.specs.FlushWalk.{Within, rest, rest-more, rest-end, rest-start}
 use Rattle.flush.specs.Fits.{codeFits, glyphFits, kindFits, shownFits, walkFits, textFits}

@@ -8,7 +8,7 @@ ghost use Rattle.model.specs.Geometry.{base, screenBytes};
 ghost use Rattle.model.specs.Rects.{linesOf};
 ghost use Rattle.model.specs.Bytes.{rectAt, rectsAt};
 ghost use Rattle.model.specs.Lists.{owedLines, differing};
-ghost use Rattle.laws.specs.Counts.{byteDiffers, bytesDiffer};
+ghost use Rattle.laws.specs.Counts.{byteDiffers};
 
 // How many bits of two bytes differ.
 fn byte_differs(a: u8, b: u8) -> u32

@@ -12,7 +12,7 @@ use Rattle.model.specs.declared.Sent.{Sent}
 use Rattle.model.specs.Geometry.{Geometry, height, rows, columns, screenBytes, memoryBytes}
 use Rattle.model.specs.Rects.{Rect, none}
 use Rattle.model.specs.Memory.{window, screenOf, withScreen}
-use Rattle.model.specs.Record.{State, decode, encode, valid, windows, recordBytes, panelOf, withHead, withPanel}
+use Rattle.model.specs.Record.{decode, encode, valid, windows, recordBytes, panelOf, withHead, withPanel}
 use Rattle.model.specs.Refusals.{LENT, STATE, WINDOW, VALUE, SOURCE, RADIUS, GLYPH, ENDLESS, Test, test, refusal, ruled}
 use Rattle.model.specs.Marks.{Drawing, whole, drawnOn, marked, withDirty}
 use Rattle.model.specs.Open.{clearMemory, openState, resetState}

@@ -16,7 +16,7 @@ use Rattle.model.specs.declared.Head.{Head}
 use Rattle.model.specs.Bitmaps.{paintMode, sourceBytes}
 use Rattle.model.specs.Memory.{window}
 use Rattle.model.specs.Text.{withRow, withColumn, printMode, withPrintMode}
-use Rattle.model.specs.Calls.{Call, opening, reset, drawPoint, drawLine, drawBox, drawCircle, drawEllipse, checkPoint, paintBitmap, print, newline, cls, writeByte, flush, getRow, getColumn, setRow, setColumn, setScreenMode, setPrintMode, blinkCursor, clearCursor, takeDirtyArea, send, Lent, answered, filled, drawing, done, refused}
+use Rattle.model.specs.Calls.{Call, opening, reset, drawPoint, drawLine, drawBox, drawCircle, drawEllipse, checkPoint, paintBitmap, print, newline, cls, writeByte, flush, getRow, getColumn, setRow, setColumn, setScreenMode, setPrintMode, blinkCursor, clearCursor, takeDirtyArea, send, Lent, answered, filled, drawing, done}
 use Rattle.model.specs.Print.{isInverse}
 use Rattle.model.specs.Record.{headFits}
 use Rattle.model.specs.Lists.{accepted, Typed, Item, after, draws, effect, itemEffect}

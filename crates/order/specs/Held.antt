@@ -13,7 +13,7 @@ use Rattle.model.specs.Record.{Pending, nothingPending, WellPending}
 use Rattle.model.specs.Marks.{whole, owing}
 use Rattle.model.specs.Open.{openPending}
 use Rattle.model.specs.Sends.{takeOwed, nextLine, lineSent, sendPending, copyLine, sendPanel}
-use Rattle.model.specs.Lists.{Effect, nothing, marks, opens, sends, affected, InAny, Differs, owedLines, linesLeft, differs, differing}
+use Rattle.model.specs.Lists.{Effect, nothing, marks, opens, sends, affected, InAny, Differs, owedLines, linesLeft, differing}
 use Rattle.laws.specs.Tests.{tests, if-cases, by-test, by-eq, by-lt, clash, either}
 use Rattle.laws.specs.Pixels.{place-lt, length-copyRun, copyRun-other, copyRun-same}
 use Rattle.laws.specs.Rects.{Proper, decIn, in-not-none, not-in-none}

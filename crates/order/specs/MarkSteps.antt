@@ -20,7 +20,7 @@ use Rattle.model.specs.Pixels.{draw, seen}
 use Rattle.model.specs.Record.{State, windowTests, windows, headTests, headFits, encode, withHead, withFlags}
 use Rattle.model.specs.Marks.{whole, owes, marked, Drawing, drawnOn}
 use Rattle.model.specs.Open.{clearFlags}
-use Rattle.model.specs.Text.{withRow, withColumn, atPlace, withScreenMode, withCursor, clearedState, clearedMemory}
+use Rattle.model.specs.Text.{withRow, atPlace, withScreenMode, withCursor, clearedState, clearedMemory}
 use Rattle.model.specs.Print.{Page, scrolledTimes, pageOf, screenScrolls, scrollMark, stateWithPage, scrolledMemory, memoryWithPage}
 use Rattle.model.specs.Cursor.{blinkOf, blinkNext, cursorBox, underCursor, blinkDrawing, blinkHead}
 use Rattle.model.specs.Glyphs.{Fonts}

@@ -10,7 +10,7 @@ use Rattle.model.specs.declared.Rect.{Rect}
 use Rattle.model.specs.declared.Head.{Head}
 use Rattle.model.specs.Geometry.{Geometry, height, screenBytes, cells, memoryBytes}
 use Rattle.model.specs.Glass.{IsGlass}
-use Rattle.model.specs.Rects.{every, fits}
+use Rattle.model.specs.Rects.{every}
 use Rattle.model.specs.Memory.{screenOf, withScreen}
 use Rattle.model.specs.Record.{Pending, State, nothingPending, panelOf, headTests, headFits, decode, encode, withHead, withPanels, withPanel, withFlags, WellPending, WellFormed}
 use Rattle.model.specs.Marks.{updateDirty, owing, marked}

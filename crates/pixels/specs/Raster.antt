@@ -1,6 +1,6 @@
 -- A draw mode as the two bytes that code draws with.
 use mathlib.Core.Path.{_≡_, refl}
-use mathlib.Core.Bool.{Bool, true, false, cond}
+use mathlib.Core.Bool.{false, cond}
 use Prim.Native.Nat.{ℕ, _-_}
 use lib.Bits.{bitAnd, bitXor}
 use lib.Dec.{eqb}

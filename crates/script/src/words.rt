@@ -3,8 +3,8 @@ use crate::Got;
 use crate::Number;
 ghost use mathlib.Core.Path.{_≡_};
 ghost use mathlib.Core.List.{[], _∷_};
-ghost use Prim.Native.Nat.{_<_, _≤_};
-ghost use lib.ListN.{length, drop};
+ghost use Prim.Native.Nat.{_<_};
+ghost use lib.ListN.{drop};
 ghost use Rattle.model.specs.Script.Read.{isDigit, goesOn, takeDigits, takeNumber, takeWord, orTaken, takeMode, takePiece};
 ghost use Rattle.script.specs.Meaning.{takenOf, numberOf};
 

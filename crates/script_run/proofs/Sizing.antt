@@ -9,7 +9,6 @@ use borrow.Author.Tests.{lt-ltb, le-ltb}
 use lib.ListN.{length, replicate, length-append, length-replicate}
 use Rattle.model.specs.Record.{Pending}
 use Rattle.model.specs.Geometry.{base}
-use Rattle.model.specs.Memory.{zeros}
 use Rattle.model.specs.Rects.{isEmpty}
 use Rattle.model.specs.Refusals.{ruled}
 use Rattle.model.specs.Sends.{takeOwed, lineNumbers, sendNumbers}

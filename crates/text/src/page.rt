@@ -1,5 +1,4 @@
 // Where the next cell is written, and `newline`.
-ghost use mathlib.Core.Path.{_≡_};
 ghost use Prim.Native.Nat.{_+_, _^_, _<_};
 ghost use Rattle.model.specs.Print.{newlineOn, writeCell};
 ghost use Rattle.text.specs.Written.{page, Cell, Ready, Written};

@@ -1,6 +1,6 @@
 -- Scripts, first stage: `readScript` gives for each line of a script the call that it names, or `badLine` where no form fits.
 -- A form is a pattern, whose bytes stand for themselves, but `#` for a number 0-255, `@` for a number 0-65,535 and `*` for a mode.
-use mathlib.Core.Bool.{Bool, true, false, cond, _&&_, _||_}
+use mathlib.Core.Bool.{Bool, cond, _&&_, _||_}
 use mathlib.Core.List.{List, [], _∷_, map}
 use Prim.Native.Nat.{ℕ, _+_, _-_, _*_}
 use Prim.Native.Char.{code}

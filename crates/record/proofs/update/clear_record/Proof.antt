@@ -1,4 +1,3 @@
-use mathlib.Core.Path.{sym, _∙_}
 use native.Mathlib.Omega.{arith}
 use Rattle.model.specs.Record.{withHead, withFlags}
 use Rattle.model.specs.Marks.{marked}
