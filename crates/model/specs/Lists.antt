@@ -21,7 +21,7 @@ use Rattle.model.specs.Bitmaps.{paintMode, sourceBytes, bitmap}
 use Rattle.model.specs.Memory.{window}
 use Rattle.model.specs.Poke.{pokeMark}
 use Rattle.model.specs.Sends.{sendPending}
-use Rattle.model.specs.Calls.{Call, opening, reset, drawPoint, drawLine, drawBox, drawCircle, drawEllipse, checkPoint, paintBitmap, writeByte, flush, getRow, getColumn, setRow, setColumn, setPrintMode, takeDirtyArea, send, Lent, filled, refusals, outcome, print, newline, cls, setScreenMode, blinkCursor, clearCursor}
+use Rattle.model.specs.Calls.{Call, opening, reset, drawPoint, drawLine, drawBox, drawCircle, drawEllipse, checkPoint, paintBitmap, writeByte, flush, getRow, getColumn, setRow, setColumn, setPrintMode, takeDirtyArea, send, Lent, lent, Lending, to-open, record-only, with-memory, with-fonts, with-panel, takes, filled, refusals, outcome, print, newline, cls, setScreenMode, blinkCursor, clearCursor}
 use Rattle.model.specs.Print.{Page, newlineOn, isInverse, printOn, pageOf, screenScrolls, scrollMark}
 use Rattle.model.specs.Cursor.{blinkDrawing}
 use lib.ListN.{length}
@@ -58,14 +58,35 @@ Typed clearCursor = Unit {0}
 Typed takeDirtyArea = Unit {0}
 Typed send = Unit {0}
 
--- An item of a list: a call that is lent what the last accepted call left, which may be accepted or refused; or a refused call that is lent other buffers.
+-- An item of a list: a call that is lent what it takes of what the last accepted call left, and may be accepted or refused; or a refused call that is lent other
+-- buffers.
 pub data Item (g : Geometry) : Type 0 where
   here : (c : Call) → Typed c → Item g
   elsewhere : (c : Call) (l : Lent) → (accepted g c l → ⊥) → Item g
 
+-- what a call takes of record, memory and panel
+unfoldable pub lentTo : Lending → Lent → Lent
+lentTo to-open l = lent (l .rec) (l .memory) []
+lentTo record-only l = lent (l .rec) [] []
+lentTo with-memory l = lent (l .rec) (l .memory) []
+lentTo (with-fonts f) l = lent (l .rec) (l .memory) []
+lentTo with-panel l = l
+
+-- these given back as the call left them, k; what it was not lent stands as before
+unfoldable pub givenBack : Lending → Lent → Lent → Lent
+givenBack to-open l k = lent (k .rec) (k .memory) (l .panel)
+givenBack record-only l k = lent (k .rec) (l .memory) (l .panel)
+givenBack with-memory l k = lent (k .rec) (k .memory) (l .panel)
+givenBack (with-fonts f) l k = lent (k .rec) (k .memory) (l .panel)
+givenBack with-panel l k = k
+
+-- what stands after a call that is lent what it takes
+unfoldable pub leaves : Geometry → Call → Lent → Lent
+leaves g c l = givenBack (takes c) l (outcome g c (lentTo (takes c) l) .left)
+
 -- what stands after an item
 unfoldable pub after : (g : Geometry) → Lent → Item g → Lent
-after g l (here c t) = outcome g c l .left
+after g l (here c t) = leaves g c l
 after g l (elsewhere c k r) = l
 
 unfoldable pub run : (g : Geometry) → Lent → List (Item g) → Lent
@@ -136,7 +157,7 @@ effectAt zero e = e
 effectAt (suc k) e = nothing
 
 unfoldable pub itemEffect : (g : Geometry) → Lent → Item g → Effect
-itemEffect g l (here c t) = effectAt (refusal (refusals g c l)) (effect g c l)
+itemEffect g l (here c t) = let k = lentTo (takes c) l in effectAt (refusal (refusals g c k)) (effect g c k)
 itemEffect g l (elsewhere c k r) = nothing
 
 unfoldable pub reckoned : (g : Geometry) → Pending → Lent → List (Item g) → Pending

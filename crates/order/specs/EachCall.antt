@@ -29,7 +29,9 @@ use Rattle.laws.specs.EllipseMarks.{ellipse-fits}
 use Rattle.laws.specs.Bitmaps.{bitmap-fits}
 use Rattle.laws.specs.Pages.{newline-sheet, print-sheet}
 use Rattle.laws.specs.Calls.{accepted-call}
-use Rattle.order.specs.Step.{still-fits, Lendable, old, Step, known, same-step, changed-step}
+use Rattle.laws.specs.Writes.{AgreeOutside}
+use Rattle.order.specs.Held.{touched}
+use Rattle.order.specs.Step.{still-fits, Lendable, old, screenHeld, Step, known, same-step, changed-step}
 use Rattle.order.specs.Accepted.{by-item}
 use Rattle.order.specs.Opens.{opening-step, reset-step, send-step}
 use Rattle.order.specs.MarkSteps.{poke-step, flush-step, drawing-step, blink-step, clear-cursor-step, cleared-step, page-step}
@@ -79,6 +81,10 @@ module _ (g : Geometry) (l : Lent) (q : Lendable g l) where
   call-step clearCursor t a = clear-cursor-step g 0 (z .one) l q
   call-step takeDirtyArea t a = changed-step g 0 (z .one) l q (withDirty none) (still-fits g h (known g l q .head) 7 refl) refl
   call-step send t a = send-step g 0 (z .one) l q
+
+  -- so no accepted call changes a pixel outside what it owes: the last clause of Marks never applies
+  pub no-pixel-outside : (c : Call) → Typed c → accepted g c l → AgreeOutside (g .stride) (height g) (touched g (effect g c l)) (screenHeld g l) (screenHeld g (done g c l .left))
+  no-pixel-outside c t a = call-step c t a .follows .screen
 
   -- a refused call leaves all as it was, and so does one that was lent other buffers
   pub item-step : (i : Item g) → Step g 0 l (itemEffect g l i) (after g l i)

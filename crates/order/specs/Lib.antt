@@ -1,5 +1,5 @@
 -- Accepted speaks of the accepted calls of a list; Held of one panel and of effects on it, over any geometry; Step to EachCall of the calls, and Parts of what they
--- are lent; Order of lists. Theorem is what a reader wants.
+-- are lent; Order of lists. Theorem is what a reader wants; Witnesses shows that it is not about nothing.
 pub mod Accepted
 pub mod Held
 pub mod Step
@@ -9,3 +9,4 @@ pub mod EachCall
 pub mod Parts
 pub mod Order
 pub mod Theorem
+pub mod Witnesses

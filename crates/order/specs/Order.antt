@@ -11,14 +11,15 @@ use Rattle.model.specs.Geometry.{Geometry, height, screenBytes, memoryBytes}
 use Rattle.model.specs.Glass.{IsGlass}
 use Rattle.model.specs.Record.{Pending, nothingPending, WellPending}
 use Rattle.model.specs.Refusals.{refusal, ruled}
-use Rattle.model.specs.Calls.{Call, opening, send, Lent, answered, refusals, done, outcome}
-use Rattle.model.specs.Lists.{accepted, Typed, Item, here, after, run, Effect, opens, effect, affected, effectAt, itemEffect, reckoned, linesLeft, differing}
+use Rattle.model.specs.Calls.{Call, opening, send, Lent, answered, done, outcome}
+use Rattle.model.specs.Lists.{accepted, Typed, Item, here, lentTo, leaves, after, run, Effect, opens, effect, affected, effectAt, itemEffect, reckoned, linesLeft, differing}
 use Rattle.laws.specs.Calls.{own-decide, outcome-done}
 use Rattle.laws.specs.Bands.{lines-send, idle-iff, lines-bound}
 use Rattle.order.specs.Held.{PanelState, Held, held-open, held-after, none-left}
 use Rattle.order.specs.Step.{Lendable, view, Step}
 use Rattle.order.specs.Opens.{opening-step}
 use Rattle.order.specs.EachCall.{item-step}
+use Rattle.order.specs.Parts.{same, leaves-done}
 use Rattle.order.specs.Accepted.{by-item, acceptedCall, acceptedCalls, leftBy, left-run}
 
 -- what holds of the lent bytes between calls; p is owed, in hand and sent, as reckoned from the effects
@@ -55,12 +56,12 @@ module _ (g : Geometry) where
   unfolding run after reckoned affected itemEffect effectAt effect
   standing-opened z graphics text version keys t l a n is =
       let c = opening graphics text version keys in
-      let first : Step g 0 l opens (outcome g c l .left) = rw (outcome-done g c l a) (opening-step g z graphics text version keys l t a n) in
-      standing-run (outcome g c l .left) is (affected g (nothingPending g) (effectAt (refusal (refusals g c l)) opens))
+      let first : Step g 0 l opens (leaves g c l) = rw (leaves-done g c l a) (opening-step g z graphics text version keys l t a n) in
+      standing-run (leaves g c l) is (affected g (nothingPending g) (itemEffect g l (here c t)))
       (record {
         lendable = first .lendable;
-        held = held-open g (state (outcome g c l .left)) (first .lendable .panel) (first .follows .pending);
-        pending = first .follows .pending ∙ ap (λ (k : ℕ). affected g (nothingPending g) (effectAt k opens)) (sym a);
+        held = held-open g (state (leaves g c l)) (first .lendable .panel) (first .follows .pending);
+        pending = first .follows .pending ∙ ap (λ (k : ℕ). affected g (nothingPending g) (effectAt k opens)) (sym (ap refusal (same g c l .0) ∙ a));
       })
 
   -- ---- what holds then
@@ -88,7 +89,7 @@ module _ (g : Geometry) where
 
   -- a row of sends is such a list
   pub row-of-sends : (l : Lent) {p : Pending} → Standing g l p → (n : ℕ) → acceptedCalls g l (replicate n (here send tt)) ≡ replicate n send
-  unfolding acceptedCalls acceptedCall ruled run
+  unfolding acceptedCalls acceptedCall ruled run lentTo
   row-of-sends l s zero = refl
   row-of-sends l {p} s (suc n) = rw (sendable l s) (ap (λ (cs : List Call). send ∷ cs) (row-of-sends (after g l (here send tt)) (standing-item l (here send tt) p s) n))
 

@@ -1,7 +1,7 @@
 -- Calls in any order: what is promised of the record, memory and panel bytes after an accepted open and every list of calls.
--- Call, takes and outcome stand in crates/model/specs/Calls.antt; Item, run, reckoned, linesLeft, InAny, Differs and differing in Lists.antt there; acceptedCalls and
--- leftBy in Accepted.antt here; lentTo and answeredBack in Parts.antt. docs/THEOREM.md says it in words.
-use mathlib.Core.Path.{_≡_}
+-- Call, takes and outcome stand in crates/model/specs/Calls.antt; Item, lentTo, run, reckoned, linesLeft, InAny, Differs and differing in Lists.antt there;
+-- acceptedCalls and leftBy in Accepted.antt here. docs/THEOREM.md says it in words.
+use mathlib.Core.Path.{_≡_, sym, ap, _∙_}
 use mathlib.Core.Logic.{_⊎_, _↔_}
 use mathlib.Core.Bool.{true}
 use mathlib.Core.List.{List, [], _∷_}
@@ -12,11 +12,12 @@ use Rattle.model.specs.Geometry.{base}
 use Rattle.model.specs.Memory.{screenOf}
 use Rattle.model.specs.Rects.{In}
 use Rattle.model.specs.Record.{Pending, nothingPending, panelOf, decode, total, valid}
-use Rattle.model.specs.Calls.{Call, opening, send, Lent, lent, takes, outcome}
-use Rattle.model.specs.Lists.{accepted, Typed, Item, here, run, reckoned, linesLeft, InAny, Differs, differing}
+use Rattle.model.specs.Refusals.{refusal}
+use Rattle.model.specs.Calls.{opening, send, Lent, lent, outcome}
+use Rattle.model.specs.Lists.{accepted, Typed, Item, here, lentTo, run, reckoned, linesLeft, InAny, Differs, differing}
 use Rattle.laws.specs.Glasses.{base-glass}
 use Rattle.order.specs.Accepted.{acceptedCalls, leftBy, left-run}
-use Rattle.order.specs.Parts.{lentTo, answeredBack, outcome-parts}
+use Rattle.order.specs.Parts.{same}
 use Rattle.order.specs.Order.{standing-opened, sendable, bound, idle, lines-more, level, row-of-sends}
 
 -- owed, in hand and lines sent as the record has them; L; the screen
@@ -58,15 +59,16 @@ pub record Promised (start : Lent) (items : List (Item base)) (l : Lent) : Type 
   -- L sends in a row are such a list
   pub level-row : let l′ = run base l (replicate (linesIn l) (here send tt)) in differing base (screenIn l′) (l′ .panel) ≡ 0
 
--- the theorem: an accepted open, lent any record r, any memory m and a panel p of any bytes, and then every list of items
+-- the theorem: an accepted open, lent any record r and any memory m, beside a panel p of any bytes, and then every list of items
 pub calls-in-any-order : (graphics text version : ℕ) (keys : List ℕ) (t : Typed (opening graphics text version keys)) (r m p : List ℕ)
-    → accepted base (opening graphics text version keys) (lent r m p) → length p ≡ 1600 → (items : List (Item base))
+    → accepted base (opening graphics text version keys) (lent r m []) → length p ≡ 1600 → (items : List (Item base))
     → let list = here (opening graphics text version keys) t ∷ items in Promised (lent r m p) list (run base (lent r m p) list)
-unfolding total
+unfolding total lentTo
 calls-in-any-order graphics text version keys t r m p a n items =
     let list = here (opening graphics text version keys) t ∷ items in
     let l = run base (lent r m p) list in
-    let s = standing-opened base base-glass graphics text version keys t (lent r m p) a n items in
+    let k = same base (opening graphics text version keys) (lent r m p) in
+    let s = standing-opened base base-glass graphics text version keys t (lent r m p) (sym (ap refusal (k .0)) ∙ a) n items in
     record {
       record-length = s .lendable .passing .sized;
       memory-length = s .lendable .memory;
@@ -84,7 +86,3 @@ calls-in-any-order graphics text version keys t r m p a n items =
       level = λ more k e h. level base l s more k e (omega arith);
       level-row = level base l s (replicate (linesIn l) (here send tt)) (linesIn l) (row-of-sends base l s (linesIn l)) (omega arith);
     }
-
--- A list gives each call all three buffers. A call that is lent only those that it takes answers the same and leaves the same in them, and the others stay.
-pub lent-parts : (c : Call) (l : Lent) → outcome base c l ≡ answeredBack (takes c) l (outcome base c (lentTo (takes c) l))
-lent-parts = outcome-parts base
