@@ -39,8 +39,8 @@ static void refused(const char *what, uint32_t code, uint32_t n) {
 #define NOTHING (const uint8_t *)"", 0
 #define NO_FONTS NOTHING, NOTHING, NOTHING, NOTHING
 
-/* Each refusal of each call but STATE and GLYPH, in the order of its tests. Where a call has several, what it is told is wrong for the later ones too (mode 9 with a short
-   memory), so that the order is seen. */
+/* Each refusal of each call but STATE and GLYPH, in the order of its tests. Where a call has several, what it is told is wrong for the later ones too (mode 9 with a
+   short memory), so that the order is seen. */
 static void refusals(void) {
     keep();
     refused("open 1", OPEN(LESS_RECORD, M, 4096, 8192, 1), 1);
