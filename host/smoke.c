@@ -1,9 +1,11 @@
-/* Links libcaption.a and shows the first calls at work: open, a point, all sends, text and cursor, and each refusal of each call, which must leave every byte.
-   Prints what it sees and ends with "ok"; the exit status is 0 only then. */
+/* A small host: links libcaption.a and shows that the calls of the header are there and do what it says. main goes through a life of the screen: open, a point and
+   its line on the panel, every refusal of every call, a bitmap, a flush, sends until idle, text, cursor and modes.
+   Prints what it sees and ends with "ok"; the exit status is 0 only then. What it tries is a sample: the proofs and compare/ cover the rest. */
 #include "caption.h"
 #include <stdio.h>
 #include <string.h>
 
+/* the three buffers that a host owns, and copies of them to see what a call changed */
 static uint8_t rec[CAPTION_RECORD_BYTES], memory[CAPTION_MEMORY_BYTES], panel[CAPTION_PANEL_BYTES];
 static uint8_t rec_was[CAPTION_RECORD_BYTES], memory_was[CAPTION_MEMORY_BYTES], panel_was[CAPTION_PANEL_BYTES];
 static int failures;
@@ -21,12 +23,13 @@ static void expect(const char *what, int right) {
     }
 }
 
-/* code is the refusal n, and nothing changed since keep() */
+/* code is n, and no byte of the three buffers changed since keep() */
 static void refused(const char *what, uint32_t code, uint32_t n) {
     expect(what, code == n && !memcmp(rec_was, rec, sizeof rec) && !memcmp(memory_was, memory, sizeof memory) &&
                      !memcmp(panel_was, panel, sizeof panel));
 }
 
+/* buffers as the calls take them, pointer and length; LESS_..: a byte too few. A pointer is never null, also at length 0 */
 #define R rec, sizeof rec
 #define M memory, sizeof memory
 #define P panel, sizeof panel
@@ -36,6 +39,8 @@ static void refused(const char *what, uint32_t code, uint32_t n) {
 #define NOTHING (const uint8_t *)"", 0
 #define NO_FONTS NOTHING, NOTHING, NOTHING, NOTHING
 
+/* Each refusal of each call but STATE and GLYPH, in the order of its tests. Where a call has several, what it is told is wrong for the later ones too (mode 9 with a
+   short memory), so that the order is seen. */
 static void refusals(void) {
     keep();
     refused("open 1", OPEN(LESS_RECORD, M, 4096, 8192, 1), 1);
@@ -85,8 +90,9 @@ static void refusals(void) {
     refused("send 1", caption_send(R, M, panel, sizeof panel - 1).code, 1);
 }
 
+/* STATE, by a row that no screen has: every call but open, which does not read the old record, refuses it, before it looks at the numbers that it is told. */
 static void broken_record(void) {
-    rec[4] = 5;
+    rec[CAPTION_AT_ROW] = 5;
     keep();
     refused("reset 2", caption_reset(R, M), 2);
     refused("point 2", caption_draw_point(R, M, 0, 0, 9), 2);
@@ -111,10 +117,11 @@ static void broken_record(void) {
     refused("clear cursor 2", caption_clear_cursor(R, M), 2);
     refused("dirty 2", caption_take_dirty_area(R).code, 2);
     refused("send 2", caption_send(R, M, P).code, 2);
-    rec[4] = 0;
+    rec[CAPTION_AT_ROW] = 0;
 }
 
-/* byte 0x81 copied at (-1, 0) over a whole byte: pixel 6 set, 0-5 cleared, 7 as it was */
+/* Byte 0x81 copied at (-1, 0) over a whole byte: pixel 6 set, 0-5 cleared, 7 as it was. A bitmap that lies off the screen or has zero size changes nothing, and a
+   source may end with memory's last byte. The host writes the source itself: it lies outside the screen. */
 static void bitmap(void) {
     memory[9000] = 0x81;
     expect("poke", caption_write_byte(R, M, 4096, 0xff) == 0);
@@ -128,7 +135,8 @@ static void bitmap(void) {
     expect("source at the end", caption_paint_bitmap(R, M, 65534, 300, 0, 9, 1, 0) == 0);
 }
 
-/* "a" in the first cell: refused without its bytes, painted with them; an empty text needs no font. In Text mode the rest is cleared. */
+/* Text shows after a flush. "a" in the first cell: refused while the font lacks its last byte, painted with it; an empty text needs no font. In Text the rest of the
+   screen is cleared, and all of it is marked. */
 static void flush(void) {
     static uint8_t font[98 * 16];
     font[97 * 16] = 0x5a;
@@ -142,7 +150,15 @@ static void flush(void) {
     expect("no text", caption_write_byte(R, M, 8192, 0) == 0 && caption_flush(R, M, NO_FONTS, NOTHING, NOTHING) == 0 && memory[4096] == 0);
 }
 
+/* What a host must not do: it writes a screen byte itself. Nothing is owed for it, so the sends are idle while the panel differs. */
+static void written_behind(void) {
+    memory[4096] ^= 0xff;
+    expect("idle, and not level", !caption_send(R, M, P).sent && panel[0] != memory[4096]);
+    memory[4096] ^= 0xff;
+}
+
 int main(void) {
+    /* open takes buffers with any bytes */
     memset(rec, 0xa5, sizeof rec);
     memset(memory, 0xa5, sizeof memory);
     expect("open", OPEN(R, M, 4096, 8192, 1) == 0);
@@ -150,6 +166,7 @@ int main(void) {
     caption_area dirty = caption_take_dirty_area(R);
     expect("dirty", dirty.left == 3 && dirty.top == 0 && dirty.right == 4 && dirty.bottom == 1);
     expect("check", caption_check_point(R, M, 3, 0).value == 1 && caption_check_point(R, M, -1, 0).value == 0);
+    /* open owes the whole screen: line 0 comes first, from edge to edge, and has the point */
     caption_sent s = caption_send(R, M, P);
     printf("sent %u %u %u\n", s.line, s.left, s.right);
     expect("first line", s.sent == 1 && s.line == 0 && s.left == 0 && s.right == 160 && panel[0] == 0x10);
@@ -157,18 +174,21 @@ int main(void) {
     broken_record();
     bitmap();
     flush();
+    /* 79 lines of the opening are in hand, and the whole screen is owed for the flush: sends until idle, and the panel is level */
     int more = 0;
     while ((s = caption_send(R, M, P)).sent)
         more++;
     printf("%d more lines, then idle\n", more);
     expect("79 more, and the flushed screen", more == 79 + 80 && s.code == 0);
     expect("level", !memcmp(panel, memory + 4096, sizeof panel));
+    written_behind();
+    /* text, cursor and modes: bytes go into cells, the cursor inverts the next cell and back, a newline moves on, a screen mode clears */
     expect("print", caption_print(R, M, (const uint8_t *)"caption", 7) == 0 && !memcmp(memory + 8192, "caption", 7) && caption_get_column(R).value == 7);
-    expect("blink", caption_blink_cursor(R, M) == 0 && memory[4096 + 7] == 0xff && rec[8] == 1);
-    expect("clear cursor", caption_clear_cursor(R, M) == 0 && memory[4096 + 7] == 0 && rec[8] == 0);
+    expect("blink", caption_blink_cursor(R, M) == 0 && memory[4096 + 7] == 0xff && rec[CAPTION_AT_CURSOR] == CAPTION_CURSOR_HALF);
+    expect("clear cursor", caption_clear_cursor(R, M) == 0 && memory[4096 + 7] == 0 && rec[CAPTION_AT_CURSOR] == CAPTION_CURSOR_NONE);
     expect("newline", caption_newline(R, M) == 0 && caption_get_row(R).value == 1 && caption_get_column(R).value == 0);
-    expect("screen mode", caption_set_screen_mode(R, M, 1) == 0 && memory[8192] == 0 && rec[6] == 1);
-    expect("cls", caption_cls(R, M) == 0 && rec[6] == 1);
+    expect("screen mode", caption_set_screen_mode(R, M, CAPTION_SCREEN_GRAPH) == 0 && memory[8192] == 0 && rec[CAPTION_AT_SCREEN_MODE] == 1);
+    expect("cls", caption_cls(R, M) == 0 && rec[CAPTION_AT_SCREEN_MODE] == 1);
     printf(failures ? "%d failures\n" : "ok\n", failures);
     return failures != 0;
 }

@@ -1,10 +1,38 @@
-/* The 160 by 80 caption screen: the exported calls of libcaption.a (rt staticlib caption).
+/* The 160 by 80 caption screen: the exported calls of libcaption.a (`rt staticlib caption`).
 
-   Every call tests what it is lent and told. It answers 0 where it is done, or the number of a refusal, and then no lent byte has changed and all other
-   numbers of the result are 0: 1 LENT, 2 STATE, 3 WINDOW, 4 VALUE, 5 SOURCE, 6 RADIUS, 7 GLYPH (docs/CALLS.md says which call gives which, in testing order).
+   A host owns three buffers and lends them to every call that takes them:
 
-   Trusted of the caller, and checked by no call: each pointer is not null, also at length 0, and valid for its length; a buffer that is lent without
-   `const` overlaps no other buffer of the same call. */
+       record   CAPTION_RECORD_BYTES   the state of one screen; caption_open writes it
+       memory   CAPTION_MEMORY_BYTES   holds the screen, 1,600 bytes from the graphics base, and the text, 100 bytes from the text base
+       panel    CAPTION_PANEL_BYTES    what the glass shows; only caption_send writes it
+
+   A whole caption:
+
+       caption_open(record, sizeof record, memory, sizeof memory, 4096, 8192, CAPTION_V2, 0, 0, 0, 0, 0, 0, 0, 0);
+       caption_print(record, sizeof record, memory, sizeof memory, text, text_len);
+       caption_flush(record, sizeof record, memory, sizeof memory, .. the fonts ..);
+       while ((s = caption_send(record, sizeof record, memory, sizeof memory, panel, sizeof panel)).sent)
+           .. hand line s.line, pixels s.left to s.right - 1, of panel to the glass ..
+
+   Pixels. x runs 0-159 to the right, y 0-79 downwards. Pixel (x, y) is bit 0x80 >> x % 8 of byte 20 * y + x / 8, on screen and panel alike.
+   Rectangles. left and top are the first column and line, right and bottom the ones after the last: they are not included. Four zeros are the empty rectangle.
+   Marks. A call that draws marks a rectangle: it is joined to the dirty area, which caption_take_dirty_area hands out, and to what the panel is owed, which the
+   sends work off. Dirty has the coordinates as they were told, up to 256, also where a clamped line was drawn at the screen's edge instead. What is owed is brought
+   to that edge and cut to the screen: it holds every pixel that has changed.
+
+   Nobody but these calls may write the record, the panel, or the screen's bytes in memory. Of a screen byte that the host writes itself nothing is owed, and the
+   sends are idle while the panel differs; caption_write_byte is the way to set one. No send reads the other bytes of memory: the host may put bitmaps there.
+
+   Refusals. Every call tests what it is lent and told, and answers CAPTION_DONE or the first refusal that is due, of those named at the call in that order. With
+   a refusal no lent byte has changed and all other numbers of the result are 0. A number whose range is not named may be any of its type.
+
+   Trusted of the caller, and tested by no call: each pointer is valid for its length and not null, also at length 0; a buffer lent without `const` shares no byte
+   with any other buffer of the same call (a text or a font inside memory does). Buffers lent as `const` may share bytes with each other.
+
+   Threads. There is no global data, no heap, no lock and no system call: calls on different buffers may run at the same time. Calls that share a buffer may not,
+   unless it is `const` in all of them.
+   Stack. caption_paint_bitmap takes 8.5 KB, any other call less than 600 bytes (measured over random calls; docs/CALLS.md). No proof covers the stack.
+   Target. x86-64 Linux, position independent; of the C library memcpy and memset. */
 #ifndef CAPTION_H
 #define CAPTION_H
 
@@ -15,6 +43,45 @@
 #define CAPTION_MEMORY_BYTES 65536
 #define CAPTION_PANEL_BYTES 1600
 
+/* the code that every call answers. 8 is kept for an ellipse of over 512 steps, and never given: none within the radii takes so many */
+enum caption_code {
+    CAPTION_DONE = 0,
+    CAPTION_LENT = 1,   /* the record has not 170 bytes, memory not 65,536, the panel not 1,600, or the extra list no multiple of 6 */
+    CAPTION_STATE = 2,  /* a field of the record is out of its range (enum caption_at) */
+    CAPTION_WINDOW = 3, /* graphics base above 63,935, text base above 65,435, or the 1,600 and the 100 bytes from there share a byte */
+    CAPTION_VALUE = 4,  /* a row above 4, a column above 19, or a mode, version or fill flag that is not listed */
+    CAPTION_SOURCE = 5, /* a bitmap of nonzero size whose source runs past the end of memory */
+    CAPTION_RADIUS = 6, /* a radius above 127 */
+    CAPTION_GLYPH = 7   /* a flush would paint a byte past the end of its font */
+};
+
+enum caption_version { CAPTION_V1 = 0, CAPTION_V2 = 1 };
+enum caption_draw_mode { CAPTION_DRAW_CLEAR = 0, CAPTION_DRAW_OR = 1, CAPTION_DRAW_XOR = 2, CAPTION_DRAW_UNKNOWN = 3 };
+enum caption_paint_mode { CAPTION_PAINT_COPY = 0, CAPTION_PAINT_OR = 1, CAPTION_PAINT_NOT = 2, CAPTION_PAINT_AND = 3, CAPTION_PAINT_XOR = 4 };
+/* Text: a flush clears the screen first, and the cursor can be shown. Graph: the picture stays under a flush and scrolls with the text */
+enum caption_screen_mode { CAPTION_SCREEN_TEXT = 0, CAPTION_SCREEN_GRAPH = 1 };
+enum caption_print_mode { CAPTION_PRINT_NORMAL = 0, CAPTION_PRINT_INVERSE = 1, CAPTION_PRINT_FLASH = 2 };
+enum caption_cursor { CAPTION_CURSOR_NONE = 0, CAPTION_CURSOR_HALF = 1, CAPTION_CURSOR_FULL = 2 };
+
+/* Where the fields of the record begin, for a host that reads them. Numbers of two and four bytes have their least byte first; a rectangle is left, top, right,
+   bottom, two bytes each. STATE is due where a field is out of the range given. */
+enum caption_at {
+    CAPTION_AT_GRAPHICS_BASE = 0, /* two bytes; the two bases as WINDOW asks */
+    CAPTION_AT_TEXT_BASE = 2,     /* two bytes */
+    CAPTION_AT_ROW = 4,           /* 0-4 */
+    CAPTION_AT_COLUMN = 5,        /* 0-19 */
+    CAPTION_AT_SCREEN_MODE = 6,   /* enum caption_screen_mode */
+    CAPTION_AT_PRINT_MODE = 7,    /* enum caption_print_mode */
+    CAPTION_AT_CURSOR = 8,        /* enum caption_cursor: the one that is shown */
+    CAPTION_AT_VERSION = 9,       /* enum caption_version */
+    CAPTION_AT_DIRTY = 10,        /* a rectangle, right and bottom up to 256; this and the next two empty, or left < right and top < bottom */
+    CAPTION_AT_OWED = 18,         /* a rectangle, right up to 160, bottom up to 80 */
+    CAPTION_AT_IN_HAND = 26,      /* a rectangle, likewise; its top is the next line to be sent */
+    CAPTION_AT_LINES_SENT = 34,   /* four bytes; stays at 4,294,967,295 once there */
+    CAPTION_AT_KEYS = 38,         /* eight words of four bytes: bit a % 32 of word a / 32 makes address a, 0-255, a key address */
+    CAPTION_AT_FLAGS = 70         /* a byte for each text cell, row by row: 1 where it is printed inverse, else 0 */
+};
+
 typedef struct {
     uint32_t code, value;
 } caption_value;
@@ -23,7 +90,7 @@ typedef struct {
     uint32_t code, left, top, right, bottom;
 } caption_area;
 
-/* sent is 1, or 0 for idle */
+/* sent is 1, with line 0-79, left 0-159 and right up to 160; or 0 for idle */
 typedef struct {
     uint32_t code, sent, line, left, right;
 } caption_sent;
@@ -32,55 +99,123 @@ typedef struct {
 extern "C" {
 #endif
 
-/* keys0 .. keys7: bit a mod 32 of word a div 32 makes address a (0-255) a key address */
+/* ---- begin */
+
+/* Clears memory: 0, but 0x40 in the last byte and 0xff at each key address (keys0 to keys7 are the words of CAPTION_AT_KEYS). Writes the whole record: row and
+   column 0, Text, Normal, no cursor, dirty empty, flags 0, the whole screen owed, nothing in hand, no line sent. The record is not read before, and the panel may
+   hold anything. Refusals: LENT, WINDOW, VALUE (version). */
 uint32_t caption_open(uint8_t *record, size_t record_len, uint8_t *memory, size_t memory_len, uint16_t graphics_base, uint16_t text_base,
                       uint8_t version, uint32_t keys0, uint32_t keys1, uint32_t keys2, uint32_t keys3, uint32_t keys4, uint32_t keys5,
                       uint32_t keys6, uint32_t keys7);
+
+/* The same with the bases, version and keys of the record; keeps the rectangle in hand and the lines sent. Refusals: LENT, STATE. */
 uint32_t caption_reset(uint8_t *record, size_t record_len, uint8_t *memory, size_t memory_len);
 
-/* modes: 0 Clear, 1 Or, 2 Xor, 3 Unknown; fill: 0 or 1 */
+/* ---- drawing: Clear, Or and Xor clear, set and invert a pixel; Unknown leaves it, but inverts wherever a horizontal line is drawn */
+
+/* Off the screen nothing. On it, marks the pixel, in Unknown too. Refusals: LENT, STATE, VALUE (mode). */
 uint32_t caption_draw_point(uint8_t *record, size_t record_len, uint8_t *memory, size_t memory_len, uint8_t x, uint8_t y, uint8_t mode);
+
+/* Both ends included; marks their rectangle. A horizontal line (y1 = y2, so equal ends too) is clamped, not clipped: x beyond 159 counts as 159, y beyond 79 as
+   79. Of any other line the pixels off the screen are left out, and in Unknown it does nothing and marks nothing. A sloped line goes from its left end by 8-bit
+   error sums, as in the Rust original: where the ends lie over 256 apart, across and down together, the sums wrap and it may miss its right end.
+   Refusals: LENT, STATE, VALUE (mode). */
 uint32_t caption_draw_line(uint8_t *record, size_t record_len, uint8_t *memory, size_t memory_len, uint8_t x1, uint8_t y1, uint8_t x2,
                            uint8_t y2, uint8_t mode);
+
+/* Any two opposite corners, included; marks their rectangle. fill 1: every row is a horizontal line, so each beyond 79 falls on row 79 again. fill 0: top and
+   bottom, then left and right unless Unknown; in Xor a pixel that is drawn twice, as each corner, is as it was. Refusals: LENT, STATE, VALUE (fill, mode). */
 uint32_t caption_draw_box(uint8_t *record, size_t record_len, uint8_t *memory, size_t memory_len, uint8_t x1, uint8_t y1, uint8_t x2,
                           uint8_t y2, uint8_t fill, uint8_t mode);
-/* radii 0-127; two zero radii are a point, and an outline in Unknown does nothing, whatever the radii */
-uint32_t caption_draw_circle(uint8_t *record, size_t record_len, uint8_t *memory, size_t memory_len, uint8_t x, uint8_t y, uint8_t r,
-                             uint8_t fill, uint8_t mode);
+
+/* An ellipse round (x, y), radii 0-127; fill 0: its outline, 1: horizontal lines across it. Sums and differences of centre and radius wrap at 256; a horizontal
+   line whose left end lies right of its right one for that starts at 0. Two zero radii are a point. An outline in Unknown does nothing and marks nothing,
+   whatever the radii. Marks the whole screen where a radius exceeds its coordinate or x + rx or y + ry exceeds 255; else from (x - rx, y - ry) to the larger of
+   x + rx + 1 and 160, and of y + ry + 1 and 80.
+   Refusals: LENT, STATE, VALUE (fill, mode), RADIUS unless it is a point or an outline in Unknown. */
 uint32_t caption_draw_ellipse(uint8_t *record, size_t record_len, uint8_t *memory, size_t memory_len, uint8_t x, uint8_t y, uint8_t rx,
                               uint8_t ry, uint8_t fill, uint8_t mode);
+uint32_t caption_draw_circle(uint8_t *record, size_t record_len, uint8_t *memory, size_t memory_len, uint8_t x, uint8_t y, uint8_t r,
+                             uint8_t fill, uint8_t mode);
+
+/* value 1 where the pixel is set, else 0; off the screen 0. Refusals: LENT, STATE. */
 caption_value caption_check_point(const uint8_t *record, size_t record_len, const uint8_t *memory, size_t memory_len, int32_t x, int32_t y);
 
-/* A bitmap of width by height pixels at (x, y), clipped to the screen. Its source starts at the address: lines of (width + 7) / 8 bytes, the leftmost pixel
-   the highest bit; it may share bytes with the screen, and counts as it was before the call. modes: 0 Copy, 1 Or, 2 Not, 3 And, 4 Xor */
+/* A bitmap of width by height pixels at (x, y), clipped to the screen; marks what is left of it. The source lies in memory from the address on: height lines of
+   (width + 7) / 8 bytes, the leftmost pixel in the highest bit. It may share bytes with the screen, and counts as it was before the call. Of source bit s and
+   screen bit v, Copy makes s, Or s | v, Not !s, And s & v, Xor s ^ v. A bitmap of zero size does nothing.
+   Refusals: LENT, STATE, VALUE (mode), SOURCE unless the size is zero. */
 uint32_t caption_paint_bitmap(uint8_t *record, size_t record_len, uint8_t *memory, size_t memory_len, uint16_t address, int32_t x, int32_t y,
                               uint8_t width, uint8_t height, uint8_t mode);
-/* the bytes of text are printed from row and column on; text is no part of memory */
-uint32_t caption_print(uint8_t *record, size_t record_len, uint8_t *memory, size_t memory_len, const uint8_t *text, size_t text_len);
-uint32_t caption_newline(uint8_t *record, size_t record_len, uint8_t *memory, size_t memory_len);
-uint32_t caption_cls(uint8_t *record, size_t record_len, uint8_t *memory, size_t memory_len);
 
-/* The text's glyphs onto the screen, which is cleared first in Text mode; the whole screen is marked. Fonts: ascii8 has 8 bytes a character, ascii16 16 bytes,
-   gb and emoji 32 bytes an index. The extra list has entries of 6 bytes, least byte first: a code (2, lead * 256 + trail), the offset (4) of 32 bytes in the
-   extra font; the first match counts. 7 GLYPH where a byte would lie past the end of its font */
+/* One byte of memory. Addresses from 0xe000 on and key addresses are left as they are, and the answer is 0. On the screen, marks the byte's eight pixels.
+   Refusals: LENT, STATE. */
+uint32_t caption_write_byte(uint8_t *record, size_t record_len, uint8_t *memory, size_t memory_len, uint16_t address, uint8_t byte);
+
+/* ---- text: 5 rows of 20 cells, a byte and an inverse flag each. It shows on the screen after the next caption_flush */
+
+/* The bytes go into the cells from row and column on, which move on with them; after column 19 comes column 0 of the next row, after row 4 the text scrolls up by
+   a row. No byte is a control code. A byte from 128 on is a pair with the byte after it, if there is one, and is not split: met at column 19, a space is put
+   there and a row begun. The cells written get flag 0 in Normal, 1 in Inverse and Flash. Then the cell at row and column becomes 0, and those after it up to the
+   first that is 0 already. Dirty stays; but in Graph each scroll moves the screen up by 16 lines too, and the whole screen is owed.
+   Refusals: LENT, STATE. */
+uint32_t caption_print(uint8_t *record, size_t record_len, uint8_t *memory, size_t memory_len, const uint8_t *text, size_t text_len);
+
+/* At column 0 nothing; else column 0 of the next row, and at row 4 a scroll, as in caption_print. Refusals: LENT, STATE. */
+uint32_t caption_newline(uint8_t *record, size_t record_len, uint8_t *memory, size_t memory_len);
+
+/* Paints the text onto the screen and marks all of it. In Text the screen is cleared first; in Graph the picture stays under the glyphs. A cell is 8 pixels wide
+   and 16 high; a zero cell is skipped; a set flag inverts its cell.
+       byte 1-127       16 bytes of ascii16, at 16 * byte
+       byte from 128    with the next cell, a pair: 32 bytes, 16 lines of two, from the first of these that has it
+                          emoji   at 32 * index. V1: FA46-FA7E FAA1-FAFE FB40-FB7E FBA1-FBFE FC40-FC7E FCA1-FCFE FD40-FD7D;
+                                  V2: F8A1-F8FE, so F9, FA, FB, FC, and FDA1-FDD9; index 0-526 in this order
+                          gb      at 32 * index. Lead 161-247, trail 161-254; index 94 * s + trail - 161 with s = lead - 161, less 6 if s > 8
+                          extra   extra_list has entries of 6 bytes, least byte first: code (2, lead * 256 + trail), offset (4) in extra_font; the first counts
+                        else both bytes in hexadecimal, two digits one above the other, never inverted: 8 bytes of ascii8 each, at 8 * character
+   A pair at column 19 has its right half in column 0 below (a hexadecimal one in column 0 of its own row, one line lower), and from there on cells are read one
+   further ahead; past the last cell zeros are read. A byte from 128 on at row 4, column 19 is shown alone in hexadecimal.
+   A font needs only what the text uses: with 568 bytes of ascii8, 2,048 of ascii16, 243,648 of gb, 16,864 of emoji and no extra list any text passes.
+   Refusals: LENT (also an extra list of no multiple of 6), STATE, GLYPH. */
 uint32_t caption_flush(uint8_t *record, size_t record_len, uint8_t *memory, size_t memory_len, const uint8_t *ascii8, size_t ascii8_len,
                        const uint8_t *ascii16, size_t ascii16_len, const uint8_t *gb, size_t gb_len, const uint8_t *emoji, size_t emoji_len,
                        const uint8_t *extra_list, size_t extra_list_len, const uint8_t *extra_font, size_t extra_font_len);
 
-caption_value caption_get_row(const uint8_t *record, size_t record_len);
-caption_value caption_get_column(const uint8_t *record, size_t record_len);
-uint32_t caption_set_row(uint8_t *record, size_t record_len, uint8_t row);
-uint32_t caption_set_column(uint8_t *record, size_t record_len, uint8_t column);
-/* 0 Text, 1 Graph; clears */
+/* Clears text, flags and screen, row and column, and marks the whole screen; modes and cursor stay. Refusals: LENT, STATE. */
+uint32_t caption_cls(uint8_t *record, size_t record_len, uint8_t *memory, size_t memory_len);
+
+/* The same, and the mode. Refusals: LENT, STATE, VALUE (mode). */
 uint32_t caption_set_screen_mode(uint8_t *record, size_t record_len, uint8_t *memory, size_t memory_len, uint8_t mode);
-/* 0 Normal, 1 Inverse, 2 Flash */
+
+/* For what is printed from now on. Flash while Inverse gives Normal. Refusals: LENT, STATE, VALUE (mode). */
 uint32_t caption_set_print_mode(uint8_t *record, size_t record_len, uint8_t mode);
 
+/* value 0-4, and 0-19. Refusals: LENT, STATE. */
+caption_value caption_get_row(const uint8_t *record, size_t record_len);
+caption_value caption_get_column(const uint8_t *record, size_t record_len);
+
+/* row 0-4, column 0-19; the other one stays. Refusals: LENT, STATE, VALUE (row, column). */
+uint32_t caption_set_row(uint8_t *record, size_t record_len, uint8_t row);
+uint32_t caption_set_column(uint8_t *record, size_t record_len, uint8_t column);
+
+/* In Text, with no cursor shown, inverts the cell at row and column on the screen, or two cells where its byte is from 128 on (one at column 19), and a cursor is
+   shown, half or full; with one shown, inverts as many cells at row and column, and none is. Marks 8 or 16 columns of 16 lines. In Graph nothing.
+   The record does not keep where the cursor is shown: clear it before row or column change, and before a flush or a cls, which leave CAPTION_AT_CURSOR.
+   Refusals: LENT, STATE. */
 uint32_t caption_blink_cursor(uint8_t *record, size_t record_len, uint8_t *memory, size_t memory_len);
+
+/* With no cursor shown nothing; in Text a blink; in Graph the screen stays, and none is shown. Refusals: LENT, STATE. */
 uint32_t caption_clear_cursor(uint8_t *record, size_t record_len, uint8_t *memory, size_t memory_len);
 
-uint32_t caption_write_byte(uint8_t *record, size_t record_len, uint8_t *memory, size_t memory_len, uint16_t address, uint8_t byte);
+/* ---- what changed */
+
+/* The dirty area, up to 256 by 256; it is empty afterwards. What the panel is owed stays. Refusals: LENT, STATE. */
 caption_area caption_take_dirty_area(uint8_t *record, size_t record_len);
+
+/* One line. With nothing in hand, what is owed is taken in hand, and nothing is owed. With still nothing in hand the answer is idle, four zeros, and nothing
+   changes. Else the pixels left to right - 1 of the top line in hand are copied from the screen as it is now to the panel; other bits of the panel stay. That line
+   is answered and counted, and leaves the rectangle. What is marked meanwhile is owed, and its turn comes when nothing is in hand. So, with no mark between, as many
+   sends as there are lines in hand and owed, 159 at most, make panel and screen equal, and the next one is idle. Refusals: LENT, STATE. */
 caption_sent caption_send(uint8_t *record, size_t record_len, const uint8_t *memory, size_t memory_len, uint8_t *panel, size_t panel_len);
 
 #ifdef __cplusplus
