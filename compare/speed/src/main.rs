@@ -18,11 +18,11 @@ fn main() {
         eprintln!("speed takes no arguments. From compare/: cargo run --release --features core -p speed");
         std::process::exit(2);
     }
-    print_columns();
     let core = core_side::linked();
     if core.is_none() {
-        println!("without the core: built without --features core");
+        println!("Built without --features core: the Rust sides alone.");
     }
+    print_columns();
     let mut over = vec![];
     for row in rows(core) {
         let name = row.name.clone();
