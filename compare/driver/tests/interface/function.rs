@@ -1,5 +1,7 @@
 //! What is compared of an exported function, and of its declarations.
 
+use std::fmt;
+
 #[derive(Debug, Clone, Copy, PartialEq, Eq)]
 pub enum Kind {
     U8,
@@ -33,6 +35,26 @@ impl Parameter {
     pub fn is_slice(&self) -> bool {
         matches!(self.kind, Kind::ConstSlice | Kind::MutSlice)
     }
+}
+
+/// As Rattle writes it.
+impl fmt::Display for Parameter {
+    fn fmt(&self, f: &mut fmt::Formatter) -> fmt::Result {
+        let kind = match self.kind {
+            Kind::U8 => "u8",
+            Kind::U16 => "u16",
+            Kind::U32 => "u32",
+            Kind::I32 => "i32",
+            Kind::ConstSlice => "&[u8]",
+            Kind::MutSlice => "&mut [u8]",
+        };
+        write!(f, "{}: {kind}", self.name)
+    }
+}
+
+pub fn shown(parameters: &[Parameter]) -> String {
+    let all: Vec<String> = parameters.iter().map(Parameter::to_string).collect();
+    format!("({})", all.join(", "))
 }
 
 /// A parameter as C has it.
@@ -71,10 +93,12 @@ pub fn differences(exported: &[Function], declared: &[Function]) -> Vec<String> 
         let Some(other) = declared.iter().find(|other| other.name == function.name) else { continue };
         let name = &function.name;
         if function.parameters != other.parameters {
-            found.push(format!("{name} takes {:?}, not {:?}", function.parameters, other.parameters));
+            let (right, here) = (shown(&function.parameters), shown(&other.parameters));
+            found.push(format!("{name} takes {right}; here {here}"));
         }
         if function.answers != other.answers {
-            found.push(format!("{name} answers {:?}, not {:?}", function.answers, other.answers));
+            let (right, here) = (shown(&function.answers), shown(&other.answers));
+            found.push(format!("{name} answers {right}; here {here}"));
         }
     }
     found
@@ -89,7 +113,7 @@ pub fn names_that_differ<T>(exported: &[Function], declared: &[T], name: fn(&T) 
     for name in exported.iter().chain(&declared) {
         let (here, there) = (times(&exported, name), times(&declared, name));
         if here != 1 || there != 1 {
-            found.push(format!("{name} is exported {here} times and declared {there} times"));
+            found.push(format!("{name} is exported {here} times, and here {there} times"));
         }
     }
     found

@@ -1,6 +1,6 @@
 //! The table of calls of docs/CALLS.md.
 
-use crate::function::{Function, Kind, Parameter, names_that_differ};
+use crate::function::{Function, Kind, Parameter, names_that_differ, shown};
 
 /// What the table says of a call.
 #[derive(Debug, Clone, PartialEq, Eq)]
@@ -107,14 +107,14 @@ pub fn differences(exported: &[Function], rows: &[Row]) -> Vec<String> {
         let (lent, told): (Vec<Parameter>, Vec<Parameter>) =
             function.parameters.iter().cloned().partition(Parameter::is_slice);
         if lent != row.lent {
-            found.push(format!("{name} is lent {lent:?}, not {:?}", row.lent));
+            found.push(format!("{name} is lent {}; here {}", shown(&lent), shown(&row.lent)));
         }
         if !same_told(&told, &row.told) {
-            found.push(format!("{name} is told {told:?}, not {:?}", row.told));
+            found.push(format!("{name} is told {}; here {:?}", shown(&told), row.told));
         }
         let answers: Vec<&String> = function.answers.iter().map(|answer| &answer.name).collect();
         if answers != row.answers.iter().collect::<Vec<_>>() {
-            found.push(format!("{name} answers {answers:?}, not {:?}", row.answers));
+            found.push(format!("{name} answers {answers:?}; here {:?}", row.answers));
         }
     }
     found
