@@ -110,7 +110,7 @@ pub fn differences(exported: &[Function], rows: &[Row]) -> Vec<String> {
             found.push(format!("{name} is lent {}; here {}", shown(&lent), shown(&row.lent)));
         }
         if !same_told(&told, &row.told) {
-            found.push(format!("{name} is told {}; here {:?}", shown(&told), row.told));
+            found.push(format!("{name} is told {}; here {}", shown(&told), shown_told(&row.told)));
         }
         let answers: Vec<&String> = function.answers.iter().map(|answer| &answer.name).collect();
         if answers != row.answers.iter().collect::<Vec<_>>() {
@@ -126,4 +126,13 @@ fn same_told(told: &[Parameter], row: &[(String, Option<Kind>)]) -> bool {
             .iter()
             .zip(row)
             .all(|(number, (name, kind))| number.name == *name && kind.is_none_or(|kind| number.kind == kind))
+}
+
+/// With the kinds that the table tells.
+fn shown_told(told: &[(String, Option<Kind>)]) -> String {
+    let all = told.iter().map(|(name, kind)| match kind {
+        Some(kind) => Parameter::new(name, *kind).to_string(),
+        None => name.clone(),
+    });
+    format!("({})", all.collect::<Vec<_>>().join(", "))
 }
