@@ -8,7 +8,10 @@ use std::{env, fs};
 fn main() {
     let folder = library_folder();
     println!("cargo:rerun-if-env-changed=CAPTION_LIBRARY");
-    println!("cargo:rerun-if-changed={}", folder.join("libcaption.a").display());
+    let library = folder.join("libcaption.a");
+    println!("cargo:rerun-if-changed={}", library.display());
+    let advice = "rt staticlib caption makes it in target/staticlib; CAPTION_LIBRARY names another folder";
+    assert!(library.exists(), "there is no {}: {advice}", library.display());
     println!("cargo:rerun-if-changed=calls.txt");
     println!("cargo:rustc-link-search=native={}", folder.display());
     println!("cargo:rustc-link-lib=static:-bundle=caption");

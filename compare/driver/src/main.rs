@@ -9,28 +9,41 @@ use std::path::Path;
 use std::process::ExitCode;
 
 const USAGE: &str = "driver run [--calls N] [--seed S] [--no-core] [--no-exhaustive]
+    compare reference, model and core, if it is linked, on at least N calls (default 10000000)
 driver scripts COUNT PROGRAM [--seed S]
-driver replay-make FOLDER";
+    feed COUNT scripts to PROGRAM and hold what it prints to the model
+driver replay-make FOLDER
+    write the replay's stdin and stdout into FOLDER
+Seeds are 0 to 4294967295 (default 1). Exit status: 0 nothing differs, 1 something does, 2 bad arguments.";
 
 fn main() -> ExitCode {
     let arguments: Vec<String> = std::env::args().skip(1).collect();
     match arguments.first().map(String::as_str) {
         Some("run") => run(&arguments[1..]),
         Some("scripts") => compare_scripts(&arguments[1..]),
+        Some("--help" | "-h") => {
+            println!("{USAGE}");
+            ExitCode::SUCCESS
+        }
         Some("replay-make") if arguments.len() == 2 => replay_make(Path::new(&arguments[1])),
         _ => usage(),
     }
 }
 
+/// A list's seed is made of the run's and 32 bits of its own.
+fn seed_of(text: &str) -> Option<u64> {
+    text.parse::<u32>().ok().map(u64::from)
+}
+
 /// Hold a script program against the model.
 fn compare_scripts(arguments: &[String]) -> ExitCode {
     let (count, program, seed) = match arguments {
-        [count, program] => (count.parse(), program, Ok(1)),
-        [count, program, flag, seed] if flag == "--seed" => (count.parse(), program, seed.parse()),
+        [count, program] => (count, program, Some(1)),
+        [count, program, flag, seed] if flag == "--seed" => (count, program, seed_of(seed)),
         _ => return usage(),
     };
-    let (Ok(count), Ok(seed)) = (count, seed) else { return usage() };
-    println!("seed {seed}; scripts for {program}");
+    let (Ok(count), Some(seed)) = (count.parse(), seed) else { return usage() };
+    println!("comparing {count} scripts of seed {seed}: {program}, model");
     let same = Scripts { count, seed }.compare(|trial| scripts::run(Path::new(program), trial));
     if same { ExitCode::SUCCESS } else { ExitCode::FAILURE }
 }
@@ -59,18 +72,19 @@ fn run(arguments: &[String]) -> ExitCode {
     let mut run = Run { calls: 10_000_000, seed: 1, core: core_side::linked(), exhaustive: true };
     let mut rest = arguments.iter();
     while let Some(argument) = rest.next() {
-        let number = |text: Option<&String>| text.and_then(|text| text.parse().ok());
         match argument.as_str() {
             "--no-core" => run.core = None,
             "--no-exhaustive" => run.exhaustive = false,
-            "--calls" | "--seed" => match number(rest.next()) {
-                Some(value) if argument == "--calls" => run.calls = value,
-                Some(value) => run.seed = value,
+            "--calls" => match rest.next().and_then(|text| text.parse().ok()) {
+                Some(calls) => run.calls = calls,
+                None => return usage(),
+            },
+            "--seed" => match rest.next().and_then(|text| seed_of(text)) {
+                Some(seed) => run.seed = seed,
                 None => return usage(),
             },
             _ => return usage(),
         }
     }
-    println!("seed {}; core {}", run.seed, if run.core.is_some() { "linked" } else { "not compared" });
     if run.run() { ExitCode::SUCCESS } else { ExitCode::FAILURE }
 }

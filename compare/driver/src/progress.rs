@@ -3,8 +3,10 @@
 use std::io::{IsTerminal, Write, stderr};
 use std::time::{Duration, Instant};
 
-/// A line on standard error, written anew: every second on a terminal, else every ten.
+/// A line on standard error from the start on: on a terminal written anew every half second, else a
+/// further line every five seconds.
 pub struct Progress {
+    total: u64,
     what: &'static str,
     started: Instant,
     shown: Instant,
@@ -12,21 +14,28 @@ pub struct Progress {
 }
 
 impl Progress {
-    /// Of so many calls, lists or whatever is counted.
-    pub fn new(what: &'static str) -> Self {
-        Self { what, started: Instant::now(), shown: Instant::now(), terminal: stderr().is_terminal() }
+    /// Of so many calls, scripts or whatever is counted.
+    pub fn new(total: u64, what: &'static str) -> Self {
+        let now = Instant::now();
+        let progress = Self { total, what, started: now, shown: now, terminal: stderr().is_terminal() };
+        progress.write(0);
+        progress
     }
 
     pub fn show(&mut self, count: u64) {
-        let pause = Duration::from_secs(if self.terminal { 1 } else { 10 });
-        if self.shown.elapsed() < pause {
-            return;
+        let pause = Duration::from_millis(if self.terminal { 500 } else { 5_000 });
+        if self.shown.elapsed() >= pause {
+            self.shown = Instant::now();
+            self.write(count);
         }
-        self.shown = Instant::now();
+    }
+
+    fn write(&self, count: u64) {
+        let Self { total, what, .. } = self;
         let seconds = self.started.elapsed().as_secs();
         let end = if self.terminal { "\r" } else { "\n" };
         let mut out = stderr();
-        let _ = write!(out, "{count} {}, 0 differences, {seconds} s   {end}", self.what);
+        let _ = write!(out, "{count} of {total} {what}, 0 differences, {seconds} s   {end}");
         let _ = out.flush();
     }
 
@@ -36,7 +45,7 @@ impl Progress {
 
     pub fn clear(&self) {
         if self.terminal {
-            eprint!("\r{:50}\r", "");
+            eprint!("\r{:70}\r", "");
         }
     }
 }

@@ -8,6 +8,7 @@ use crate::progress::Progress;
 use crate::shrink::shrink;
 use crate::tally::Tally;
 use crate::{exhaustive, random};
+use std::iter::Peekable;
 
 pub struct Run {
     pub calls: u64,
@@ -19,17 +20,13 @@ pub struct Run {
 impl Run {
     /// Print what was compared; true if nothing differs.
     pub fn run(&self) -> bool {
+        self.say_what_is_due();
+        let mut turns = Turns::new(self.seed, self.exhaustive);
         let mut tally = Tally::default();
         let mut judge = Judge::new(self.core, false);
-        let mut progress = Progress::new("calls");
-        let mut exhaustive = exhaustive::lists().peekable();
-        let mut turn = 0;
+        let mut progress = Progress::new(self.calls, "calls");
         while tally.calls() < self.calls {
-            let list = match exhaustive.next_if(|_| self.exhaustive && turn % 2 == 0) {
-                Some(list) => list,
-                None => random::list(list_seed(self.seed, turn)),
-            };
-            turn += 1;
+            let list = turns.next_list();
             if let Err(difference) = judge.judge(&list, &mut tally) {
                 progress.clear();
                 println!("DIFFERENCE {difference}");
@@ -42,19 +39,79 @@ impl Run {
         }
         progress.clear();
         tally.print(self.core.is_some());
-        println!("exhaustive lists: {}", if exhaustive.peek().is_none() { "all" } else { "not all" });
+        println!("exhaustive lists: {} of {}", turns.exhaustive_done, exhaustive::lists().count());
         println!("{:.0} calls a second", tally.calls() as f64 / progress.seconds());
         println!("{} calls, 0 differences", tally.calls());
         true
     }
 
+    /// The seed, the sides, and how far the calls lead into the exhaustive lists.
+    fn say_what_is_due(&self) {
+        let core = if self.core.is_some() { "the core" } else { "no core" };
+        println!("comparing {} calls of seed {}: reference, model, {core}", self.calls, self.seed);
+        if !self.exhaustive {
+            println!("no exhaustive lists");
+            return;
+        }
+        let Exhaustive { lists, calls } = Exhaustive::with_seed(self.seed);
+        let reach = if self.calls < calls { "only the first of them are run" } else { "all are run" };
+        println!("the {lists} exhaustive lists, with random ones between, need {calls} calls: {reach}");
+    }
+
     fn show(&self, list: &List) {
+        eprintln!("looking for the shortest list that shows it ..");
         match shrink(list, self.core) {
             Some((list, difference)) => {
                 print!("shortest list that shows it, {difference}\n{list}");
             }
             None => print!("a fresh run of the list doesn't show it:\n{list}"),
         }
+    }
+}
+
+/// The exhaustive lists of a run.
+#[derive(Debug, Clone, Copy, PartialEq, Eq)]
+pub struct Exhaustive {
+    pub lists: u64,
+    /// The calls of the run to the end of the last one, those of the random lists between included.
+    pub calls: u64,
+}
+
+impl Exhaustive {
+    pub fn with_seed(seed: u64) -> Self {
+        let mut turns = Turns::new(seed, true);
+        let mut calls = 0;
+        while turns.exhaustive.peek().is_some() {
+            calls += turns.next_list().steps.len() as u64;
+        }
+        Self { lists: turns.exhaustive_done, calls }
+    }
+}
+
+/// The lists of a run: exhaustive and random ones in turn, random ones alone after the last
+/// exhaustive one.
+struct Turns {
+    exhaustive: Peekable<Box<dyn Iterator<Item = List>>>,
+    exhaustive_done: u64,
+    seed: u64,
+    turn: u64,
+}
+
+impl Turns {
+    fn new(seed: u64, with_exhaustive: bool) -> Self {
+        let exhaustive: Box<dyn Iterator<Item = List>> =
+            if with_exhaustive { Box::new(exhaustive::lists()) } else { Box::new(std::iter::empty()) };
+        Self { exhaustive: exhaustive.peekable(), exhaustive_done: 0, seed, turn: 0 }
+    }
+
+    fn next_list(&mut self) -> List {
+        let turn = self.turn;
+        self.turn += 1;
+        if let Some(list) = self.exhaustive.next_if(|_| turn % 2 == 0) {
+            self.exhaustive_done += 1;
+            return list;
+        }
+        random::list(list_seed(self.seed, turn))
     }
 }
 

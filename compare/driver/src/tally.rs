@@ -23,6 +23,16 @@ pub struct Tally {
     pub level_sends: u64,
 }
 
+/// What the columns of the table mean.
+pub const COLUMNS: &str = "
+accepted      calls that document 01 accepts, as the model reads it
+refused       calls that it refuses: nothing is done, every lent byte stays
+by reference  accepted calls that the reference did too, for comparison; it has no send
+panicked      of these, the reference panicked, where document 01 says that it does
+by core       accepted and refused calls that the core did too; for send also those that
+              bring the panels level after the lists; - without the core
+";
+
 const REFUSALS: [&str; 9] = ["", "LENT", "STATE", "WINDOW", "VALUE", "SOURCE", "RADIUS", "GLYPH", "ENDLESS"];
 
 impl Tally {
@@ -55,6 +65,7 @@ impl Tally {
     }
 
     pub fn print(&self, core: bool) {
+        println!("{COLUMNS}");
         println!(
             "{:<16}{:>12}{:>12}{:>14}{:>12}{:>12}",
             "call", "accepted", "refused", "by reference", "panicked", "by core"

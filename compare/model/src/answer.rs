@@ -45,7 +45,7 @@ fn lengths_right(call: &Call, lent: &Lent) -> bool {
         | Call::SetPrintMode { .. }
         | Call::TakeDirtyArea => record,
         Call::Send => record && memory && lent.panel.len() == PANEL,
-        Call::Flush { fonts } => record && memory && fonts.extra_list.len().is_multiple_of(6),
+        Call::Flush { fonts } => record && memory && fonts.extra_list.len() % 6 == 0,
         _ => record && memory,
     }
 }

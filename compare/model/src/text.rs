@@ -29,9 +29,8 @@ impl Record {
             }
             self.put_cell(memory, byte);
             self.column += 1;
-            if byte >= 128
-                && let Some(second) = bytes.next()
-            {
+            let second = if byte >= 128 { bytes.next() } else { None };
+            if let Some(second) = second {
                 self.put_cell(memory, second);
                 self.column += 1;
             }

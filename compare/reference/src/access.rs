@@ -53,6 +53,12 @@ impl DefaultDevice {
         });
     }
 
+    #[inline]
+    pub(crate) fn set_place(&mut self, row: u8, column: u8) {
+        self.row = row;
+        self.column = column;
+    }
+
     /// The fields as a record; owed, in hand and lines sent, which the reference lacks, are zero.
     pub(crate) fn record(&self) -> [u8; RECORD] {
         let mut record = [0; RECORD];

@@ -46,6 +46,12 @@ impl Reference {
         self.device.set_dirty(dirty);
     }
 
+    /// Row and column by plain stores, for calls that are measured from the same place each time.
+    #[inline]
+    pub fn set_place(&mut self, row: u8, column: u8) {
+        self.device.set_place(row, column);
+    }
+
     /// Whether document 01 expects of this accepted call what the reference does.
     /// Only some flushes read what the reference must not be asked about.
     pub fn can_follow(&self, call: &Call) -> bool {

@@ -29,7 +29,7 @@ impl Scripts {
     /// Compare, and print what was compared; true if nothing differs.
     pub fn compare(&self, program: impl Fn(&Trial) -> Printed) -> bool {
         let mut tally = Tally::default();
-        let mut progress = Progress::new("scripts");
+        let mut progress = Progress::new(self.count, "scripts");
         for trial in self.trials() {
             let due = run_script(&trial.script);
             if program(&trial).as_ref() != Ok(&due) {
@@ -101,6 +101,7 @@ fn show(trial: &Trial, program: impl Fn(&Trial) -> Printed) {
         println!("DIFFERENCE; a second run doesn't show it:\n{trial}");
         return;
     }
+    eprintln!("a difference; looking for the shortest script that shows it ..");
     let trial = shrink(trial, differs);
     println!("DIFFERENCE; shortest script that shows it:\n{trial}");
     let due = run_script(&trial.script);

@@ -1,10 +1,9 @@
-//! What a Rust programmer would write for `set_row` on a lent record: all tests of STATE, then
-//! the fields of the head loaded and stored.
+//! The record as a Rust programmer would test, load and store it.
 
 use calls::layout::*;
 
-struct Head {
-    row: u8,
+pub struct Head {
+    pub row: u8,
     column: u8,
     screen_mode: u8,
     print_mode: u8,
@@ -13,31 +12,8 @@ struct Head {
     dirty: [u16; 4],
 }
 
-/// A record as an open with panelrun's windows leaves it.
-pub fn open(record: &mut [u8]) {
-    record.fill(0);
-    record[GRAPHICS_BASE..][..2].copy_from_slice(&4096u16.to_le_bytes());
-    record[TEXT_BASE..][..2].copy_from_slice(&8192u16.to_le_bytes());
-    record[VERSION] = 1;
-    record[OWED..][..8].copy_from_slice(&[0, 0, 0, 0, 160, 0, 80, 0]);
-}
-
-pub fn set_row(record: &mut [u8], row: u8) -> u32 {
-    if record.len() != RECORD {
-        return 1;
-    }
-    if !valid(record) {
-        return 2;
-    }
-    if row > 4 {
-        return 4;
-    }
-    let head = Head { row, ..load(record) };
-    store(record, &head);
-    0
-}
-
-fn valid(record: &[u8]) -> bool {
+/// All tests of STATE.
+pub fn valid(record: &[u8]) -> bool {
     let graphics_base = word(record, GRAPHICS_BASE) as u32;
     let text_base = word(record, TEXT_BASE) as u32;
     graphics_base <= 63_935
@@ -60,7 +36,7 @@ fn rect_valid(record: &[u8], place: usize, width: u16, height: u16) -> bool {
     rect == [0; 4] || (left < right && top < bottom && right <= width && bottom <= height)
 }
 
-fn load(record: &[u8]) -> Head {
+pub fn load(record: &[u8]) -> Head {
     Head {
         row: record[ROW],
         column: record[COLUMN],
@@ -72,14 +48,18 @@ fn load(record: &[u8]) -> Head {
     }
 }
 
-fn store(record: &mut [u8], head: &Head) {
+pub fn store(record: &mut [u8], head: &Head) {
     record[ROW] = head.row;
     record[COLUMN] = head.column;
     record[SCREEN_MODE] = head.screen_mode;
     record[PRINT_MODE] = head.print_mode;
     record[CURSOR] = head.cursor;
     record[VERSION] = head.version;
-    for (k, side) in head.dirty.into_iter().enumerate() {
-        record[DIRTY + 2 * k..][..2].copy_from_slice(&side.to_le_bytes());
+    store_rect(record, DIRTY, head.dirty);
+}
+
+pub fn store_rect(record: &mut [u8], place: usize, rect: [u16; 4]) {
+    for (k, side) in rect.into_iter().enumerate() {
+        record[place + 2 * k..][..2].copy_from_slice(&side.to_le_bytes());
     }
 }

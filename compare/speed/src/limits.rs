@@ -1,0 +1,13 @@
+//! How much of the time of the Rust side a row may take, where a limit was set.
+
+/// A call that only tests and stores.
+pub const ENTRY: f64 = 1.3;
+pub const BOX: f64 = 1.1;
+pub const LINE: f64 = 1.3;
+pub const CIRCLE: f64 = 1.3;
+/// One row of text, and a whole page.
+pub const PRINT_ROW: f64 = 1.2;
+pub const PRINT_PAGE: f64 = 1.2;
+pub const FLUSH_EMPTY_TEXT: f64 = 1.5;
+/// A full page with an extra list.
+pub const FLUSH_WITH_LIST: f64 = 1.2;

@@ -1,0 +1,51 @@
+//! A whole cue: the screen cleared, two lines of text, shown, and brought to the panel. On the Rust
+//! side the reference shows it, and the lines of its dirty area are copied, without any test.
+
+use super::text::{bytes, pairs};
+use super::{Row, SCREEN_BASE, opened};
+use crate::plain;
+use crate::side::OnReference;
+use calls::layout::SCREEN;
+use calls::{Buffers, Call, FontsLent};
+use driver::core_side::Answering;
+use reference::Reference;
+use std::hint::black_box;
+
+pub fn rows(core: Option<Answering>) -> Vec<Row> {
+    vec![
+        cue("cue, two lines of 18 bytes, plain Rust copies", bytes(18), core),
+        cue("cue, two lines of 9 pairs, plain Rust copies", pairs(9, 176, 161), core),
+    ]
+}
+
+fn cue(name: &str, text: Vec<u8>, core: Option<Answering>) -> Row {
+    let print = Call::Print { text };
+    let shown = vec![Call::Cls, print.clone(), Call::Newline, print];
+    let shown_by_core = shown.clone();
+    let rust = OnReference::new(&opened(), move |reference: &mut Reference, panel: &mut [u8]| {
+        for call in black_box(&shown) {
+            reference.call_uncaught(call);
+        }
+        reference.flush_alone();
+        copy_dirty(reference, panel);
+    });
+    let flush = Call::Flush { fonts: FontsLent::whole(vec![]) };
+    Row::new(name, rust).with_core(core, opened(), move |core, buffers| {
+        for call in black_box(&shown_by_core).iter().chain([&flush]) {
+            core(call, buffers.lend());
+        }
+        send_all(core, buffers);
+    })
+}
+
+fn copy_dirty(reference: &mut Reference, panel: &mut [u8]) {
+    let [left, top, right, bottom] = reference.call_uncaught(&Call::TakeDirtyArea).map(|side| side as usize);
+    let screen = &reference.memory()[SCREEN_BASE..][..SCREEN];
+    for line in top..bottom {
+        plain::copy_line(screen, panel, line, left, right);
+    }
+}
+
+fn send_all(core: Answering, buffers: &mut Buffers) {
+    while core(&Call::Send, buffers.lend()).is_some_and(|answer| answer.numbers[0] == 1) {}
+}

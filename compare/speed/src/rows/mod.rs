@@ -1,0 +1,113 @@
+//! The rows of the table: what is measured, on which two sides.
+
+mod cues;
+mod drawings;
+mod flushes;
+mod sends;
+mod text;
+
+use crate::limits;
+use crate::plain;
+use crate::side::{OnBytes, OnReference, Side};
+use calls::layout::*;
+use calls::{Buffers, Call};
+use driver::core_side::Answering;
+use reference::Reference;
+use std::hint::black_box;
+
+pub struct Row {
+    pub name: String,
+    pub rust: Box<dyn Side>,
+    pub core: Option<Box<dyn Side>>,
+    pub limit: Option<f64>,
+}
+
+/// All of them; without a core only the Rust sides.
+pub fn rows(core: Option<Answering>) -> Vec<Row> {
+    let mut rows = vec![set_row(core)];
+    rows.extend(drawings::rows(core));
+    rows.extend(text::rows(core));
+    rows.extend(flushes::rows(core));
+    rows.extend(sends::rows(core));
+    rows.extend(cues::rows(core));
+    rows
+}
+
+impl Row {
+    fn new(name: impl Into<String>, rust: impl Side + 'static) -> Self {
+        Self { name: name.into(), rust: Box::new(rust), core: None, limit: None }
+    }
+
+    fn limit(self, limit: f64) -> Self {
+        Self { limit: Some(limit), ..self }
+    }
+
+    /// The core's side, from these bytes.
+    fn with_core(
+        self,
+        core: Option<Answering>,
+        buffers: Buffers,
+        work: impl Fn(Answering, &mut Buffers) + 'static,
+    ) -> Self {
+        let side = core.map(|core| -> Box<dyn Side> {
+            Box::new(OnBytes { buffers, work: move |buffers: &mut Buffers| work(core, buffers) })
+        });
+        Self { core: side, ..self }
+    }
+
+    /// One call of the reference and of the core, both from the state of these bytes.
+    fn call(name: impl Into<String>, call: Call, start: Buffers, core: Option<Answering>) -> Self {
+        Self::call_after(name, call, start, core, |_| {}, |_| {})
+    }
+
+    /// The same; before each call the host sets something on both sides, by plain stores.
+    fn call_after(
+        name: impl Into<String>,
+        call: Call,
+        start: Buffers,
+        core: Option<Answering>,
+        on_reference: impl Fn(&mut Reference) + 'static,
+        on_bytes: impl Fn(&mut Buffers) + 'static,
+    ) -> Self {
+        let call_of_core = call.clone();
+        let rust = OnReference::new(&start, move |reference: &mut Reference, _: &mut [u8]| {
+            on_reference(reference);
+            black_box(reference.call_uncaught(black_box(&call)));
+        });
+        Self::new(name, rust).with_core(core, start, move |core, buffers| {
+            on_bytes(buffers);
+            black_box(core(black_box(&call_of_core), buffers.lend()));
+        })
+    }
+}
+
+/// What an open with panelrun's windows leaves, with nothing owed.
+fn opened() -> Buffers {
+    let mut buffers = Buffers::zero();
+    buffers.record[GRAPHICS_BASE..][..2].copy_from_slice(&(SCREEN_BASE as u16).to_le_bytes());
+    buffers.record[TEXT_BASE..][..2].copy_from_slice(&(TEXT_START as u16).to_le_bytes());
+    buffers.record[VERSION] = 1;
+    buffers
+}
+
+const SCREEN_BASE: usize = 4096;
+const TEXT_START: usize = 8192;
+
+/// What the tests of a 170-byte record cost: the reference's `set_row` has none.
+fn set_row(core: Option<Answering>) -> Row {
+    let mut rows = (0..5).cycle();
+    let rust = OnBytes {
+        buffers: opened(),
+        work: move |buffers: &mut Buffers| {
+            let row = rows.next().unwrap_or(0);
+            black_box(plain::set_row(&mut buffers.record, black_box(row)));
+        },
+    };
+    let calls: Vec<Call> = (0..5).map(|row| Call::SetRow { row }).collect();
+    let turn = std::cell::Cell::new(0);
+    let row = Row::new("set_row, plain Rust with its tests", rust).limit(limits::ENTRY);
+    row.with_core(core, opened(), move |core, buffers| {
+        turn.set((turn.get() + 1) % calls.len());
+        black_box(core(black_box(&calls[turn.get()]), buffers.lend()));
+    })
+}
