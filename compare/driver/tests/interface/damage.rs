@@ -13,7 +13,7 @@ const NAMES: Text = |texts| &mut texts.names;
 /// A text, what stands there, what is put in its first place, and what the complaint names.
 type Damage = (Text, &'static str, &'static str, &'static str);
 
-const DAMAGES: [Damage; 34] = [
+const DAMAGES: [Damage; 35] = [
     // A parameter left out, or one too many.
     (SOURCES, "x : u8 , ", "", "caption_draw_"),
     (HEADER, "uint8_t x , ", "", "caption_draw_point"),
@@ -31,7 +31,8 @@ const DAMAGES: [Damage; 34] = [
     (SOURCES, "x : u8", "x : u16", "caption_draw_"),
     (HEADER, "uint8_t x", "uint16_t x", "caption_draw_point"),
     (HEADER, "int32_t x", "uint32_t x", "caption_check_point"),
-    (TABLE, "y (signed 32 bits)", "y (8 bits)", "caption_check_point"),
+    (TABLE, "y (i32)", "y", "caption_check_point"),
+    (TABLE, "address (u16)", "address (u64)", "caption_paint_bitmap"),
     (DECLARATIONS, "x : i32", "x : u32", "caption_check_point"),
     // Two parameters in each other's place.
     (HEADER, "uint8_t x , uint8_t y", "uint8_t y , uint8_t x", "caption_draw_point"),

@@ -7,8 +7,7 @@ use crate::function::{Function, Kind, Parameter, names_that_differ, shown};
 pub struct Row {
     pub name: String,
     pub lent: Vec<Parameter>,
-    /// With the kind where the table tells it.
-    pub told: Vec<(String, Option<Kind>)>,
+    pub told: Vec<Parameter>,
     pub answers: Vec<String>,
 }
 
@@ -51,30 +50,27 @@ fn items(cell: &str) -> Vec<String> {
     cell.split(',').map(|item| item.trim().to_string()).filter(|item| !item.is_empty()).collect()
 }
 
-/// `const` holds for the names after it too. A panel is lent to be written.
 fn lent_of(cell: &str) -> Vec<Parameter> {
-    let mut constant = false;
-    let lent = items(cell).into_iter().map(|item| {
-        let name = item.strip_prefix("const ").unwrap_or(&item);
-        constant = (constant || item.starts_with("const ")) && name != "panel";
-        let kind = if constant { Kind::ConstSlice } else { Kind::MutSlice };
-        Parameter::new(&name.replace(' ', "_"), kind)
+    let lent = items(cell).into_iter().map(|item| match item.strip_prefix("const ") {
+        Some(name) => Parameter::new(&name.replace(' ', "_"), Kind::ConstSlice),
+        None => Parameter::new(&item.replace(' ', "_"), Kind::MutSlice),
     });
     lent.collect()
 }
 
 /// The numbers that the call of this place in its line is told: `a or b` is a number of its own for
 /// each call of the line, `keys0-7` are eight.
-fn told_of(cell: &str, place: usize, calls: usize) -> Result<Vec<(String, Option<Kind>)>, String> {
+fn told_of(cell: &str, place: usize, calls: usize) -> Result<Vec<Parameter>, String> {
     let mut told = vec![];
     for item in items(cell) {
-        let (names, remark) = item.split_once(" (").unwrap_or((&item, ""));
+        let (names, kind) = item.split_once(" (").unwrap_or((&item, "u8)"));
+        let kind = kind_of(kind)?;
         let choices: Vec<&str> = names.split(" or ").collect();
         if choices.len() != 1 && choices.len() != calls {
             return Err(format!("{names}: {} names for {calls} calls", choices.len()));
         }
         let name = choices[place % choices.len()].replace(' ', "_");
-        told.extend(counted(&name).into_iter().map(|name| (name, kind_of(remark))));
+        told.extend(counted(&name).iter().map(|name| Parameter::new(name, kind)));
     }
     Ok(told)
 }
@@ -88,13 +84,13 @@ fn counted(name: &str) -> Vec<String> {
     (from..=last).map(|number| format!("{word}{number}")).collect()
 }
 
-fn kind_of(remark: &str) -> Option<Kind> {
-    match remark.trim_end_matches(')') {
-        "u8" | "8 bits" => Some(Kind::U8),
-        "u16" | "16 bits" => Some(Kind::U16),
-        "u32" | "32 bits" => Some(Kind::U32),
-        "i32" | "signed 32 bits" => Some(Kind::I32),
-        _ => None,
+fn kind_of(text: &str) -> Result<Kind, String> {
+    match text {
+        "u8)" => Ok(Kind::U8),
+        "u16)" => Ok(Kind::U16),
+        "u32)" => Ok(Kind::U32),
+        "i32)" => Ok(Kind::I32),
+        _ => Err(format!("({text} is no kind of a number")),
     }
 }
 
@@ -109,8 +105,8 @@ pub fn differences(exported: &[Function], rows: &[Row]) -> Vec<String> {
         if lent != row.lent {
             found.push(format!("{name} is lent {}; here {}", shown(&lent), shown(&row.lent)));
         }
-        if !same_told(&told, &row.told) {
-            found.push(format!("{name} is told {}; here {}", shown(&told), shown_told(&row.told)));
+        if told != row.told {
+            found.push(format!("{name} is told {}; here {}", shown(&told), shown(&row.told)));
         }
         let answers: Vec<&String> = function.answers.iter().map(|answer| &answer.name).collect();
         if answers != row.answers.iter().collect::<Vec<_>>() {
@@ -118,21 +114,4 @@ pub fn differences(exported: &[Function], rows: &[Row]) -> Vec<String> {
         }
     }
     found
-}
-
-fn same_told(told: &[Parameter], row: &[(String, Option<Kind>)]) -> bool {
-    told.len() == row.len()
-        && told
-            .iter()
-            .zip(row)
-            .all(|(number, (name, kind))| number.name == *name && kind.is_none_or(|kind| number.kind == kind))
-}
-
-/// With the kinds that the table tells.
-fn shown_told(told: &[(String, Option<Kind>)]) -> String {
-    let all = told.iter().map(|(name, kind)| match kind {
-        Some(kind) => Parameter::new(name, *kind).to_string(),
-        None => name.clone(),
-    });
-    format!("({})", all.collect::<Vec<_>>().join(", "))
 }
