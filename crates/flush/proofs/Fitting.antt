@@ -117,22 +117,23 @@ module _ (version : ℕ) (f : Fonts) (b trail : ℕ) {m : CellKind} where
   unfolding kindFits
   alone-fits e h = rw e h
 
--- ---- the extra list, one entry after another: k of n are done, the next is at byte i
+-- ---- the extra list, one entry after another: the next is at byte i of n
 
-module _ (list extra : List ℕ) (i k n : ℕ) {whole : Bool} (h : entriesFit list extra i (n - k) ≡ whole) where
+module _ (list extra : List ℕ) (i n : ℕ) {whole : Bool} (h : entriesFit list extra i ((n - i) / 6) ≡ whole) where
   -- an entry that passes
-  pub entry-turn : {o : ℕ} {t : Bool} → k < n → o ≡ four list (i + 2) → t ≡ leb (o + 32) (length extra) → t ≡ true → entriesFit list extra (i + 6) (n - (k + 1)) ≡ whole
+  pub entry-turn : {o : ℕ} {t : Bool} → i + 6 ≤ n → o ≡ four list (i + 2) → t ≡ leb (o + 32) (length extra) → t ≡ true
+      → entriesFit list extra (i + 6) ((n - (i + 6)) / 6) ≡ whole
   unfolding entriesFit
-  entry-turn l eo et ok = let q : n - k ≡ suc (n - (k + 1)) = omega arith in cc
+  entry-turn l eo et ok = let q : (n - i) / 6 ≡ suc ((n - (i + 6)) / 6) = omega arith in cc
 
   -- and one that fails
-  pub entry-stop : {o : ℕ} {t : Bool} → k < n → o ≡ four list (i + 2) → t ≡ leb (o + 32) (length extra) → t ≡ false → false ≡ whole
+  pub entry-stop : {o : ℕ} {t : Bool} → i + 6 ≤ n → o ≡ four list (i + 2) → t ≡ leb (o + 32) (length extra) → t ≡ false → false ≡ whole
   unfolding entriesFit
-  entry-stop l eo et bad = let q : n - k ≡ suc (n - (k + 1)) = omega arith in cc
+  entry-stop l eo et bad = let q : (n - i) / 6 ≡ suc ((n - (i + 6)) / 6) = omega arith in cc
 
-  pub entries-end : n ≤ k → true ≡ whole
+  pub entries-end : n < i + 6 → true ≡ whole
   unfolding entriesFit
-  entries-end l = let q : n - k ≡ 0 = omega arith in cc
+  entries-end l = let q : (n - i) / 6 ≡ 0 = omega arith in cc
 
 -- ---- the walk, one step at a time
 

@@ -105,14 +105,12 @@ const WHOLE_EMOJI: usize = 16864;
 fn list_fits(list: &[u8], extra: &[u8]) -> bool
     ensures { λ r. ⌜ r ≡ listFits (now (list .entry)) (now (extra .entry)) ⌝ }
 {
-    let n = list.len() / 6;
-    let mut k: usize = 0;
+    let n = list.len();
     let mut at: usize = 0;
-    while k < n {
+    while at + 6 <= n {
         let offset = slices::load_four(list, at + 2) as usize;
         if offset_fits(extra, offset) {
             at += 6;
-            k += 1;
         } else {
             return false;
         }
