@@ -2,8 +2,8 @@
 use mathlib.Core.Bool.{Bool, true, _&&_}
 use mathlib.Core.List.{List, [], _∷_}
 use Prim.Native.Nat.{ℕ, zero, suc, _+_, _*_, _/_, _%_}
-use lib.Dec.{leb}
-use lib.ListN.{length}
+use lib.Dec.{leb, eqb}
+use lib.ListN.{length, getD}
 use Rattle.model.specs.declared.Glyph.{Glyph}
 use Rattle.model.specs.declared.Glyph.the-variants.{Emoji, Gb, Extra, Hexadecimal}
 use Rattle.model.specs.declared.CellKind.{CellKind}
@@ -39,6 +39,11 @@ walkFits version f (w ∷ ws) = shownFits version f w && walkFits version f ws
 -- a text of st columns and n rows
 abbrev pub textFits : ℕ → ℕ → List ℕ → ℕ → Fonts → Bool
 textFits st n text version f = walkFits version f (walk st n text (n * st) (spot 0 0 0))
+
+-- k cells of a text, from cell i on, are zero; cells past the last one are
+unfoldable pub blankCells : List ℕ → ℕ → ℕ → Bool
+blankCells text i zero = true
+blankCells text i (suc k) = eqb (getD text i 0) 0 && blankCells text (i + 1) k
 
 -- n entries of the extra list, from byte i of it on, have their thirty-two bytes in the extra font
 unfoldable pub entriesFit : List ℕ → List ℕ → ℕ → ℕ → Bool
