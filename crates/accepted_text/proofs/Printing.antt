@@ -79,18 +79,18 @@ module _ {v : Glass} {r : List ℕ} {h : Head} {m : List ℕ} (w : Given v r h m
   pub place-short : (p : Place) → (p .row < v .rows) × (p .column < v .columns) → (p .row < 256) × (p .column < 256)
   place-short p l = let z = w .known .suits in (omega (arith, l .0, z .is-rows, z .glass .filled, z .glass .high), omega (arith, l .1, z .is-columns, z .glass .cursor))
 
-  pub page-follows : (p : Place) {n : ℕ} {a : Head} {k : Canvas} {c : Marks} {s t : List ℕ} → n ≡ screenScrolls (h .screen) (p .scrolls) → s ≡ scrolledTimes n (rowBytes (geometry v)) (screenPart v h m)
-      → k ≡ canvas v → c .dirty ≡ none → c .owed ≡ scrollMark (k .stride) (k .height) n → a ≡ atPlace (p .row) (p .column) h
+  pub page-follows : (p : Place) {n : ℕ} {a : Head} {k : Canvas} {c : Marks} {j : ℕ} {s t : List ℕ} → n ≡ screenScrolls (h .screen) (p .scrolls) → s ≡ scrolledTimes n (rowBytes (geometry v)) (screenPart v h m)
+      → k ≡ canvas v → c .dirty ≡ none → c .owed ≡ scrollMark (k .stride) (k .height) j → j ≡ n → a ≡ atPlace (p .row) (p .column) h
       → t ≡ updated (λ g x. marked g (c .dirty) (c .owed) (withHead a x)) r
       → PageStored (geometry v) r m h p t (putMid (h .graphics) (h .graphics + v .screen - h .graphics) m s)
   unfolding scrolledMemory
-  page-follows p {n} {a = b} {c = c} {s} e f k d o a q =
+  page-follows p {n} {a = b} {c = c} {s = s} e f k d o j a q =
       let g = geometry v in
       let z = w .known .suits in
       let at = h .graphics in
       let size : length s ≡ at + v .screen - at =
       ap length f ∙ length-times n (rowBytes g) (screenPart v h m) (rw (screen-length w ∙ z .is-screen) (row-room g (z .glass))) ∙ screen-length w ∙ omega arith in
-      let owed = o ∙ (λ i. scrollMark (k i .stride) (k i .height) (e i)) ∙ ap (λ (y : ℕ). scrollMark (v .stride) y (screenScrolls (h .screen) (p .scrolls))) (z .is-height) in
+      let owed = o ∙ (λ i. scrollMark (k i .stride) (k i .height) ((j ∙ e) i)) ∙ ap (λ (y : ℕ). scrollMark (v .stride) y (screenScrolls (h .screen) (p .scrolls))) (z .is-height) in
       record {
         rec = updated-for r (λ y x. marked y (c .dirty) (c .owed) (withHead b x)) (w .chosen) q ∙ (λ i. encode g (marked g (d i) (owed i) (withHead (a i) (decode g r))));
         memory = part-back at (at + v .screen) m s (omega arith) size

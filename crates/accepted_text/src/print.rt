@@ -44,9 +44,8 @@ fn store_page(rec: &mut [u8], memory: &mut [u8], glass: Glass, h: Head, p: Place
     ensures { λ _. ⌜ PageStored (geometry glass) (now (rec .entry)) (now (memory .entry)) h p (now (rec .exit)) (now (memory .exit)) ⌝ }
 {
     let n = scroll::screen_scrolls(h.screen, p.scrolls);
-    let next = at_place(h, p);
     if n == 0 {
-        update::set_head(rec, next);
+        update::set_head(rec, at_place(h, p));
         return;
     }
     let from = h.graphics as usize;
@@ -54,7 +53,7 @@ fn store_page(rec: &mut [u8], memory: &mut [u8], glass: Glass, h: Head, p: Place
     let row_bytes = (GLYPH_HEIGHT as usize) * glass.stride;
     scroll::scroll_screen(glass.rows, row_bytes, &mut memory[from..to], n);
     let m = mark::scroll_marks(canvas_of(glass), n);
-    update::mark_head(rec, next, m);
+    update::mark_head(rec, at_place(h, p), m);
 }
 
 pub fn newline(rec: &mut [u8], memory: &mut [u8], glass: Glass, h: Head)

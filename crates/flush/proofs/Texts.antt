@@ -106,14 +106,14 @@ module _ (st n : ℕ) (text : List ℕ) (flags : List Bool) (version : ℕ) (f :
       let one = after-row st 1 s (omega arith) in
       rw (after-after st (suc k) s) (painted-blanks (suc k) t screen (rw one (painted-blank s screen p l (eqb-true (getD text (s .cell) 0) 0 (z .0)))) l (omega arith) (omega arith) (z .1))
 
-  -- all cells up to the row's end
-  pub row-blank : (s : Spot) (screen : List ℕ) {t : Bool} {r : Spot} → LeftFits st n text version f s → s .row < n
-      → t ≡ (leb (s .cell + (st - s .column)) (length text) && blankCells text (s .cell) (st - s .column)) → t ≡ true → r ≡ spotAfter st s (st - s .column) → Painted s screen r screen × (s .row < r .row)
-  row-blank s screen h l e y q =
-      let b = and-true (leb (s .cell + (st - s .column)) (length text)) (blankCells text (s .cell) (st - s .column)) (sym e ∙ y) .1 in
+  -- all cells up to the row's end, k of them
+  pub row-blank : (k : ℕ) (s : Spot) (screen : List ℕ) {t : Bool} {r : Spot} → LeftFits st n text version f s → s .row < n → k ≡ st - s .column
+      → t ≡ (leb (s .cell + k) (length text) && blankCells text (s .cell) k) → t ≡ true → r ≡ spotAfter st s (st - s .column) → Painted s screen r screen × (s .row < r .row)
+  row-blank k s screen h l c e y q =
+      let b = and-true (leb (s .cell + k) (length text)) (blankCells text (s .cell) k) (sym e ∙ y) .1 in
       let w = h .within .column in
-      let below = ap (λ (t : Spot). t .row) (after-end st (st - s .column) s (omega arith)) in
-      rw q (painted-blanks (st - s .column) s screen (painted-none s screen h) l (omega arith) (omega arith) b, omega (arith, below))
+      let below = ap (λ (t : Spot). t .row) (after-end st k s (omega arith) refl) in
+      rw (q, ← c) (painted-blanks k s screen (painted-none s screen h) l (omega arith) (omega arith) b, omega (arith, below))
 
   -- all
   pub painted-end : (screen old : List ℕ) (s : Spot) → Painted (spot 0 0 0) old s screen → n ≤ s .row → screen ≡ paint (textStores st n text flags version f) old

@@ -103,9 +103,9 @@ down-after : (st k : ℕ) (s : Spot) → s .row ≤ spotAfter st s k .row
 unfolding spotAfter
 down-after st k s = if-cases (λ (t : Spot). s .row ≤ t .row) (ltb (s .column + k) st) (λ e. omega arith) (λ e. omega arith)
 
-pub after-end : (st k : ℕ) (s : Spot) → st ≤ s .column + k → spot (s .cell + k) (s .row + 1) 0 ≡ spotAfter st s k
+pub after-end : (st k : ℕ) (s : Spot) {cell : ℕ} → st ≤ s .column + k → cell ≡ s .cell + k → spot cell (s .row + 1) 0 ≡ spotAfter st s k
 unfolding spotAfter
-after-end st k s l = rw (le-ltb (s .column + k) st l)
+after-end st k s l e = rw (e, le-ltb (s .column + k) st l)
 
 -- ---- a step of the walk
 

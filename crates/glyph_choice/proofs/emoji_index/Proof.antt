@@ -1,3 +1,4 @@
+use native.Mathlib.Omega.{arith}
 use Rattle.laws.specs.Glyphs.{index-v1, index-v2}
 use Rattle.glyph_choice.proofs.Choosing.{no-emoji}
 use borrow.Author.Needs.{needs}
@@ -5,7 +6,7 @@ use Rattle.glyph_choice.proofs.emoji_index.Statement.{statement}
 use Rattle.glyph_choice.proofs.emoji_index.Tie as tie
 
 returns : tie.Need-returns
-returns c = search no-emoji
+returns c = no-emoji _ _ _ (omega arith)
 
 index-v1-requires : tie.Need-index-v1-requires
 index-v1-requires c κs = search needs

@@ -1,3 +1,4 @@
+use native.Mathlib.Omega.{arith}
 use Rattle.laws.specs.Updates.{screen-small}
 use Rattle.record.proofs.Drawing.{screen-room, stands}
 use Rattle.accepted_text.proofs.Printing.{rows-lent, place-short, page-stays, page-follows}
@@ -10,7 +11,7 @@ screen-scrolls-requires c κs = search needs
 
 at-place-requires : tie.Need-at-place-requires
 at-place-requires c κs =
-    let start = c .before .before .before in
+    let start = c .before .before .before .before .before in
     place-short (start .pre .0) (start .args .p) (start .pre .1)
 
 set-head-requires : tie.Need-set-head-requires
@@ -22,11 +23,11 @@ same-length c = search needs
 returns : tie.Need-returns
 returns c =
     let set-head = c .before .before in
-    let if1 = set-head .before .before in
-    let at-place = if1 .before in
-    let screen-scrolls = at-place .before in
+    let at-place = set-head .before in
+    let if1 = at-place .before .before in
+    let screen-scrolls = if1 .before in
     let start = screen-scrolls .before .before .before in
-    page-stays (start .pre .0) (start .args .p) (screen-scrolls .screen-scrolls .ensures) (if1 .if1 .taken) (at-place .at-place .ensures) (set-head .set-head .ensures)
+    page-stays (start .pre .0) (start .args .p) (screen-scrolls .screen-scrolls .ensures) (omega (arith, if1 .if1 .taken)) (at-place .at-place .ensures) (set-head .set-head .ensures)
 
 cast-from : tie.Need-cast-from
 cast-from c = search needs
@@ -47,16 +48,21 @@ part-scroll-screen-start : tie.Need-part-scroll-screen-start
 part-scroll-screen-start c = search needs
 
 part-scroll-screen-end : tie.Need-part-scroll-screen-end
-part-scroll-screen-end c = screen-room (c .before .before .before .before .before .before .before .before .pre .0)
+part-scroll-screen-end c = screen-room (c .before .before .before .before .before .before .before .pre .0)
 
 scroll-screen-requires : tie.Need-scroll-screen-requires
-scroll-screen-requires c κs = rows-lent (c .before .before .before .before .before .before .before .before .before .pre .0)
+scroll-screen-requires c κs = rows-lent (c .before .before .before .before .before .before .before .before .pre .0)
 
 canvas-of-requires : tie.Need-canvas-of-requires
 canvas-of-requires c κs = search needs
 
 scroll-marks-requires : tie.Need-scroll-marks-requires
-scroll-marks-requires c κs = screen-small _ (c .before .before .before .before .before .before .before .before .before .before .before .before .before .pre .0 .known .suits) (c .canvas-of .ensures)
+scroll-marks-requires c κs = screen-small _ (c .before .before .before .before .before .before .before .before .before .before .before .before .pre .0 .known .suits) (c .canvas-of .ensures)
+
+at-place-requires-2 : tie.Need-at-place-requires-2
+at-place-requires-2 c κs =
+    let start = c .before .before .before .before .before .before .before .before .before .before .before .before .before .before in
+    place-short (start .pre .0) (start .args .p) (start .pre .1)
 
 mark-head-requires : tie.Need-mark-head-requires
 mark-head-requires c κs = stands (c .before .before .before .before .before .before .before .before .before .before .before .before .before .before .before .pre .0)
@@ -70,14 +76,14 @@ same-length-3 c = search needs
 returns-2 : tie.Need-returns-2
 returns-2 c =
     let mark-head = c .before .before in
-    let scroll-marks = mark-head .before .before in
+    let at-place = mark-head .before in
+    let scroll-marks = at-place .before .before in
     let canvas-of = scroll-marks .before in
     let scroll-screen = canvas-of .before .before .before in
-    let at-place = scroll-screen .before .before .before .before .before .before in
-    let screen-scrolls = at-place .before in
+    let screen-scrolls = scroll-screen .before .before .before .before .before .before in
     let start = screen-scrolls .before .before .before in
     let m = scroll-marks .scroll-marks .ensures in
-    page-follows (start .pre .0) (start .args .p) (screen-scrolls .screen-scrolls .ensures) (scroll-screen .scroll-screen .ensures) (canvas-of .canvas-of .ensures) (m .0) (m .1) (at-place .at-place .ensures) (mark-head .mark-head .ensures)
+    page-follows (start .pre .0) (start .args .p) (screen-scrolls .screen-scrolls .ensures) (scroll-screen .scroll-screen .ensures) (canvas-of .canvas-of .ensures) (m .0) (m .1) (omega arith) (at-place .at-place2 .ensures) (mark-head .mark-head .ensures)
 
 pub store-page-spec : {M : Type 1} → statement M
 store-page-spec =
@@ -98,6 +104,7 @@ store-page-spec =
     scroll-screen-requires
     canvas-of-requires
     scroll-marks-requires
+    at-place-requires-2
     mark-head-requires
     same-length-2
     same-length-3

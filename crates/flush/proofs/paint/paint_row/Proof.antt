@@ -28,7 +28,7 @@ are-blank-requires : tie.Need-are-blank-requires Inv-loop μ-loop
 are-blank-requires c κs =
     let k = c .before .before .before .before .before .before .before .before .before .before in
     let few = spot-few (k .args .columns) (k .args .rows) (k .args .from) (k .pre .1 .0 .within) (k .pre .0 .text) in
-    (few .0, few .3)
+    (few .0, omega arith)
 
 spot-after-requires : tie.Need-spot-after-requires Inv-loop μ-loop
 spot-after-requires c κs =
@@ -40,7 +40,7 @@ returns : tie.Need-returns Inv-loop μ-loop
 returns c =
     let k = c .before .before .before .before .before .before .before .before .before .before .before .before .before in
     let a = k .args in
-    row-blank (a .columns) (a .rows) (a .text .now) (flagsIn (a .cells) (a .flags .now)) (a .version) (fonts (a .ascii8 .now) (a .ascii16 .now) (a .gb .now) (a .emoji .now) (a .list .now) (a .extra .now)) (a .from) (a .screen .now) (k .pre .1 .0) (k .pre .1 .1 .0) (c .before .before .are-blank .ensures) (c .before .if1 .taken) (c .spot-after .ensures)
+    row-blank (a .columns) (a .rows) (a .text .now) (flagsIn (a .cells) (a .flags .now)) (a .version) (fonts (a .ascii8 .now) (a .ascii16 .now) (a .gb .now) (a .emoji .now) (a .list .now) (a .extra .now)) _ (a .from) (a .screen .now) (k .pre .1 .0) (k .pre .1 .1 .0) (omega arith) (c .before .before .are-blank .ensures) (c .before .if1 .taken) (c .spot-after .ensures)
 
 loop-holds : tie.Need-loop-holds Inv-loop μ-loop
 loop-holds c =
