@@ -83,12 +83,18 @@ cell-small st n s w a b =
     let r : s .row ≤ 16 = omega (arith, w .row) in
     omega (arith, w .ahead, w .column, mul-le-mul a r)
 
+pub spot-few : (st n : ℕ) (s : Spot) → Within st n s → TextSize st n → (s .cell ≤ 65535) × (s .column ≤ 65535) × (s .row ≤ 65535) × (st - s .column ≤ 65535)
+spot-few st n s w z = let c = cell-small st n s w (z .narrow) (z .low) in omega (arith, w .column, w .row, z .narrow, z .low)
+
+-- ---- the spot k cells on
+
 pub after-row : (st k : ℕ) (s : Spot) → s .column + k < st → spot (s .cell + k) (s .row) (s .column + k) ≡ spotAfter st s k
 unfolding spotAfter
 after-row st k s l = rw (lt-ltb (s .column + k) st l)
 
-pub spot-few : (st n : ℕ) (s : Spot) → Within st n s → TextSize st n → (s .cell ≤ 65535) × (s .column ≤ 65535) × (s .row ≤ 65535) × (st - s .column ≤ 65535)
-spot-few st n s w z = let c = cell-small st n s w (z .narrow) (z .low) in omega (arith, w .column, w .row, z .narrow, z .low)
+pub after-end : (st k : ℕ) (s : Spot) {cell : ℕ} → st ≤ s .column + k → cell ≡ s .cell + k → spot cell (s .row + 1) 0 ≡ spotAfter st s k
+unfolding spotAfter
+after-end st k s l e = rw (e, le-ltb (s .column + k) st l)
 
 -- a cell, then k more
 pub after-after : (st k : ℕ) (s : Spot) → spotAfter st s (suc k) ≡ spotAfter st (spot (s .cell + 1) (s .row) (s .column + 1)) k
@@ -102,10 +108,6 @@ after-after st k s =
 down-after : (st k : ℕ) (s : Spot) → s .row ≤ spotAfter st s k .row
 unfolding spotAfter
 down-after st k s = if-cases (λ (t : Spot). s .row ≤ t .row) (ltb (s .column + k) st) (λ e. omega arith) (λ e. omega arith)
-
-pub after-end : (st k : ℕ) (s : Spot) {cell : ℕ} → st ≤ s .column + k → cell ≡ s .cell + k → spot cell (s .row + 1) 0 ≡ spotAfter st s k
-unfolding spotAfter
-after-end st k s l e = rw (e, le-ltb (s .column + k) st l)
 
 -- ---- a step of the walk
 

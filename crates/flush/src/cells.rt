@@ -17,7 +17,7 @@ fn byte_at(text: &[u8], cell: usize) -> u8
     if cell < text.len() { text[cell] } else { 0 }
 }
 
-// So many cells from one on are there and zero.
+// Whether `count` cells from one on are there and zero.
 pub fn are_blank(text: &[u8], at: usize, count: usize) -> bool
     requires { ⌜ (at ≤ 65535) × (count ≤ 65535) ⌝ }
     ensures { λ r. ⌜ r ≡ (leb (at + count) (length (now (text .entry))) && blankCells (now (text .entry)) at count) ⌝ }

@@ -161,7 +161,7 @@ fn paint_shown<'a>(
     }
 }
 
-// A row from a spot of it on, up to a spot below it. Blank cells up to its end are stepped over at once.
+// The rest of a row, from a spot on, and the spot below it where the walk goes on. Where all its cells are blank they are stepped over at once.
 fn paint_row<'a>(
     columns: usize,
     rows: usize,
