@@ -6,22 +6,26 @@ use Prim.Native.Nat.{ℕ, _+_, _-_, _*_, _^_, _<_, _≤_}
 use native.Mathlib.Omega.{arith}
 use borrow.Rule.Slice.PartMut.{putMid}
 use lib.Dec.{eqb}
-use lib.ListN.{length}
+use lib.ListN.{length, drop, length-drop, take-append-drop}
+use lib.Seq.{length-take-le, drop-drop}
 use Rattle.model.specs.declared.Canvas.{Canvas}
 use Rattle.model.specs.declared.Head.{Head}
 use Rattle.model.specs.declared.Marks.{Marks}
 use Rattle.model.specs.declared.glass.Glass.{Glass}
-use Rattle.model.specs.Geometry.{rows, height, cells, rowBytes}
+use Rattle.model.specs.Geometry.{Geometry, rows, height, width, cells, screenBytes, rowBytes}
 use Rattle.model.specs.Glass.{geometry, canvas}
 use Rattle.model.specs.Rects.{none}
 use Rattle.model.specs.Memory.{window, withWindow}
 use Rattle.model.specs.Flags.{flagBytes, flagsIn, bytesOfFlags, flagsFit}
-use Rattle.model.specs.Record.{flags, partFits, State, decode, encode, withHead}
-use Rattle.model.specs.Marks.{marked}
+use Rattle.model.specs.Record.{flags, partFits, Pending, State, decode, encode, withHead, withPanels}
+use Rattle.model.specs.Marks.{withDirty, updateDirty, owing, marked}
 use Rattle.model.specs.Text.{atPlace}
 use Rattle.model.specs.Print.{Page, scrolledTimes, newlineOn, isInverse, printOn, pageOf, screenScrolls, scrollMark, stateWithPage, scrolledMemory, memoryWithPage}
 use Rattle.model.specs.Calls.{print, newline, lent, answered, withPage, done}
 use Rattle.laws.specs.Memory.{length-withWindow}
+use Rattle.laws.specs.ListLaws.{map-same}
+use Rattle.laws.specs.Rects.{join-none}
+use Rattle.laws.specs.Bands.{joinOwed-none}
 use Rattle.laws.specs.Parts.{part-back}
 use Rattle.laws.specs.Pages.{length-times, Sheet, newline-sheet}
 use Rattle.laws.specs.Flags.{HasFlags, flags-read}
@@ -36,10 +40,35 @@ use Rattle.text.specs.declared.page.Place.{Place}
 use Rattle.text.specs.Written.{page, Ready, Written}
 use Rattle.record.specs.Given.{Given}
 use Rattle.accepted_text.specs.Pages.{placeOf, PageStored}
-use Rattle.record.proofs.Drawing.{screenPart, textPart, flagsPart, text-room, screen-length, text-length, flags-length, screen-is, text-is}
+use Rattle.record.proofs.Drawing.{screenPart, textPart, flagsPart, screen-room, text-room, screen-length, text-length, flags-length, screen-is, text-is}
+
+-- an empty mark leaves any state
+unmarked-state : (g : Geometry) (s : State) → marked g none none s ≡ s
+unfolding marked updateDirty owing
+unmarked-state g s =
+    let same : (p : Pending) → owing g none p ≡ p = λ p i. record { owed = joinOwed-none (width g) (g .band) 0 (p .owed) i; hand = p .hand; sent = p .sent } in
+    λ i. withHead (withDirty (join-none (s .head .dirty) i) (s .head)) (withPanels (map-same (owing g none) (s .panels) same i) s)
+
+-- a window put back leaves memory
+window-back : (b n : ℕ) (m : List ℕ) → b + n ≤ length m → withWindow b (window b n m) m ≡ m
+unfolding window withWindow
+window-back b n m h = cc (length-take-le n (drop b m) (simp length-drop (omega arith)), drop-drop n b m, take-append-drop n (drop b m), take-append-drop b m)
 
 module _ {v : Glass} {r : List ℕ} {h : Head} {m : List ℕ} (w : Given v r h m) where
   -- ---- the screen and the record
+
+  -- no scroll: another place, and nothing else
+  pub page-stays : (p : Place) {n : ℕ} {a : Head} {t : List ℕ} → n ≡ screenScrolls (h .screen) (p .scrolls) → n ≡ 0 → a ≡ atPlace (p .row) (p .column) h
+      → t ≡ updated (λ g x. withHead a x) r → PageStored (geometry v) r m h p t m
+  unfolding scrolledMemory scrolledTimes scrollMark
+  page-stays p {a = b} e z a q =
+      let g = geometry v in
+      let k = w .known .suits in
+      let none-left : screenScrolls (h .screen) (p .scrolls) ≡ 0 = sym e ∙ z in
+      record {
+        rec = rw none-left (updated-for r (λ y x. withHead b x) (w .chosen) q ∙ ap (λ (x : Head). encode g (withHead x (decode g r))) a ∙ ap (encode g) (sym (unmarked-state g (withHead (atPlace (p .row) (p .column) h) (decode g r)))));
+        memory = rw none-left (sym (window-back (h .graphics) (screenBytes g) m (omega (arith, screen-room w, k .is-screen))));
+      }
 
   pub rows-lent : (length (screenPart v h m) ≡ v .rows * rowBytes (geometry v)) × (0 < v .rows)
   rows-lent =
@@ -50,18 +79,18 @@ module _ {v : Glass} {r : List ℕ} {h : Head} {m : List ℕ} (w : Given v r h m
   pub place-short : (p : Place) → (p .row < v .rows) × (p .column < v .columns) → (p .row < 256) × (p .column < 256)
   place-short p l = let z = w .known .suits in (omega (arith, l .0, z .is-rows, z .glass .filled, z .glass .high), omega (arith, l .1, z .is-columns, z .glass .cursor))
 
-  pub page-follows : (p : Place) {n : ℕ} {a : Head} {k : Canvas} {c : Marks} {s t : List ℕ} → n ≡ screenScrolls (h .screen) (p .scrolls) → s ≡ scrolledTimes n (rowBytes (geometry v)) (screenPart v h m)
-      → k ≡ canvas v → c .dirty ≡ none → c .owed ≡ scrollMark (k .stride) (k .height) n → a ≡ atPlace (p .row) (p .column) h
+  pub page-follows : (p : Place) {n : ℕ} {a : Head} {k : Canvas} {c : Marks} {j : ℕ} {s t : List ℕ} → n ≡ screenScrolls (h .screen) (p .scrolls) → s ≡ scrolledTimes n (rowBytes (geometry v)) (screenPart v h m)
+      → k ≡ canvas v → c .dirty ≡ none → c .owed ≡ scrollMark (k .stride) (k .height) j → j ≡ n → a ≡ atPlace (p .row) (p .column) h
       → t ≡ updated (λ g x. marked g (c .dirty) (c .owed) (withHead a x)) r
       → PageStored (geometry v) r m h p t (putMid (h .graphics) (h .graphics + v .screen - h .graphics) m s)
   unfolding scrolledMemory
-  page-follows p {n} {a = b} {c = c} {s} e f k d o a q =
+  page-follows p {n} {a = b} {c = c} {s = s} e f k d o j a q =
       let g = geometry v in
       let z = w .known .suits in
       let at = h .graphics in
       let size : length s ≡ at + v .screen - at =
       ap length f ∙ length-times n (rowBytes g) (screenPart v h m) (rw (screen-length w ∙ z .is-screen) (row-room g (z .glass))) ∙ screen-length w ∙ omega arith in
-      let owed = o ∙ (λ i. scrollMark (k i .stride) (k i .height) (e i)) ∙ ap (λ (y : ℕ). scrollMark (v .stride) y (screenScrolls (h .screen) (p .scrolls))) (z .is-height) in
+      let owed = o ∙ (λ i. scrollMark (k i .stride) (k i .height) ((j ∙ e) i)) ∙ ap (λ (y : ℕ). scrollMark (v .stride) y (screenScrolls (h .screen) (p .scrolls))) (z .is-height) in
       record {
         rec = updated-for r (λ y x. marked y (c .dirty) (c .owed) (withHead b x)) (w .chosen) q ∙ (λ i. encode g (marked g (d i) (owed i) (withHead (a i) (decode g r))));
         memory = part-back at (at + v .screen) m s (omega arith) size

@@ -37,13 +37,17 @@ fn at_place(h: Head, p: Place) -> Head
     n
 }
 
-// The text and its flags have been written up to p: the screen and the record follow.
+// The text and its flags have been written up to p: the screen and the record follow. Where the screen does not scroll, nothing is marked.
 fn store_page(rec: &mut [u8], memory: &mut [u8], glass: Glass, h: Head, p: Place)
     requires { ⌜ Given glass (now rec) h (now memory) ⌝ }
     requires { ⌜ (p .row < glass .rows) × (p .column < glass .columns) ⌝ }
     ensures { λ _. ⌜ PageStored (geometry glass) (now (rec .entry)) (now (memory .entry)) h p (now (rec .exit)) (now (memory .exit)) ⌝ }
 {
     let n = scroll::screen_scrolls(h.screen, p.scrolls);
+    if n == 0 {
+        update::set_head(rec, at_place(h, p));
+        return;
+    }
     let from = h.graphics as usize;
     let to = from + glass.screen;
     let row_bytes = (GLYPH_HEIGHT as usize) * glass.stride;

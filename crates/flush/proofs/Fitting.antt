@@ -2,7 +2,7 @@
 use mathlib.Core.Path.{_≡_, refl, sym, ap, _∙_}
 use mathlib.Core.Bool.{Bool, true, false, _&&_}
 use mathlib.Core.List.{List, [], _∷_}
-use Prim.Native.Nat.{ℕ, _+_, _-_, _*_, _/_, _%_, _≤_, _<_}
+use Prim.Native.Nat.{ℕ, suc, _+_, _-_, _*_, _/_, _%_, _≤_, _<_}
 use native.Mathlib.Omega.{arith}
 use borrow.Author.Tests.{lt-ltb, le-ltb, le-leb, lt-leb}
 use lib.Dec.{leb, ltb}
@@ -12,13 +12,14 @@ use Rattle.model.specs.declared.Glyph.the-variants.{Emoji, Gb, Extra, Hexadecim
 use Rattle.model.specs.declared.Spot.{Spot}
 use Rattle.model.specs.declared.CellKind.{CellKind}
 use Rattle.model.specs.declared.CellKind.the-variants.{Blank, Single, Pair, Code}
+use Rattle.model.specs.Bytes.{four}
 use Rattle.model.specs.Glyphs.{Fonts, digit, glyphOf, fontsFit, columnStores, codeStores}
 use Rattle.model.specs.declared.Shown.{Shown}
 use Rattle.model.specs.Flush.{topOf, rightOf, flagAt, halfStores, glyphStores, kindStores, stores, textStores, spot, shownAt, nextSpot, walk}
 use Rattle.laws.specs.Tests.{by-lt, and-true}
 use Rattle.laws.specs.Glyphs.{fits-append, column-fits, lines-fits}
 use Rattle.laws.specs.FlushWalk.{Within, rest, rest-more, rest-end, rest-start}
-use Rattle.flush.specs.Fits.{codeFits, glyphFits, kindFits, shownFits, walkFits, textFits}
+use Rattle.flush.specs.Fits.{codeFits, glyphFits, kindFits, shownFits, walkFits, textFits, entriesFit}
 
 -- ---- the definition's test, kind by kind
 
@@ -115,6 +116,24 @@ module _ (version : ℕ) (f : Fonts) (b trail : ℕ) {m : CellKind} where
   pub alone-fits : {t : Bool} → m ≡ Code → t ≡ codeFits (f .ascii8) b → t ≡ kindFits version f b trail m
   unfolding kindFits
   alone-fits e h = rw e h
+
+-- ---- the extra list, one entry after another: the next is at byte i of n
+
+module _ (list extra : List ℕ) (i n : ℕ) {whole : Bool} (h : entriesFit list extra i ((n - i) / 6) ≡ whole) where
+  -- an entry that passes
+  pub entry-turn : {o : ℕ} {t : Bool} → i + 6 ≤ n → o ≡ four list (i + 2) → t ≡ leb (o + 32) (length extra) → t ≡ true
+      → entriesFit list extra (i + 6) ((n - (i + 6)) / 6) ≡ whole
+  unfolding entriesFit
+  entry-turn l eo et ok = let q : (n - i) / 6 ≡ suc ((n - (i + 6)) / 6) = omega arith in cc
+
+  -- and one that fails
+  pub entry-stop : {o : ℕ} {t : Bool} → i + 6 ≤ n → o ≡ four list (i + 2) → t ≡ leb (o + 32) (length extra) → t ≡ false → false ≡ whole
+  unfolding entriesFit
+  entry-stop l eo et bad = let q : (n - i) / 6 ≡ suc ((n - (i + 6)) / 6) = omega arith in cc
+
+  pub entries-end : n < i + 6 → true ≡ whole
+  unfolding entriesFit
+  entries-end l = let q : (n - i) / 6 ≡ 0 = omega arith in cc
 
 -- ---- the walk, one step at a time
 

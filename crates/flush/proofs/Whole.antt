@@ -1,10 +1,10 @@
--- Whole fonts: emoji indices are below 527, GB indices below 7,614, digits below G, so any text of bytes fits.
-use mathlib.Core.Path.{_≡_, refl, ap}
+-- Whole fonts: emoji indices are below 527, GB indices below 7,614, digits below G, and every entry of the extra list fits its font; so any text of bytes fits.
+use mathlib.Core.Path.{_≡_, refl}
 use mathlib.Core.Bool.{Bool, true, _&&_}
 use mathlib.Core.List.{List, [], _∷_}
 use Prim.Native.Nat.{ℕ, zero, suc, _+_, _-_, _*_, _/_, _%_, _≤_, _<_}
 use native.Mathlib.Omega.{arith}
-use borrow.Author.Tests.{le-leb, leb-true, ltb-true}
+use borrow.Author.Tests.{le-leb, leb-true}
 use lib.Dec.{leb, ltb, eqb}
 use lib.ListN.{length, getD}
 use mir.Syntax.{w8}
@@ -17,11 +17,12 @@ use Rattle.model.specs.declared.Spot.{Spot}
 use Rattle.model.specs.declared.CellKind.{CellKind}
 use Rattle.model.specs.declared.Shown.{Shown}
 use Rattle.model.specs.Rects.{every}
+use Rattle.model.specs.Bytes.{two, four}
 use Rattle.model.specs.Codes.{CodeRow, emojiRows, inRow, indexIn, emojiIndex, gbRow, gbIndex, extraFrom, extraOffset}
 use Rattle.model.specs.Glyphs.{Fonts, digit, glyphOr, glyphOf}
 use Rattle.model.specs.Flush.{isLast, kindOf, shownAt, nextSpot, spot, walk}
 use Rattle.laws.specs.Tests.{tests, all-true, and-true, if-cases}
-use Rattle.flush.specs.Fits.{codeFits, glyphFits, kindFits, walkFits, textFits, wholeFonts}
+use Rattle.flush.specs.Fits.{codeFits, glyphFits, kindFits, walkFits, textFits, entriesFit, listFits, wholeFonts}
 
 -- ---- indices
 
@@ -57,27 +58,37 @@ gb-below lead trail =
     omega (arith, tests))
     (λ e. tt)
 
-no-extra : (list : List ℕ) (code : ℕ) → length list < 6 → extraOffset list code ≡ Nothing
-unfolding extraOffset extraFrom
-no-extra list code h = let q : length list / 6 ≡ 0 = omega arith in ap (extraFrom list code 0) q
+-- an offset, where there is one, has its thirty-two bytes among n
+abbrev Inside : Found → ℕ → Type 0
+Inside (At i) n = i + 32 ≤ n
+Inside Nothing n = Unit {0}
+
+-- where every entry fits, so does the one that is found, in any list
+entry-inside : (list extra : List ℕ) (code i n : ℕ) → entriesFit list extra i n ≡ true → Inside (extraFrom list code i n) (length extra)
+unfolding extraFrom entriesFit
+entry-inside list extra code i zero h = tt
+entry-inside list extra code i (suc n) h =
+    let p = and-true (leb (four list (i + 2) + 32) (length extra)) (entriesFit list extra (i + 6) n) h in
+    if-cases (λ (x : Found). Inside x (length extra)) (eqb (two list i) code)
+    (λ e. leb-true (four list (i + 2) + 32) (length extra) (p .0)) (λ e. entry-inside list extra code (i + 6) n (p .1))
 
 digit-most : (n : ℕ) → n < 16 → digit n ≤ 70
 digit-most n h = if-cases (λ (k : ℕ). k ≤ 70) (ltb n 10) (λ e. omega (arith, tests)) (λ e. omega arith)
 
 -- ---- what is shown
 
-module _ (f : Fonts) (w : wholeFonts (f .ascii8) (f .ascii16) (f .gb) (f .emoji) (f .extraList) ≡ true) where
+module _ (f : Fonts) (w : wholeFonts (f .ascii8) (f .ascii16) (f .gb) (f .emoji) (f .extraList) (f .extraFont) ≡ true) where
   record Whole : Type 0 where
     ascii8 : 568 ≤ length (f .ascii8)
     ascii16 : 2048 ≤ length (f .ascii16)
     gb : 243648 ≤ length (f .gb)
     emoji : 16864 ≤ length (f .emoji)
-    list : length (f .extraList) < 6
+    list : listFits (f .extraList) (f .extraFont) ≡ true
 
   whole : Whole
   unfolding wholeFonts
   whole =
-      let a = and-true ((leb 568 (length (f .ascii8)) && leb 2048 (length (f .ascii16))) && (leb 243648 (length (f .gb)) && leb 16864 (length (f .emoji)))) (ltb (length (f .extraList)) 6) w in
+      let a = and-true ((leb 568 (length (f .ascii8)) && leb 2048 (length (f .ascii16))) && (leb 243648 (length (f .gb)) && leb 16864 (length (f .emoji)))) (listFits (f .extraList) (f .extraFont)) w in
       let b = and-true (leb 568 (length (f .ascii8)) && leb 2048 (length (f .ascii16))) (leb 243648 (length (f .gb)) && leb 16864 (length (f .emoji))) (a .0) in
       let c = and-true (leb 568 (length (f .ascii8))) (leb 2048 (length (f .ascii16))) (b .0) in
       let d = and-true (leb 243648 (length (f .gb))) (leb 16864 (length (f .emoji))) (b .1) in
@@ -86,7 +97,7 @@ module _ (f : Fonts) (w : wholeFonts (f .ascii8) (f .ascii16) (f .gb) (f .emoji)
         ascii16 = leb-true 2048 (length (f .ascii16)) (c .1);
         gb = leb-true 243648 (length (f .gb)) (d .0);
         emoji = leb-true 16864 (length (f .emoji)) (d .1);
-        list = ltb-true (length (f .extraList)) 6 (a .1);
+        list = a .1;
       }
 
   code-whole : (b : ℕ) → b < 256 → codeFits (f .ascii8) b ≡ true
@@ -101,15 +112,20 @@ module _ (f : Fonts) (w : wholeFonts (f .ascii8) (f .ascii16) (f .gb) (f .emoji)
   abbrev fits : ℕ → ℕ → Glyph → Bool
   fits = glyphFits (f .ascii8) (f .gb) (f .emoji) (f .extraFont)
 
-  extra-whole : (lead trail : ℕ) → lead < 256 → trail < 256 → fits lead trail (glyphOr (extraOffset (f .extraList) (256 * lead + trail)) Extra Hexadecimal) ≡ true
+  extra-whole : (lead trail : ℕ) → lead < 256 → trail < 256 → (x : Found) → Inside x (length (f .extraFont)) → fits lead trail (glyphOr x Extra Hexadecimal) ≡ true
   unfolding glyphOr glyphFits
-  extra-whole lead trail hl ht = rw (no-extra (f .extraList) (256 * lead + trail) (whole .list), code-whole lead hl, code-whole trail ht)
+  extra-whole lead trail hl ht (At i) h = le-leb (i + 32) (length (f .extraFont)) h
+  extra-whole lead trail hl ht Nothing h = rw (code-whole lead hl, code-whole trail ht)
+
+  offset-inside : (code : ℕ) → Inside (extraOffset (f .extraList) code) (length (f .extraFont))
+  unfolding extraOffset
+  offset-inside code = entry-inside (f .extraList) (f .extraFont) code 0 (length (f .extraList) / 6) (whole .list)
 
   gb-whole : (lead trail : ℕ) → lead < 256 → trail < 256 → (x : Found) → below x 7614
       → fits lead trail (glyphOr x Gb (glyphOr (extraOffset (f .extraList) (256 * lead + trail)) Extra Hexadecimal)) ≡ true
   unfolding glyphOr glyphFits
   gb-whole lead trail hl ht (At i) h = le-leb (32 * i + 32) (length (f .gb)) (omega (arith, whole .gb))
-  gb-whole lead trail hl ht Nothing h = extra-whole lead trail hl ht
+  gb-whole lead trail hl ht Nothing h = extra-whole lead trail hl ht (extraOffset (f .extraList) (256 * lead + trail)) (offset-inside (256 * lead + trail))
 
   emoji-whole : (lead trail : ℕ) → lead < 256 → trail < 256 → (x : Found) → below x 527
       → fits lead trail (glyphOr x Emoji (glyphOr (gbIndex lead trail) Gb (glyphOr (extraOffset (f .extraList) (256 * lead + trail)) Extra Hexadecimal))) ≡ true

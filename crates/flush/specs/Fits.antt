@@ -1,14 +1,15 @@
 -- The GLYPH test as code makes it: by what is shown, whatever the place on the screen and the flags.
 use mathlib.Core.Bool.{Bool, true, _&&_}
 use mathlib.Core.List.{List, [], _∷_}
-use Prim.Native.Nat.{ℕ, _+_, _*_, _/_, _%_}
-use lib.Dec.{leb, ltb}
-use lib.ListN.{length}
+use Prim.Native.Nat.{ℕ, zero, suc, _+_, _*_, _/_, _%_}
+use lib.Dec.{leb, eqb}
+use lib.ListN.{length, getD}
 use Rattle.model.specs.declared.Glyph.{Glyph}
 use Rattle.model.specs.declared.Glyph.the-variants.{Emoji, Gb, Extra, Hexadecimal}
 use Rattle.model.specs.declared.CellKind.{CellKind}
 use Rattle.model.specs.declared.CellKind.the-variants.{Blank, Single, Pair, Code}
 use Rattle.model.specs.declared.Shown.{Shown}
+use Rattle.model.specs.Bytes.{four}
 use Rattle.model.specs.Glyphs.{Fonts, digit, glyphOf}
 use Rattle.model.specs.Flush.{spot, walk}
 
@@ -39,7 +40,20 @@ walkFits version f (w ∷ ws) = shownFits version f w && walkFits version f ws
 abbrev pub textFits : ℕ → ℕ → List ℕ → ℕ → Fonts → Bool
 textFits st n text version f = walkFits version f (walk st n text (n * st) (spot 0 0 0))
 
--- fonts that hold every code: the digits up to F, 128 characters, 7,614 GB characters, 527 emoji; and no entry of the extra list
-unfoldable pub wholeFonts : List ℕ → List ℕ → List ℕ → List ℕ → List ℕ → Bool
-wholeFonts ascii8 ascii16 gb emoji list =
-    ((leb 568 (length ascii8) && leb 2048 (length ascii16)) && (leb 243648 (length gb) && leb 16864 (length emoji))) && ltb (length list) 6
+-- k cells of a text, from cell i on, are zero; cells past the last one are
+unfoldable pub blankCells : List ℕ → ℕ → ℕ → Bool
+blankCells text i zero = true
+blankCells text i (suc k) = eqb (getD text i 0) 0 && blankCells text (i + 1) k
+
+-- n entries of the extra list, from byte i of it on, have their thirty-two bytes in the extra font
+unfoldable pub entriesFit : List ℕ → List ℕ → ℕ → ℕ → Bool
+entriesFit list extra i zero = true
+entriesFit list extra i (suc n) = leb (four list (i + 2) + 32) (length extra) && entriesFit list extra (i + 6) n
+
+abbrev pub listFits : List ℕ → List ℕ → Bool
+listFits list extra = entriesFit list extra 0 (length list / 6)
+
+-- fonts that hold every code: the digits up to F, 128 characters, 7,614 GB characters, 527 emoji, and what every entry of the extra list names
+unfoldable pub wholeFonts : List ℕ → List ℕ → List ℕ → List ℕ → List ℕ → List ℕ → Bool
+wholeFonts ascii8 ascii16 gb emoji list extra =
+    ((leb 568 (length ascii8) && leb 2048 (length ascii16)) && (leb 243648 (length gb) && leb 16864 (length emoji))) && listFits list extra

@@ -2,16 +2,37 @@
 use model::CellKind;
 use model::Shown;
 use model::Spot;
+ghost use mathlib.Core.Bool.{_&&_};
 ghost use mathlib.Core.Path.{_≡_};
 ghost use Prim.Native.Nat.{_+_, _≤_, _<_};
-ghost use lib.ListN.{getD};
+ghost use lib.Dec.{leb};
+ghost use lib.ListN.{length, getD};
 ghost use Rattle.model.specs.Flush.{spot, isLast, kindOf, shownAt, cellsTaken, spotAfter, nextSpot};
+ghost use Rattle.flush.specs.Fits.{blankCells};
 
 // Cells past the last one count as zero.
 fn byte_at(text: &[u8], cell: usize) -> u8
     ensures { λ r. ⌜ r ≡ getD (now (text .entry)) cell 0 ⌝ }
 {
     if cell < text.len() { text[cell] } else { 0 }
+}
+
+// Whether `count` cells from one on are there and zero.
+pub fn are_blank(text: &[u8], at: usize, count: usize) -> bool
+    requires { ⌜ (at ≤ 65535) × (count ≤ 65535) ⌝ }
+    ensures { λ r. ⌜ r ≡ (leb (at + count) (length (now (text .entry))) && blankCells (now (text .entry)) at count) ⌝ }
+{
+    let end = at + count;
+    if text.len() < end {
+        return false;
+    }
+    let mut ok = true;
+    let mut i = at;
+    while i < end {
+        ok = ok & (text[i] == 0);
+        i += 1;
+    }
+    ok
 }
 
 pub fn start() -> Spot
@@ -76,8 +97,8 @@ fn cells_taken(kind: CellKind) -> usize
 }
 
 // Reading just goes on; a row that is full leads to column 0 below.
-fn spot_after(columns: usize, s: Spot, k: usize) -> Spot
-    requires { ⌜ (s .cell ≤ 65535) × (s .column ≤ 65535) × (s .row ≤ 65535) × (k ≤ 2) ⌝ }
+pub fn spot_after(columns: usize, s: Spot, k: usize) -> Spot
+    requires { ⌜ (s .cell ≤ 65535) × (s .column ≤ 65535) × (s .row ≤ 65535) × (k ≤ 65535) ⌝ }
     ensures { λ r. ⌜ r ≡ spotAfter columns s k ⌝ }
 {
     let column = s.column + k;

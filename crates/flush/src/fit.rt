@@ -12,7 +12,7 @@ ghost use Prim.Native.Nat.{_*_, _+_, _<_};
 ghost use lib.Dec.{leb};
 ghost use lib.ListN.{length};
 ghost use Rattle.model.specs.Glyphs.{fonts};
-ghost use Rattle.flush.specs.Fits.{codeFits, glyphFits, shownFits, textFits, wholeFonts};
+ghost use Rattle.flush.specs.Fits.{codeFits, glyphFits, shownFits, textFits, listFits, wholeFonts};
 ghost use Rattle.flush.specs.Rooms.{TextSize};
 
 fn code_fits(ascii8: &[u8], b: u8) -> bool
@@ -101,13 +101,37 @@ const WHOLE_GB: usize = 243648;
 
 const WHOLE_EMOJI: usize = 16864;
 
-// Such fonts, and no entry of an extra list: then any text fits, and the walk is spared.
-fn fonts_whole(ascii8: &[u8], ascii16: &[u8], gb: &[u8], emoji: &[u8], list: &[u8]) -> bool
-    ensures { λ r. ⌜ r ≡ wholeFonts (now (ascii8 .entry)) (now (ascii16 .entry)) (now (gb .entry)) (now (emoji .entry)) (now (list .entry)) ⌝ }
+// What every entry of the extra list names lies in the extra font.
+fn list_fits(list: &[u8], extra: &[u8]) -> bool
+    ensures { λ r. ⌜ r ≡ listFits (now (list .entry)) (now (extra .entry)) ⌝ }
+{
+    let n = list.len();
+    let mut at: usize = 0;
+    while at + 6 <= n {
+        let offset = slices::load_four(list, at + 2) as usize;
+        if offset_fits(extra, offset) {
+            at += 6;
+        } else {
+            return false;
+        }
+    }
+    true
+}
+
+// With such fonts and such a list any text fits, and the walk is spared.
+fn fonts_whole(
+    ascii8: &[u8],
+    ascii16: &[u8],
+    gb: &[u8],
+    emoji: &[u8],
+    list: &[u8],
+    extra: &[u8],
+) -> bool
+    ensures { λ r. ⌜ r ≡ wholeFonts (now (ascii8 .entry)) (now (ascii16 .entry)) (now (gb .entry)) (now (emoji .entry)) (now (list .entry)) (now (extra .entry)) ⌝ }
 {
     let ascii = (WHOLE_ASCII8 <= ascii8.len()) & (WHOLE_ASCII16 <= ascii16.len());
     let pairs = (WHOLE_GB <= gb.len()) & (WHOLE_EMOJI <= emoji.len());
-    (ascii & pairs) & (list.len() < 6)
+    (ascii & pairs) & list_fits(list, extra)
 }
 
 fn walk_fits(
@@ -152,7 +176,7 @@ pub fn text_fits(
     requires { ⌜ TextSize columns rows ⌝ }
     ensures { λ r. ⌜ r ≡ textFits columns rows (now (text .entry)) version (fonts (now (ascii8 .entry)) (now (ascii16 .entry)) (now (gb .entry)) (now (emoji .entry)) (now (list .entry)) (now (extra .entry))) ⌝ }
 {
-    if fonts_whole(ascii8, ascii16, gb, emoji, list) {
+    if fonts_whole(ascii8, ascii16, gb, emoji, list, extra) {
         return true;
     }
     walk_fits(

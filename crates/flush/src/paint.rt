@@ -1,6 +1,8 @@
 // What is shown, painted onto the lent screen.
+use crate::cells::are_blank;
 use crate::cells::next_spot;
 use crate::cells::shown_at;
+use crate::cells::spot_after;
 use crate::cells::start;
 use crate::glyph::glyph_part;
 use crate::glyph::load_glyph;
@@ -22,6 +24,7 @@ ghost use Rattle.model.specs.Flags.{flagBytes, flagsIn};
 ghost use Rattle.model.specs.Glyphs.{fonts, glyphOf, paint, columnStores};
 ghost use Rattle.model.specs.Flush.{topOf, rightOf, flagAt, glyphStores, shownStores, textStores};
 ghost use Rattle.flush.specs.Fits.{glyphFits, shownFits, textFits};
+ghost use Rattle.flush.specs.Painted.{LeftFits, PaintedTo};
 ghost use Rattle.flush.specs.Rooms.{TextScreen, SpotRoom, PairRoom, ShownRoom, isHexadecimal};
 
 // The screen byte at the top of a spot's column.
@@ -158,6 +161,55 @@ fn paint_shown<'a>(
     }
 }
 
+// The rest of a row, from a spot on, and the spot below it where the walk goes on. Where all its cells are blank they are stepped over at once.
+fn paint_row<'a>(
+    columns: usize,
+    rows: usize,
+    screen: &mut [u8],
+    text: &[u8],
+    cells: usize,
+    flags: &[u8],
+    version: u8,
+    ascii8: &[u8],
+    ascii16: &[u8],
+    gb: &'a [u8],
+    emoji: &'a [u8],
+    list: &[u8],
+    extra: &'a [u8],
+    from: Spot,
+) -> Spot
+    requires { ⌜ TextScreen columns rows (now screen) ⌝ }
+    requires { ⌜ LeftFits columns rows (now text) version (fonts (now ascii8) (now ascii16) (now gb) (now emoji) (now list) (now extra)) from ⌝ }
+    requires { ⌜ (from .row < rows) × (length (now flags) ≡ flagBytes cells) ⌝ }
+    ensures { λ r. ⌜ PaintedTo columns rows (now (text .entry)) (flagsIn cells (now (flags .entry))) version (fonts (now (ascii8 .entry)) (now (ascii16 .entry)) (now (gb .entry)) (now (emoji .entry)) (now (list .entry)) (now (extra .entry))) from (now (screen .entry)) r (now (screen .exit)) × (from .row < r .row) ⌝ }
+{
+    let count = columns - from.column;
+    if are_blank(text, from.cell, count) {
+        return spot_after(columns, from, count);
+    }
+    let row = from.row;
+    let mut s = from;
+    while s.row == row {
+        let w = shown_at(columns, rows, text, s);
+        paint_shown(
+            columns,
+            screen,
+            cells,
+            flags,
+            version,
+            ascii8,
+            ascii16,
+            gb,
+            emoji,
+            list,
+            extra,
+            w,
+        );
+        s = next_spot(columns, w);
+    }
+    s
+}
+
 // The whole text, once its glyphs are known to be there.
 pub fn paint_text<'a>(
     columns: usize,
@@ -181,10 +233,11 @@ pub fn paint_text<'a>(
     let cells = rows * columns;
     let mut s = start();
     while s.row < rows {
-        let w = shown_at(columns, rows, text, s);
-        paint_shown(
+        s = paint_row(
             columns,
+            rows,
             screen,
+            text,
             cells,
             flags,
             version,
@@ -194,8 +247,7 @@ pub fn paint_text<'a>(
             emoji,
             list,
             extra,
-            w,
+            s,
         );
-        s = next_spot(columns, w);
     }
 }

@@ -2,13 +2,14 @@
 use mathlib.Core.Path.{_≡_, refl, sym, ap, _∙_}
 use mathlib.Core.Bool.{true, false, _&&_}
 use mathlib.Core.List.{List, [], _∷_}
-use Prim.Native.Nat.{ℕ, _+_, _-_, _*_, _/_, _≤_}
+use Prim.Native.Nat.{ℕ, zero, suc, _+_, _-_, _*_, _/_, _≤_, _<_}
 use native.Mathlib.Omega.{arith}
+use borrow.Author.Tests.{ne-eqb}
 use lib.Dec.{leb}
 use lib.ListN.{length}
 use Rattle.model.specs.declared.Found.{Found}
 use Rattle.model.specs.declared.Found.the-variants.{At, Nothing}
-use Rattle.model.specs.Codes.{indexIn, emojiIndex, gbRow, gbIndex, extraFrom, extraOffset}
+use Rattle.model.specs.Codes.{CodeRow, emojiRows, inRow, indexIn, emojiIndex, gbRow, gbIndex, extraFrom, extraOffset}
 use Rattle.model.specs.declared.Glyph.{Glyph}
 use Rattle.model.specs.declared.Glyph.the-variants.{Emoji, Gb, Extra, Hexadecimal}
 use Rattle.model.specs.Glyphs.{glyphOr, glyphOf}
@@ -19,6 +20,22 @@ use Rattle.laws.specs.Tests.{tests, all-true}
 pub no-row : (before lead trail : ℕ) → Nothing ≡ indexIn [] before lead trail
 unfolding indexIn
 no-row before lead trail = refl
+
+-- every row has a greater lead
+abbrev Above : ℕ → List CodeRow → Type 0
+Above lead [] = Unit {0}
+Above lead (r ∷ rs) = (lead < r .lead) × Above lead rs
+
+above-none : (rs : List CodeRow) (before lead trail : ℕ) → Above lead rs → Nothing ≡ indexIn rs before lead trail
+unfolding indexIn inRow
+above-none [] before lead trail h = refl
+above-none (r ∷ rs) before lead trail h =
+    rw (ne-eqb lead (r .lead) (λ e. absurd (omega arith))) (above-none rs (before + (r .last + 1 - r .first)) lead trail (h .1))
+
+pub no-emoji : (version lead trail : ℕ) → lead < 248 → Nothing ≡ emojiIndex version lead trail
+unfolding emojiIndex
+no-emoji zero lead trail h = above-none (emojiRows 0) 0 lead trail (omega arith)
+no-emoji (suc n) lead trail h = above-none (emojiRows 1) 0 lead trail (omega arith)
 
 pub gb-from : (lead trail : ℕ) → (((leb 161 lead && leb lead 247) && leb 161 trail) && leb trail 254) ≡ true → (161 ≤ lead) × (161 ≤ trail)
 gb-from lead trail e = let a = all-true (leb 161 lead ∷ leb lead 247 ∷ leb 161 trail ∷ leb trail 254 ∷ []) e in (omega (arith, tests), omega (arith, tests))

@@ -71,9 +71,16 @@ fn index_v2(lead: u8, trail: u8) -> Found
     Found::Nothing
 }
 
+// The least lead of an emoji, in either version.
+const EMOJI_LEAD: u8 = 248;
+
+// The rows are searched for such leads alone.
 fn emoji_index(version: u8, lead: u8, trail: u8) -> Found
     ensures { λ r. ⌜ r ≡ emojiIndex version lead trail ⌝ }
 {
+    if lead < EMOJI_LEAD {
+        return Found::Nothing;
+    }
     if version == 0 {
         return index_v1(lead, trail);
     }

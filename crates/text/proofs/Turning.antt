@@ -7,7 +7,7 @@ use native.Mathlib.Nat.{mul-le-mul-right}
 use native.Mathlib.Omega.{arith}
 use lib.Dec.{leb, ltb}
 use lib.ListN.{length, getD, set, drop, length-set, List·getD-eq-default}
-use borrow.Author.Tests.{leb-true, ltb-true, eq-eqb, ne-eqb}
+use borrow.Author.Tests.{leb-true, ltb-true, le-leb, lt-leb, eq-eqb, ne-eqb}
 use Rattle.model.specs.Flags.{flagsIn}
 use Rattle.model.specs.Print.{screenScrolls, Page, printByte, printPair, printBytes, scrolled, scrolledTimes, clearUntil, clearFrom, clearAfter, printOn}
 use Rattle.laws.specs.Tests.{and-true}
@@ -20,19 +20,24 @@ use Rattle.text.proofs.Writing.{has-cell}
 
 -- ---- a turn: a byte >= 128 that isn't the last takes the next with it
 
-pub leads : (b i n : ℕ) → (leb 128 b && ltb i n) ≡ true → 128 ≤ b
-leads b i n e = leb-true 128 b (and-true (leb 128 b) (ltb i n) e .0)
+module _ (bs : List ℕ) (i : ℕ) where
+  pub takes-next : 128 ≤ getD bs i 0 → ltb (i + 1) (length bs) ≡ true → (leb 128 (getD bs i 0) && ltb (i + 1) (length bs)) ≡ true
+  takes-next h e = rw (le-leb 128 (getD bs i 0) h) e
 
-pub next-in : (b i n : ℕ) → (leb 128 b && ltb i n) ≡ true → i < n
-next-in b i n e = ltb-true i n (and-true (leb 128 b) (ltb i n) e .1)
+  pub last-alone : 128 ≤ getD bs i 0 → ltb (i + 1) (length bs) ≡ false → (leb 128 (getD bs i 0) && ltb (i + 1) (length bs)) ≡ false
+  last-alone h e = rw (le-leb 128 (getD bs i 0) h) e
+
+  pub low-alone : getD bs i 0 < 128 → (leb 128 (getD bs i 0) && ltb (i + 1) (length bs)) ≡ false
+  low-alone h = rw (lt-leb 128 (getD bs i 0) h)
 
 module _ (rows columns : ℕ) (t f : List ℕ) (p : Place) (bs : List ℕ) (i : ℕ) (v : Bool) where
   pub pair-taken : {s g : List ℕ} {q : Place} → Ready rows columns 1 t f p → (leb 128 (getD bs i 0) && ltb (i + 1) (length bs)) ≡ true
       → Written (printPair rows columns v (getD bs i 0) (getD bs (i + 1) 0) (page t f p)) (p .scrolls + 2) s g q
       → Printed rows columns v bs i t f p s g (record { place = q; at = i + 2 })
   pair-taken r e w =
-      let h = leads (getD bs i 0) (i + 1) (length bs) e in
-      let l = next-in (getD bs i 0) (i + 1) (length bs) e in
+      let a = and-true (leb 128 (getD bs i 0)) (ltb (i + 1) (length bs)) e in
+      let h = leb-true 128 (getD bs i 0) (a .0) in
+      let l = ltb-true (i + 1) (length bs) (a .1) in
       record {
         ready = record { sheet = rw (w .page) (pair-sheet rows columns v (getD bs i 0) (getD bs (i + 1) 0) (page t f p) h (r .sheet)); flags = w .flags };
         more = omega arith;

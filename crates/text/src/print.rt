@@ -108,7 +108,7 @@ fn print_at(
     ensures { λ r. ⌜ Printed rows columns inverse (now (from .entry)) at (now (text .entry)) (now (flags .entry)) p (now (text .exit)) (now (flags .exit)) r ⌝ }
 {
     let b = from[at];
-    if (b >= 128) & (at + 1 < from.len()) {
+    if b >= 128 && at + 1 < from.len() {
         let c = from[at + 1];
         let q = print_pair(rows, columns, text, flags, p, b, c, inverse);
         return Turn {
