@@ -19,7 +19,7 @@ use Rattle.script.specs.declared.LineOrEnd.{LineOrEnd}
 use Rattle.script.specs.declared.LineOrEnd.the-variants.{Line as LineHere, End}
 use Rattle.script.specs.Meaning.{meaning, standing}
 use Rattle.script_run.specs.declared.Progress.{Progress}
-use Rattle.script_run.specs.Buffers.{Wrote, Answered, herePrints, hereLeaves, numberAfter, goesOn, WentOn}
+use Rattle.script_run.specs.Buffers.{Wrote, Answered, nextPrints, nextLeaves, numberAfter, hasLine, AnsweredNext}
 use Rattle.script_run.proofs.Writing.{wrote-as}
 
 -- ---- what a code and numbers print
@@ -163,19 +163,19 @@ bad-answered f n at l o o′ b e w = rw e (record { wrote = w; left = refl })
 -- ---- what stands at a place
 
 module _ (p : Progress) (s : LineOrEnd) (f : Form) (o : List ℕ) (l : Lent) (h : s ≡ LineHere f) where
-  pub line-room : p .end + length (herePrints (p .n) (standing s) l) ≤ length o → p .end + length (linePrints (p .n) (meaning f) l) ≤ length o
-  unfolding standing herePrints
-  line-room r = rw h at r
+  pub next-line-room : p .end + length (nextPrints (p .n) (standing s) l) ≤ length o → p .end + length (linePrints (p .n) (meaning f) l) ≤ length o
+  unfolding standing nextPrints
+  next-line-room r = rw h at r
 
-  pub line-went : (o′ : List ℕ) (l′ : Lent) (e : ℕ) → Answered (p .n) (meaning f) (p .end) o l o′ l′ e → WentOn p (standing s) o l o′ l′ (record { n = p .n + 1; end = e; running = true })
-  unfolding standing herePrints hereLeaves numberAfter goesOn
-  line-went o′ l′ e a = rw h (record { wrote = a .wrote; left = a .left; number = refl; running = refl })
+  pub next-line-answered : (o′ : List ℕ) (l′ : Lent) (e : ℕ) → Answered (p .n) (meaning f) (p .end) o l o′ l′ e → AnsweredNext p (standing s) o l o′ l′ (record { n = p .n + 1; end = e; running = true })
+  unfolding standing nextPrints nextLeaves numberAfter hasLine
+  next-line-answered o′ l′ e a = rw h (record { wrote = a .wrote; left = a .left; number = refl; running = refl })
 
 module _ (p : Progress) (s : LineOrEnd) (o : List ℕ) (l : Lent) (h : s ≡ End) where
-  pub end-room : p .end + length (herePrints (p .n) (standing s) l) ≤ length o → p .end + length (ending l) ≤ length o
-  unfolding standing herePrints
-  end-room r = rw h at r
+  pub next-end-room : p .end + length (nextPrints (p .n) (standing s) l) ≤ length o → p .end + length (ending l) ≤ length o
+  unfolding standing nextPrints
+  next-end-room r = rw h at r
 
-  pub end-went : (o′ : List ℕ) (e : ℕ) → Wrote (p .end) (ending l) o o′ e → WentOn p (standing s) o l o′ l (record { n = p .n; end = e; running = false })
-  unfolding standing herePrints hereLeaves numberAfter goesOn
-  end-went o′ e w = rw h (record { wrote = w; left = refl; number = refl; running = refl })
+  pub next-end-answered : (o′ : List ℕ) (e : ℕ) → Wrote (p .end) (ending l) o o′ e → AnsweredNext p (standing s) o l o′ l (record { n = p .n; end = e; running = false })
+  unfolding standing nextPrints nextLeaves numberAfter hasLine
+  next-end-answered o′ e w = rw h (record { wrote = w; left = refl; number = refl; running = refl })

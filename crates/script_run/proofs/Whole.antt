@@ -31,7 +31,7 @@ use Rattle.script.specs.Meaning.{standing}
 use Rattle.script.specs.Lines.{linesFrom}
 use Rattle.script.proofs.Splitting.{first-reads, others-read, read-le}
 use Rattle.script_run.specs.declared.Progress.{Progress}
-use Rattle.script_run.specs.Buffers.{Wrote, BuffersSized, herePrints, hereLeaves, numberAfter, goesOn, WentOn}
+use Rattle.script_run.specs.Buffers.{Wrote, BuffersSized, nextPrints, nextLeaves, numberAfter, hasLine, AnsweredNext}
 use Rattle.script_run.proofs.Writing.{wrote-as, wrote-length}
 
 -- ---- the last line
@@ -83,10 +83,10 @@ module _ (t o₀ o : List ℕ) (l : Lent) (n end : ℕ) where
       ∙ ap (λ (i : ℕ). withWindow i u (withWindow 0 (take end t) o₀)) (sym (zero-add end))
       ∙ window-extend 0 end (take end t) u o₀ (length-take-le end t (k .within)) (omega arith)
 
-  pub here-room : (xs : List ScriptLine) → Ran t o₀ o l xs n end → end + length (herePrints n (take 1 xs) l) ≤ length o
-  unfolding herePrints runLinesFrom
-  here-room [] k = omega (arith, k .within, k .room, length-drop end t, ap length (k .left))
-  here-room (x ∷ xs) k = omega (arith, k .within, k .room, length-drop end t, ap length (k .left), length-append (linePrints n x l) (runLinesFrom (n + 1) xs (lineLeaves x l)))
+  pub next-room : (xs : List ScriptLine) → Ran t o₀ o l xs n end → end + length (nextPrints n (take 1 xs) l) ≤ length o
+  unfolding nextPrints runLinesFrom
+  next-room [] k = omega (arith, k .within, k .room, length-drop end t, ap length (k .left))
+  next-room (x ∷ xs) k = omega (arith, k .within, k .room, length-drop end t, ap length (k .left), length-append (linePrints n x l) (runLinesFrom (n + 1) xs (lineLeaves x l)))
 
   -- no line is left: the last line is written
   ran-end : Ran t o₀ o l [] n end → (o′ : List ℕ) (b : ℕ) → Wrote end (ending l) o o′ b → Wrote 0 t o₀ o′ b
@@ -98,7 +98,7 @@ module _ (t o₀ o : List ℕ) (l : Lent) (n end : ℕ) where
   }
 
   ran-turn : (x : ScriptLine) (xs : List ScriptLine) → Ran t o₀ o l (x ∷ xs) n end → (o′ : List ℕ) (l′ : Lent) (b : ℕ) → Wrote end (linePrints n x l) o o′ b → l′ ≡ lineLeaves x l → Ran t o₀ o′ l′ xs (n + 1) b
-  unfolding runLinesFrom herePrints
+  unfolding runLinesFrom nextPrints
   ran-turn x xs k o′ l′ b w e =
       let said = linePrints n x l in
       let others = runLinesFrom (n + 1) xs (lineLeaves x l) in
@@ -113,7 +113,7 @@ module _ (t o₀ o : List ℕ) (l : Lent) (n end : ℕ) where
         left = back ∙ ap (runLinesFrom (n + 1) xs) (sym e);
         within = omega (arith, counted, w .end);
         few = omega (arith, k .few);
-        room = omega (arith, k .room, wrote-length end said o o′ b (here-room (x ∷ xs) k) w);
+        room = omega (arith, k .room, wrote-length end said o o′ b (next-room (x ∷ xs) k) w);
       }
 
 -- ---- where a run stands: lines are to come, or all is written
@@ -127,14 +127,14 @@ abbrev pub turnsLeft : Bool → List ScriptLine → ℕ
 turnsLeft true xs = suc (length xs)
 turnsLeft false xs = 0
 
-went-on : (t o₀ o : List ℕ) (l : Lent) (xs : List ScriptLine) (p : Progress) → Ran t o₀ o l xs (p .n) (p .end) → (o′ : List ℕ) (l′ : Lent) (q : Progress) → WentOn p (take 1 xs) o l o′ l′ q
+goes-on : (t o₀ o : List ℕ) (l : Lent) (xs : List ScriptLine) (p : Progress) → Ran t o₀ o l xs (p .n) (p .end) → (o′ : List ℕ) (l′ : Lent) (q : Progress) → AnsweredNext p (take 1 xs) o l o′ l′ q
     → Stands (q .running) t o₀ o′ l′ (drop 1 xs) (q .n) (q .end)
-unfolding herePrints hereLeaves numberAfter goesOn
-went-on t o₀ o l [] p k o′ l′ q w = rw (w .running) (ran-end t o₀ o l (p .n) (p .end) k o′ (q .end) (w .wrote))
-went-on t o₀ o l (x ∷ xs) p k o′ l′ q w = rw (w .running, w .number) (ran-turn t o₀ o l (p .n) (p .end) x xs k o′ l′ (q .end) (w .wrote) (w .left))
+unfolding nextPrints nextLeaves numberAfter hasLine
+goes-on t o₀ o l [] p k o′ l′ q w = rw (w .running) (ran-end t o₀ o l (p .n) (p .end) k o′ (q .end) (w .wrote))
+goes-on t o₀ o l (x ∷ xs) p k o′ l′ q w = rw (w .running, w .number) (ran-turn t o₀ o l (p .n) (p .end) x xs k o′ l′ (q .end) (w .wrote) (w .left))
 
-fewer-turns : (xs : List ScriptLine) (b : Bool) → b ≡ goesOn (take 1 xs) → turnsLeft b (drop 1 xs) < turnsLeft true xs
-unfolding goesOn
+fewer-turns : (xs : List ScriptLine) (b : Bool) → b ≡ hasLine (take 1 xs) → turnsLeft b (drop 1 xs) < turnsLeft true xs
+unfolding hasLine
 fewer-turns [] b e = rw e (omega arith)
 fewer-turns (x ∷ xs) b e = rw e (omega arith)
 
@@ -166,15 +166,15 @@ module _ (s o₀ r₀ m₀ v₀ : List ℕ) where
     first-is : standing t ≡ take 1 (readScript (drop at s))
     first-is = e ∙ first-reads at s
 
-    pub turn-room : p .end + length (herePrints (p .n) (standing t) (lent r m v)) ≤ length o
-    turn-room = rw first-is (here-room text o₀ o (lent r m v) (p .n) (p .end) (readScript (drop at s)) k)
+    pub turn-room : p .end + length (nextPrints (p .n) (standing t) (lent r m v)) ≤ length o
+    turn-room = rw first-is (next-room text o₀ o (lent r m v) (p .n) (p .end) (readScript (drop at s)) k)
 
-    module _ (at′ : ℕ) (f : linesFrom at′ s ≡ drop 1 (linesFrom at s)) (o′ r′ m′ v′ : List ℕ) (q : Progress) (w : WentOn p (standing t) o (lent r m v) o′ (lent r′ m′ v′) q) where
+    module _ (at′ : ℕ) (f : linesFrom at′ s ≡ drop 1 (linesFrom at s)) (o′ r′ m′ v′ : List ℕ) (q : Progress) (w : AnsweredNext p (standing t) o (lent r m v) o′ (lent r′ m′ v′) q) where
       pub turn-stands : Stands (q .running) text o₀ o′ (lent r′ m′ v′) (readScript (drop at′ s)) (q .n) (q .end)
-      turn-stands = rw (others-read at at′ s f) (went-on text o₀ o (lent r m v) (readScript (drop at s)) p k o′ (lent r′ m′ v′) q (rw first-is at w))
+      turn-stands = rw (others-read at at′ s f) (goes-on text o₀ o (lent r m v) (readScript (drop at s)) p k o′ (lent r′ m′ v′) q (rw first-is at w))
 
       pub turn-fewer : turnsLeft (q .running) (readScript (drop at′ s)) < turnsLeft true (readScript (drop at s))
-      turn-fewer = rw (others-read at at′ s f) (fewer-turns (readScript (drop at s)) (q .running) (w .running ∙ ap goesOn first-is))
+      turn-fewer = rw (others-read at at′ s f) (fewer-turns (readScript (drop at s)) (q .running) (w .running ∙ ap hasLine first-is))
 
 -- ---- the whole text
 

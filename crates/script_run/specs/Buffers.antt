@@ -34,25 +34,25 @@ started = record { n = 1; end = 0; running = true }
 
 -- ---- what stands at a place, answered: its one line, or at the end, where none stands, the last line of print
 
-unfoldable pub herePrints : ℕ → List ScriptLine → Lent → List ℕ
-herePrints n [] l = ending l
-herePrints n (x ∷ xs) l = linePrints n x l
+unfoldable pub nextPrints : ℕ → List ScriptLine → Lent → List ℕ
+nextPrints n [] l = ending l
+nextPrints n (x ∷ xs) l = linePrints n x l
 
-unfoldable pub hereLeaves : List ScriptLine → Lent → Lent
-hereLeaves [] l = l
-hereLeaves (x ∷ xs) l = lineLeaves x l
+unfoldable pub nextLeaves : List ScriptLine → Lent → Lent
+nextLeaves [] l = l
+nextLeaves (x ∷ xs) l = lineLeaves x l
 
 unfoldable pub numberAfter : ℕ → List ScriptLine → ℕ
 numberAfter n [] = n
 numberAfter n (x ∷ xs) = n + 1
 
-unfoldable pub goesOn : List ScriptLine → Bool
-goesOn [] = false
-goesOn (x ∷ xs) = true
+unfoldable pub hasLine : List ScriptLine → Bool
+hasLine [] = false
+hasLine (x ∷ xs) = true
 
 -- a run has gone on from p to q by answering it
-pub record WentOn (p : Progress) (xs : List ScriptLine) (o : List ℕ) (l : Lent) (o′ : List ℕ) (l′ : Lent) (q : Progress) : Type 0 where
-  pub wrote : Wrote (p .end) (herePrints (p .n) xs l) o o′ (q .end)
-  pub left : l′ ≡ hereLeaves xs l
+pub record AnsweredNext (p : Progress) (xs : List ScriptLine) (o : List ℕ) (l : Lent) (o′ : List ℕ) (l′ : Lent) (q : Progress) : Type 0 where
+  pub wrote : Wrote (p .end) (nextPrints (p .n) xs l) o o′ (q .end)
+  pub left : l′ ≡ nextLeaves xs l
   pub number : q .n ≡ numberAfter (p .n) xs
-  pub running : q .running ≡ goesOn xs
+  pub running : q .running ≡ hasLine xs

@@ -16,7 +16,7 @@ ghost use Rattle.model.specs.Calls.{lent, sentNumbers};
 ghost use Rattle.model.specs.Script.Read.{readScript};
 ghost use Rattle.model.specs.Script.Output.{said, linePrints, ending, runLines, longest, scriptText};
 ghost use Rattle.script.specs.Meaning.{meaning, standing};
-ghost use Rattle.script_run.specs.Buffers.{Wrote, BuffersSized, Answered, started, herePrints, WentOn};
+ghost use Rattle.script_run.specs.Buffers.{Wrote, BuffersSized, Answered, started, nextPrints, AnsweredNext};
 
 const GRAPHICS_BASE: u16 = 4096;
 
@@ -109,7 +109,7 @@ fn start() -> Progress
 }
 
 // What stands at the reader's place is answered: a line by its call, the end of the script by the last line. The four buffers are lent for one call.
-fn answer<'a>(
+fn answer_next<'a>(
     out: &'a mut [u8],
     p: Progress,
     s: LineOrEnd,
@@ -117,8 +117,8 @@ fn answer<'a>(
     memory: &'a mut [u8],
     panel: &'a mut [u8],
 ) -> Progress
-    requires { ⌜ BuffersSized (now rec) (now memory) (now panel) × (p .n + 1 < 2 ^ 32) × (p .end + length (herePrints (p .n) (standing s) (lent (now rec) (now memory) (now panel))) ≤ length (now out)) ⌝ }
-    ensures { λ q. ⌜ WentOn p (standing s) (now (out .entry)) (lent (now (rec .entry)) (now (memory .entry)) (now (panel .entry))) (now (out .exit)) (lent (now (rec .exit)) (now (memory .exit)) (now (panel .exit))) q ⌝ }
+    requires { ⌜ BuffersSized (now rec) (now memory) (now panel) × (p .n + 1 < 2 ^ 32) × (p .end + length (nextPrints (p .n) (standing s) (lent (now rec) (now memory) (now panel))) ≤ length (now out)) ⌝ }
+    ensures { λ q. ⌜ AnsweredNext p (standing s) (now (out .entry)) (lent (now (rec .entry)) (now (memory .entry)) (now (panel .entry))) (now (out .exit)) (lent (now (rec .exit)) (now (memory .exit)) (now (panel .exit))) q ⌝ }
 {
     let n = p.n;
     match s {
@@ -158,7 +158,7 @@ fn run_lines(
     let mut p = start();
     while p.running {
         let s = reader::next(r);
-        p = answer(out, p, s, rec, memory, panel);
+        p = answer_next(out, p, s, rec, memory, panel);
         r = reader::after_line(r);
     }
     p.end

@@ -1,13 +1,13 @@
 use borrow.Author.Needs.{needs}
-use Rattle.script_run.proofs.Running.{line-room, line-went, end-room, end-went}
-use Rattle.script_run.proofs.runner.answer.Statement.{statement}
-use Rattle.script_run.proofs.runner.answer.Tie as tie
+use Rattle.script_run.proofs.Running.{next-line-room, next-line-answered, next-end-room, next-end-answered}
+use Rattle.script_run.proofs.runner.answer_next.Statement.{statement}
+use Rattle.script_run.proofs.runner.answer_next.Tie as tie
 
 enum-known-s : tie.Need-enum-known-s
 enum-known-s c = search needs
 
 answer-line-requires : tie.Need-answer-line-requires
-answer-line-requires c κs = search line-room
+answer-line-requires c κs = search next-line-room
 
 add-t20 : tie.Need-add-t20
 add-t20 c = search needs
@@ -16,7 +16,7 @@ enum-told : tie.Need-enum-told
 enum-told c = search needs
 
 put-ending-requires : tie.Need-put-ending-requires
-put-ending-requires c κs = (search needs, search end-room)
+put-ending-requires c κs = (search needs, search next-end-room)
 
 same-length : tie.Need-same-length
 same-length c = search needs
@@ -31,7 +31,7 @@ same-length-4 : tie.Need-same-length-4
 same-length-4 c = search needs
 
 returns : tie.Need-returns
-returns c = search line-went
+returns c = search next-line-answered
 
 same-length-5 : tie.Need-same-length-5
 same-length-5 c = search needs
@@ -46,10 +46,10 @@ same-length-8 : tie.Need-same-length-8
 same-length-8 c = search needs
 
 returns-2 : tie.Need-returns-2
-returns-2 c = search end-went
+returns-2 c = search next-end-answered
 
-pub answer-spec : {M : Type 1} → statement M
-answer-spec =
+pub answer-next-spec : {M : Type 1} → statement M
+answer-next-spec =
     tie.close
     (tie.spec
     enum-known-s
