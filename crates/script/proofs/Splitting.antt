@@ -1,5 +1,5 @@
 -- A script's lines, one after another: the first line ends at the first newline, and the others follow it.
-use mathlib.Core.Path.{_≡_, sym, ap, _∙_}
+use mathlib.Core.Path.{_≡_, refl, sym, ap, _∙_}
 use mathlib.Core.List.{List, [], _∷_, map}
 use mathlib.Core.Bool.{cond}
 use Prim.Native.Nat.{ℕ, suc, _+_, _-_, _≤_, _<_}
@@ -13,9 +13,9 @@ use borrow.Author.Tests.{eq-eqb, ne-eqb}
 use Rattle.model.specs.Script.Read.{ScriptLine, onFirst, scriptLines, readLine, readScript}
 use Rattle.laws.specs.Tests.{by-test}
 use Rattle.script.specs.declared.Form.{Form}
-use Rattle.script.specs.declared.LineOrEnd.the-variants.{Line as LineAt, End}
-use Rattle.script.specs.Meaning.{meaning, readOf}
-use Rattle.script.specs.Ends.{lineLength}
+use Rattle.script.specs.declared.LineOrEnd.the-variants.{Line as LineHere, End}
+use Rattle.script.specs.Meaning.{meaning, standing}
+use Rattle.script.specs.Lines.{lineLength, linesFrom}
 
 -- ---- where a line ends: k is what the walk from i on adds up to
 
@@ -40,22 +40,52 @@ unfolding scriptLines lineLength onFirst
 first b [] = by-test (eqb b (code "\n")) (λ e. rw e) (λ e. rw e)
 first b (a ∷ s) = by-test (eqb b (code "\n")) (λ e. rw e) (λ e. rw e (ap (onFirst b) (first a s)))
 
+first-line : (s : List ℕ) (at : ℕ) → at < length s → linesFrom at s ≡ take (lineLength (drop at s)) (drop at s) ∷ linesFrom (at + suc (lineLength (drop at s))) s
+unfolding linesFrom
+first-line s at h =
+    let c = drop-cons s at 0 h in
+    ap scriptLines c ∙ first (getD s at 0) (drop (suc at) s)
+    ∙ sym (ap (λ (l : List ℕ). take (lineLength l) l ∷ scriptLines (drop (suc (lineLength l)) l)) c)
+    ∙ ap (λ (l : List ℕ). take (lineLength (drop at s)) (drop at s) ∷ scriptLines l) (drop-drop (suc (lineLength (drop at s))) at s)
+
 pub line-read : (s : List ℕ) (at end : ℕ) (f : Form) → at < length s → end ≡ at + lineLength (drop at s) → meaning f ≡ readLine (take (end - at) (drop at s))
-    → readOf s (LineAt f (end + 1)) ≡ readScript (drop at s)
-unfolding readScript readOf
+    → standing (LineHere f) ≡ map readLine (take 1 (linesFrom at s))
+unfolding standing
 line-read s at end f h e m =
     let n : end - at ≡ lineLength (drop at s) = omega arith in
-    let k : end + 1 ≡ at + suc (lineLength (drop at s)) = omega arith in
-    let c = drop-cons s at 0 h in
-    ap (λ (x : ScriptLine). x ∷ map readLine (scriptLines (drop (end + 1) s))) (m ∙ ap (λ (i : ℕ). readLine (take i (drop at s))) n)
-    ∙ ap (λ (i : ℕ). readLine (take (lineLength (drop at s)) (drop at s)) ∷ map readLine (scriptLines (drop i s))) k
-    ∙ ap (λ (l : List ℕ). readLine (take (lineLength (drop at s)) (drop at s)) ∷ map readLine (scriptLines l)) (sym (drop-drop (suc (lineLength (drop at s))) at s))
-    ∙ ap (λ (l : List ℕ). readLine (take (lineLength l) l) ∷ map readLine (scriptLines (drop (suc (lineLength l)) l))) c
-    ∙ sym (ap (map readLine) (ap scriptLines c ∙ first (getD s at 0) (drop (suc at) s)))
+    ap (λ (x : ScriptLine). x ∷ []) (m ∙ ap (λ (i : ℕ). readLine (take i (drop at s))) n)
+    ∙ sym (ap (λ (ls : List (List ℕ)). map readLine (take 1 ls)) (first-line s at h))
 
-pub end-read : (s : List ℕ) (at : ℕ) → length s ≤ at → readOf s End ≡ readScript (drop at s)
-unfolding readScript readOf scriptLines
+pub end-read : (s : List ℕ) (at : ℕ) → length s ≤ at → standing End ≡ map readLine (take 1 (linesFrom at s))
+unfolding standing linesFrom scriptLines
 end-read s at h = rw (drop-of-length-le s h)
+
+pub after-read : (s : List ℕ) (at next : ℕ) → at < length s → next ≡ at + lineLength (drop at s) + 1 → linesFrom next s ≡ drop 1 (linesFrom at s)
+after-read s at next h e =
+    let n : next ≡ at + suc (lineLength (drop at s)) = omega arith in
+    ap (λ (i : ℕ). linesFrom i s) n ∙ sym (ap (drop 1) (first-line s at h))
+
+pub stays-read : (s : List ℕ) (at : ℕ) → length s ≤ at → linesFrom at s ≡ drop 1 (linesFrom at s)
+unfolding linesFrom scriptLines
+stays-read s at h = rw (drop-of-length-le s h)
+
+-- ---- what the first line and the others read as
+
+pub first-reads : (at : ℕ) (s : List ℕ) → map readLine (take 1 (linesFrom at s)) ≡ take 1 (readScript (drop at s))
+unfolding readScript linesFrom
+first-reads at s = go (scriptLines (drop at s))
+  where
+    go : (ls : List (List ℕ)) → map readLine (take 1 ls) ≡ take 1 (map readLine ls)
+    go [] = refl
+    go (l ∷ ls) = refl
+
+pub others-read : (at next : ℕ) (s : List ℕ) → linesFrom next s ≡ drop 1 (linesFrom at s) → readScript (drop next s) ≡ drop 1 (readScript (drop at s))
+unfolding readScript linesFrom
+others-read at next s e = ap (map readLine) e ∙ go (scriptLines (drop at s))
+  where
+    go : (ls : List (List ℕ)) → map readLine (drop 1 ls) ≡ drop 1 (map readLine ls)
+    go [] = refl
+    go (l ∷ ls) = refl
 
 -- ---- no more lines than bytes
 

@@ -4,7 +4,7 @@ use mathlib.Core.List.{List, [], _∷_}
 use Prim.Native.Nat.{ℕ}
 use lib.ListN.{drop}
 use Rattle.model.specs.Calls.{drawPoint, drawLine, writeByte, send}
-use Rattle.model.specs.Script.Read.{Taken, tookNone, took, Match, unmatched, matchedWith, ScriptLine, callLine, badLine, readScript}
+use Rattle.model.specs.Script.Read.{Taken, tookNone, took, Match, unmatched, matchedWith, ScriptLine, callLine, badLine}
 use Rattle.script.specs.declared.Got.{Got}
 use Rattle.script.specs.declared.Got.the-variants.{Nothing, At}
 use Rattle.script.specs.declared.Number.{Number}
@@ -12,7 +12,7 @@ use Rattle.script.specs.declared.Fields.{Fields}
 use Rattle.script.specs.declared.Form.{Form}
 use Rattle.script.specs.declared.Form.the-variants.{Point, Line as LineForm, Poke, Send, Bad}
 use Rattle.script.specs.declared.LineOrEnd.{LineOrEnd}
-use Rattle.script.specs.declared.LineOrEnd.the-variants.{Line as LineAt, End}
+use Rattle.script.specs.declared.LineOrEnd.the-variants.{Line as LineHere, End}
 
 unfoldable pub takenOf : List ℕ → Got → Taken
 takenOf s Nothing = tookNone
@@ -34,7 +34,7 @@ meaning (Poke a v) = callLine (writeByte a v)
 meaning Send = callLine send
 meaning Bad = badLine
 
--- the lines from a place on
-unfoldable pub readOf : List ℕ → LineOrEnd → List ScriptLine
-readOf s (LineAt f next) = meaning f ∷ readScript (drop next s)
-readOf s End = []
+-- what stands at a place: one line, or none
+unfoldable pub standing : LineOrEnd → List ScriptLine
+standing (LineHere f) = meaning f ∷ []
+standing End = []

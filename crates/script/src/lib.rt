@@ -36,8 +36,8 @@ pub enum Form {
     Bad,
 }
 
-// What stands at a place of a script: a line and the place after it, or the end.
+// What stands at a place of a script: a line, or the end.
 pub enum LineOrEnd {
-    Line(Form, usize),
+    Line(Form),
     End,
 }

@@ -2,3 +2,5 @@ pub mod Writing
 pub mod Running
 pub mod Whole
 pub mod Sizing
+pub mod Lending
+pub mod Locals

@@ -1,6 +1,7 @@
 -- What a line prints and leaves, from what its call answers.
 use mathlib.Core.Path.{_≡_, refl, sym, ap, subst, _∙_}
 use mathlib.Core.List.{List, [], _∷_}
+use mathlib.Core.Bool.{true, false}
 use Prim.Native.Nat.{ℕ, zero, suc, _+_, _≤_}
 use native.Mathlib.Omega.{arith}
 use borrow.Author.Tests.{eq-eqb, ne-eqb}
@@ -11,11 +12,14 @@ use Rattle.model.specs.Refusals.{refusal, ruled}
 use Rattle.model.specs.Calls.{Call, drawPoint, drawLine, writeByte, send, Lent, lent, Outcome, answered, sentNumbers, refusals, numbers, drawingWith, done, refused, outcome}
 use Rattle.model.specs.Characters.{bytesOf}
 use Rattle.model.specs.Script.Read.{callLine}
-use Rattle.model.specs.Script.Output.{printed, spaced, said, linePrints, lineLeaves}
+use Rattle.model.specs.Script.Output.{printed, spaced, said, linePrints, lineLeaves, ending}
 use Rattle.script.specs.declared.Form.{Form}
 use Rattle.script.specs.declared.Form.the-variants.{Point, Line as LineForm, Poke, Send, Bad}
-use Rattle.script.specs.Meaning.{meaning}
-use Rattle.script_run.specs.Buffers.{Wrote, Answered}
+use Rattle.script.specs.declared.LineOrEnd.{LineOrEnd}
+use Rattle.script.specs.declared.LineOrEnd.the-variants.{Line as LineHere, End}
+use Rattle.script.specs.Meaning.{meaning, standing}
+use Rattle.script_run.specs.declared.Progress.{Progress}
+use Rattle.script_run.specs.Buffers.{Wrote, Answered, nextPrints, nextLeaves, numberAfter, hasLine, AnsweredNext}
 use Rattle.script_run.proofs.Writing.{wrote-as}
 
 -- ---- what a code and numbers print
@@ -155,3 +159,23 @@ bad-room f n at l o e h = rw e at h
 pub bad-answered : (f : Form) (n at : ℕ) (l : Lent) (o o′ : List ℕ) (b : ℕ) → f ≡ Bad → Wrote at (printed (bytesOf "bad") (n ∷ [])) o o′ b → Answered n (meaning f) at o l o′ l b
 unfolding meaning linePrints lineLeaves
 bad-answered f n at l o o′ b e w = rw e (record { wrote = w; left = refl })
+
+-- ---- what stands at a place
+
+module _ (p : Progress) (s : LineOrEnd) (f : Form) (o : List ℕ) (l : Lent) (h : s ≡ LineHere f) where
+  pub next-line-room : p .end + length (nextPrints (p .n) (standing s) l) ≤ length o → p .end + length (linePrints (p .n) (meaning f) l) ≤ length o
+  unfolding standing nextPrints
+  next-line-room r = rw h at r
+
+  pub next-line-answered : (o′ : List ℕ) (l′ : Lent) (e : ℕ) → Answered (p .n) (meaning f) (p .end) o l o′ l′ e → AnsweredNext p (standing s) o l o′ l′ (record { n = p .n + 1; end = e; running = true })
+  unfolding standing nextPrints nextLeaves numberAfter hasLine
+  next-line-answered o′ l′ e a = rw h (record { wrote = a .wrote; left = a .left; number = refl; running = refl })
+
+module _ (p : Progress) (s : LineOrEnd) (o : List ℕ) (l : Lent) (h : s ≡ End) where
+  pub next-end-room : p .end + length (nextPrints (p .n) (standing s) l) ≤ length o → p .end + length (ending l) ≤ length o
+  unfolding standing nextPrints
+  next-end-room r = rw h at r
+
+  pub next-end-answered : (o′ : List ℕ) (e : ℕ) → Wrote (p .end) (ending l) o o′ e → AnsweredNext p (standing s) o l o′ l (record { n = p .n; end = e; running = false })
+  unfolding standing nextPrints nextLeaves numberAfter hasLine
+  next-end-answered o′ e w = rw h (record { wrote = w; left = refl; number = refl; running = refl })

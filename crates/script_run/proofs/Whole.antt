@@ -1,7 +1,8 @@
 -- A whole script: after each line what is written is the front of the text, and what is left of it is what the other lines print.
 use mathlib.Core.Path.{_≡_, refl, sym, ap, subst, _∙_}
-use mathlib.Core.List.{List, [], _∷_, _++_}
-use Prim.Native.Nat.{ℕ, _+_, _-_, _*_, _^_, _≤_, _<_}
+use mathlib.Core.List.{List, [], _∷_, _++_, map}
+use mathlib.Core.Bool.{Bool, true, false}
+use Prim.Native.Nat.{ℕ, suc, _+_, _-_, _*_, _^_, _≤_, _<_}
 use native.Mathlib.Nat.{zero-add}
 use native.Mathlib.Omega.{arith}
 use borrow.Author.Tests.{lt-ltb, le-ltb, eq-eqb}
@@ -18,19 +19,19 @@ use Rattle.model.specs.Refusals.{refusal, ruled}
 use Rattle.model.specs.Calls.{opening, Lent, lent, Outcome, answered, refusals, done, outcome}
 use Rattle.model.specs.Lists.{owedLines, linesLeft, differing}
 use Rattle.model.specs.Characters.{bytesOf}
-use Rattle.model.specs.Script.Read.{ScriptLine, readScript}
+use Rattle.model.specs.Script.Read.{ScriptLine, readLine, readScript}
 use Rattle.model.specs.Script.Output.{printed, spaced, linePrints, lineLeaves, graphicsBase, textBase, noKeys, opened, ending, runLinesFrom, runLines, longest, scriptText}
 use Rattle.laws.specs.Memory.{window-extend}
 use Rattle.laws.specs.Record.{panel-decoded}
 use Rattle.laws.specs.Windows.{pending-part}
 use Rattle.laws.specs.Panels.{hand-room}
 use Rattle.record.specs.Entry.{Chosen}
-use Rattle.script.specs.declared.Form.{Form}
 use Rattle.script.specs.declared.LineOrEnd.{LineOrEnd}
-use Rattle.script.specs.declared.LineOrEnd.the-variants.{Line as LineAt, End}
-use Rattle.script.specs.Meaning.{meaning, readOf}
-use Rattle.script_run.specs.Buffers.{Wrote, BuffersSized, Answered}
-use Rattle.script.proofs.Splitting.{read-le}
+use Rattle.script.specs.Meaning.{standing}
+use Rattle.script.specs.Lines.{linesFrom}
+use Rattle.script.proofs.Splitting.{first-reads, others-read, read-le}
+use Rattle.script_run.specs.declared.Progress.{Progress}
+use Rattle.script_run.specs.Buffers.{Wrote, BuffersSized, nextPrints, nextLeaves, numberAfter, hasLine, AnsweredNext}
 use Rattle.script_run.proofs.Writing.{wrote-as, wrote-length}
 
 -- ---- the last line
@@ -58,92 +59,122 @@ module _ (at : ℕ) (r m p : List ℕ) (d k : ℕ) (o : List ℕ) (e : d ≡ dif
   pub ending-written : (o′ : List ℕ) (b : ℕ) → Wrote at (printed (bytesOf "end") (d ∷ k ∷ [])) o o′ b → Wrote at (ending (lent r m p)) o o′ b
   ending-written o′ b w = wrote-as (sym ending-is) w
 
--- ---- after some lines
+-- ---- after some lines: xs are to come
 
-pub record Ran (s o₀ : List ℕ) (l₀ : Lent) (o : List ℕ) (l : Lent) (at n end : ℕ) : Type 0 where
-  pub written : o ≡ withWindow 0 (take end (runLines (readScript s) l₀)) o₀
-  pub left : drop end (runLines (readScript s) l₀) ≡ runLinesFrom n (readScript (drop at s)) l
-  pub within : end ≤ length (runLines (readScript s) l₀)
-  pub numbered : n + length (readScript (drop at s)) ≡ 1 + length (readScript s)
-  pub same : length o ≡ length o₀
+pub record Ran (t o₀ o : List ℕ) (l : Lent) (xs : List ScriptLine) (n end : ℕ) : Type 0 where
+  pub written : o ≡ withWindow 0 (take end t) o₀
+  pub left : drop end t ≡ runLinesFrom n xs l
+  pub within : end ≤ length t
+  pub few : n + length xs ≤ longest + 1
+  pub room : length t ≤ length o
 
-pub ran-start : (s o : List ℕ) (l : Lent) (n : ℕ) → n ≡ 1 → Ran s o l o l 0 n 0
+pub ran-start : (xs : List ScriptLine) (o : List ℕ) (l : Lent) → length xs ≤ longest → length (runLines xs l) ≤ length o → Ran (runLines xs l) o o l xs 1 0
 unfolding runLines withWindow
-ran-start s o l n e = rw e (record { written = refl; left = refl; within = omega arith; numbered = refl; same = refl })
+ran-start xs o l h r = record { written = refl; left = refl; within = omega arith; few = omega arith; room = r }
 
-next-line : (s : List ℕ) (at next : ℕ) (g : LineOrEnd) (f : Form) → readOf s g ≡ readScript (drop at s) → g ≡ LineAt f next → readScript (drop at s) ≡ meaning f ∷ readScript (drop next s)
-unfolding readOf
-next-line s at next g f e h = sym e ∙ ap (readOf s) h
+pub counts-on : (t o₀ o : List ℕ) (l : Lent) (xs : List ScriptLine) (n end : ℕ) → Ran t o₀ o l xs n end → n + 1 < 2 ^ 32
+counts-on t o₀ o l xs n end k = omega (arith, k .few)
 
-no-line : (s : List ℕ) (at : ℕ) (g : LineOrEnd) → readOf s g ≡ readScript (drop at s) → g ≡ End → readScript (drop at s) ≡ []
-unfolding readOf
-no-line s at g e h = sym e ∙ ap (readOf s) h
-
-module _ (s o₀ : List ℕ) (l₀ : Lent) (o : List ℕ) (l : Lent) (at n end : ℕ) (k : Ran s o₀ l₀ o l at n end) where
-  abbrev whole : List ℕ
-  whole = runLines (readScript s) l₀
-
+module _ (t o₀ o : List ℕ) (l : Lent) (n end : ℕ) where
   -- a text written after what stands
-  after : (t : List ℕ) {o′ : List ℕ} {e : ℕ} → Wrote end t o o′ e → o′ ≡ withWindow 0 (take end whole ++ t) o₀
-  after t w =
-      w .bytes ∙ ap (withWindow end t) (k .written)
-      ∙ ap (λ (i : ℕ). withWindow i t (withWindow 0 (take end whole) o₀)) (sym (zero-add end))
-      ∙ window-extend 0 end (take end whole) t o₀ (length-take-le end whole (k .within)) (omega arith)
+  after : (xs : List ScriptLine) → Ran t o₀ o l xs n end → (u : List ℕ) {o′ : List ℕ} {e : ℕ} → Wrote end u o o′ e → o′ ≡ withWindow 0 (take end t ++ u) o₀
+  after xs k u w =
+      w .bytes ∙ ap (withWindow end u) (k .written)
+      ∙ ap (λ (i : ℕ). withWindow i u (withWindow 0 (take end t) o₀)) (sym (zero-add end))
+      ∙ window-extend 0 end (take end t) u o₀ (length-take-le end t (k .within)) (omega arith)
 
-  module _ (next : ℕ) (g : LineOrEnd) (f : Form) (e : readOf s g ≡ readScript (drop at s)) (h : g ≡ LineAt f next) where
-    abbrev said : List ℕ
-    said = linePrints n (meaning f) l
+  pub next-room : (xs : List ScriptLine) → Ran t o₀ o l xs n end → end + length (nextPrints n (take 1 xs) l) ≤ length o
+  unfolding nextPrints runLinesFrom
+  next-room [] k = omega (arith, k .within, k .room, length-drop end t, ap length (k .left))
+  next-room (x ∷ xs) k = omega (arith, k .within, k .room, length-drop end t, ap length (k .left), length-append (linePrints n x l) (runLinesFrom (n + 1) xs (lineLeaves x l)))
 
-    abbrev others : List ℕ
-    others = runLinesFrom (n + 1) (readScript (drop next s)) (lineLeaves (meaning f) l)
+  -- no line is left: the last line is written
+  ran-end : Ran t o₀ o l [] n end → (o′ : List ℕ) (b : ℕ) → Wrote end (ending l) o o′ b → Wrote 0 t o₀ o′ b
+  unfolding runLinesFrom
+  ran-end k o′ b w = record {
+    bytes = after [] k (ending l) w
+        ∙ ap (λ (x : List ℕ). withWindow 0 x o₀) (ap (λ (x : List ℕ). take end t ++ x) (sym (k .left)) ∙ take-append-drop end t);
+    end = omega (arith, w .end, k .within, length-drop end t, ap length (k .left));
+  }
 
-    splits : drop end whole ≡ said ++ others
-    unfolding runLinesFrom
-    splits = k .left ∙ ap (λ (xs : List ScriptLine). runLinesFrom n xs l) (next-line s at next g f e h)
+  ran-turn : (x : ScriptLine) (xs : List ScriptLine) → Ran t o₀ o l (x ∷ xs) n end → (o′ : List ℕ) (l′ : Lent) (b : ℕ) → Wrote end (linePrints n x l) o o′ b → l′ ≡ lineLeaves x l → Ran t o₀ o′ l′ xs (n + 1) b
+  unfolding runLinesFrom nextPrints
+  ran-turn x xs k o′ l′ b w e =
+      let said = linePrints n x l in
+      let others = runLinesFrom (n + 1) xs (lineLeaves x l) in
+      let counted : length t ≡ end + (length said + length others) = omega (arith, k .within, length-drop end t, ap length (k .left), length-append said others) in
+      let front : take b t ≡ take end t ++ said =
+      ap (λ (i : ℕ). take i t) (w .end) ∙ take-add end (length said) t
+      ∙ ap (λ (y : List ℕ). take end t ++ take (length said) y) (k .left) ∙ ap (λ (y : List ℕ). take end t ++ y) (take-append-seam said others) in
+      let back : drop b t ≡ others =
+      ap (λ (i : ℕ). drop i t) (w .end) ∙ sym (drop-drop (length said) end t) ∙ ap (drop (length said)) (k .left) ∙ drop-append-seam said others in
+      record {
+        written = after (x ∷ xs) k said w ∙ ap (λ (y : List ℕ). withWindow 0 y o₀) (sym front);
+        left = back ∙ ap (runLinesFrom (n + 1) xs) (sym e);
+        within = omega (arith, counted, w .end);
+        few = omega (arith, k .few);
+        room = omega (arith, k .room, wrote-length end said o o′ b (next-room (x ∷ xs) k) w);
+      }
 
-    counted : length whole ≡ end + (length said + length others)
-    counted = omega (arith, k .within, length-drop end whole, ap length splits, length-append said others)
+-- ---- where a run stands: lines are to come, or all is written
 
-    pub line-room : length whole ≤ length o₀ → end + length said ≤ length o
-    line-room r = omega (arith, counted, k .same)
+abbrev pub Stands : Bool → List ℕ → List ℕ → List ℕ → Lent → List ScriptLine → ℕ → ℕ → Type 0
+Stands true t o₀ o l xs n end = Ran t o₀ o l xs n end
+Stands false t o₀ o l xs n end = Wrote 0 t o₀ o end
 
-    pub fewer : length (readScript (drop next s)) < length (readScript (drop at s))
-    fewer = omega (arith, ap length (next-line s at next g f e h))
+-- how many turns it takes to the end
+abbrev pub turnsLeft : Bool → List ScriptLine → ℕ
+turnsLeft true xs = suc (length xs)
+turnsLeft false xs = 0
 
-    pub ran-turn : (o′ : List ℕ) (l′ : Lent) (b : ℕ) → length whole ≤ length o₀ → Answered n (meaning f) end o l o′ l′ b → Ran s o₀ l₀ o′ l′ next (n + 1) b
-    ran-turn o′ l′ b r a =
-        let front : take b whole ≡ take end whole ++ said =
-        ap (λ (i : ℕ). take i whole) (a .wrote .end) ∙ take-add end (length said) whole
-        ∙ ap (λ (x : List ℕ). take end whole ++ take (length said) x) splits ∙ ap (λ (x : List ℕ). take end whole ++ x) (take-append-seam said others) in
-        let back : drop b whole ≡ others =
-        ap (λ (i : ℕ). drop i whole) (a .wrote .end) ∙ sym (drop-drop (length said) end whole) ∙ ap (drop (length said)) splits ∙ drop-append-seam said others in
-        record {
-          written = after said (a .wrote) ∙ ap (λ (x : List ℕ). withWindow 0 x o₀) (sym front);
-          left = back ∙ ap (runLinesFrom (n + 1) (readScript (drop next s))) (sym (a .left));
-          within = omega (arith, counted, a .wrote .end);
-          numbered = omega (arith, k .numbered, ap length (next-line s at next g f e h));
-          same = wrote-length end said o o′ b (line-room r) (a .wrote) ∙ k .same;
-        }
+goes-on : (t o₀ o : List ℕ) (l : Lent) (xs : List ScriptLine) (p : Progress) → Ran t o₀ o l xs (p .n) (p .end) → (o′ : List ℕ) (l′ : Lent) (q : Progress) → AnsweredNext p (take 1 xs) o l o′ l′ q
+    → Stands (q .running) t o₀ o′ l′ (drop 1 xs) (q .n) (q .end)
+unfolding nextPrints nextLeaves numberAfter hasLine
+goes-on t o₀ o l [] p k o′ l′ q w = rw (w .running) (ran-end t o₀ o l (p .n) (p .end) k o′ (q .end) (w .wrote))
+goes-on t o₀ o l (x ∷ xs) p k o′ l′ q w = rw (w .running, w .number) (ran-turn t o₀ o l (p .n) (p .end) x xs k o′ l′ (q .end) (w .wrote) (w .left))
 
-  module _ (g : LineOrEnd) (e : readOf s g ≡ readScript (drop at s)) (h : g ≡ End) where
-    last : drop end whole ≡ ending l
-    unfolding runLinesFrom
-    last = k .left ∙ ap (λ (xs : List ScriptLine). runLinesFrom n xs l) (no-line s at g e h)
+fewer-turns : (xs : List ScriptLine) (b : Bool) → b ≡ hasLine (take 1 xs) → turnsLeft b (drop 1 xs) < turnsLeft true xs
+unfolding hasLine
+fewer-turns [] b e = rw e (omega arith)
+fewer-turns (x ∷ xs) b e = rw e (omega arith)
 
-    pub end-room : length whole ≤ length o₀ → end + length (ending l) ≤ length o
-    end-room r = omega (arith, k .within, k .same, length-drop end whole, ap length last)
+-- ---- a turn of the run
 
-    pub ran-end : (o′ : List ℕ) (b : ℕ) → Wrote end (ending l) o o′ b → Wrote 0 whole o₀ o′ b
-    ran-end o′ b w = record {
-      bytes = after (ending l) w
-          ∙ ap (λ (x : List ℕ). withWindow 0 x o₀) (ap (λ (x : List ℕ). take end whole ++ x) (sym last) ∙ take-append-drop end whole);
-      end = omega (arith, w .end, k .within, length-drop end whole, ap length last);
-    }
+pub record Lengths (o₀ r₀ m₀ v₀ o r m v : List ℕ) : Type 0 where
+  pub out : length o ≡ length o₀
+  pub rec : length r ≡ length r₀
+  pub memory : length m ≡ length m₀
+  pub panel : length v ≡ length v₀
 
--- ---- the count of lines
+-- What a turn starts from: the reader's place, the progress, the output, the record, memory and panel. The text was to be written from o₀, r₀, m₀ and v₀.
+pub data Turn (s o₀ r₀ m₀ v₀ : List ℕ) : Type 0 where
+  turn : (running : Bool) (at n end : ℕ) (o r m v : List ℕ) → Lengths o₀ r₀ m₀ v₀ o r m v → Stands running (runLines (readScript s) (lent r₀ m₀ v₀)) o₀ o (lent r m v) (readScript (drop at s)) n end → Turn s o₀ r₀ m₀ v₀
 
-pub counts-on : (s o₀ : List ℕ) (l₀ : Lent) (o : List ℕ) (l : Lent) (at n end : ℕ) → Ran s o₀ l₀ o l at n end → length s ≤ longest → n + 1 < 2 ^ 32
-counts-on s o₀ l₀ o l at n end k h = omega (arith, k .numbered, read-le s)
+module _ (s o₀ r₀ m₀ v₀ : List ℕ) where
+  abbrev text : List ℕ
+  text = runLines (readScript s) (lent r₀ m₀ v₀)
+
+  abbrev pub stillTurns : Turn s o₀ r₀ m₀ v₀ → ℕ
+  stillTurns (turn b at n e o r m v z k) = turnsLeft b (readScript (drop at s))
+
+  abbrev pub turn-first : BuffersSized r₀ m₀ v₀ → length s ≤ longest → length text ≤ length o₀ → Turn s o₀ r₀ m₀ v₀
+  turn-first z h r =
+      turn true 0 1 0 o₀ r₀ m₀ v₀ (record { out = refl; rec = refl; memory = refl; panel = refl })
+      (ran-start (readScript s) o₀ (lent r₀ m₀ v₀) (omega (arith, read-le s)) r)
+
+  module _ (at : ℕ) (p : Progress) (o r m v : List ℕ) (k : Ran text o₀ o (lent r m v) (readScript (drop at s)) (p .n) (p .end)) (t : LineOrEnd) (e : standing t ≡ map readLine (take 1 (linesFrom at s))) where
+    first-is : standing t ≡ take 1 (readScript (drop at s))
+    first-is = e ∙ first-reads at s
+
+    pub turn-room : p .end + length (nextPrints (p .n) (standing t) (lent r m v)) ≤ length o
+    turn-room = rw first-is (next-room text o₀ o (lent r m v) (p .n) (p .end) (readScript (drop at s)) k)
+
+    module _ (at′ : ℕ) (f : linesFrom at′ s ≡ drop 1 (linesFrom at s)) (o′ r′ m′ v′ : List ℕ) (q : Progress) (w : AnsweredNext p (standing t) o (lent r m v) o′ (lent r′ m′ v′) q) where
+      pub turn-stands : Stands (q .running) text o₀ o′ (lent r′ m′ v′) (readScript (drop at′ s)) (q .n) (q .end)
+      turn-stands = rw (others-read at at′ s f) (goes-on text o₀ o (lent r m v) (readScript (drop at s)) p k o′ (lent r′ m′ v′) q (rw first-is at w))
+
+      pub turn-fewer : turnsLeft (q .running) (readScript (drop at′ s)) < turnsLeft true (readScript (drop at s))
+      turn-fewer = rw (others-read at at′ s f) (fewer-turns (readScript (drop at s)) (q .running) (w .running ∙ ap hasLine first-is))
 
 -- ---- the whole text
 

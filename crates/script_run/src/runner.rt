@@ -1,4 +1,5 @@
 // A script run: its calls made one after another, and what each prints.
+use crate::Progress;
 use crate::output;
 use model::Sent;
 use model::glass::SCREEN_BYTES;
@@ -7,14 +8,15 @@ use record::panels::panel_at;
 use script::Form;
 use script::LineOrEnd;
 use script::reader;
+ghost use mathlib.Core.Path.{_≡_};
 ghost use mathlib.Core.List.{[]};
-ghost use Prim.Native.Nat.{_+_, _≤_};
+ghost use Prim.Native.Nat.{_+_, _^_, _≤_, _<_};
 ghost use lib.ListN.{length};
 ghost use Rattle.model.specs.Calls.{lent, sentNumbers};
 ghost use Rattle.model.specs.Script.Read.{readScript};
 ghost use Rattle.model.specs.Script.Output.{said, linePrints, ending, runLines, longest, scriptText};
-ghost use Rattle.script.specs.Meaning.{meaning};
-ghost use Rattle.script_run.specs.Buffers.{Wrote, BuffersSized, Answered};
+ghost use Rattle.script.specs.Meaning.{meaning, standing};
+ghost use Rattle.script_run.specs.Buffers.{Wrote, BuffersSized, Answered, started, nextPrints, AnsweredNext};
 
 const GRAPHICS_BASE: u16 = 4096;
 
@@ -95,7 +97,51 @@ fn put_ending(out: &mut [u8], at: usize, rec: &[u8], memory: &[u8], panel: &[u8]
     output::put_printed(out, at, b"end", &[differing, left])
 }
 
-// The lines of a script, and the last line.
+// The start of a run.
+fn start() -> Progress
+    ensures { λ r. ⌜ r ≡ started ⌝ }
+{
+    Progress {
+        n: 1,
+        end: 0,
+        running: true,
+    }
+}
+
+// What stands at the reader's place is answered: a line by its call, the end of the script by the last line. The four buffers are lent for one call.
+fn answer_next<'a>(
+    out: &'a mut [u8],
+    p: Progress,
+    s: LineOrEnd,
+    rec: &'a mut [u8],
+    memory: &'a mut [u8],
+    panel: &'a mut [u8],
+) -> Progress
+    requires { ⌜ BuffersSized (now rec) (now memory) (now panel) × (p .n + 1 < 2 ^ 32) × (p .end + length (nextPrints (p .n) (standing s) (lent (now rec) (now memory) (now panel))) ≤ length (now out)) ⌝ }
+    ensures { λ q. ⌜ AnsweredNext p (standing s) (now (out .entry)) (lent (now (rec .entry)) (now (memory .entry)) (now (panel .entry))) (now (out .exit)) (lent (now (rec .exit)) (now (memory .exit)) (now (panel .exit))) q ⌝ }
+{
+    let n = p.n;
+    match s {
+        LineOrEnd::Line(form) => {
+            let end = answer_line(out, p.end, n, form, rec, memory, panel);
+            Progress {
+                n: n + 1,
+                end: end,
+                running: true,
+            }
+        }
+        LineOrEnd::End => {
+            let end = put_ending(out, p.end, rec, memory, panel);
+            Progress {
+                n: n,
+                end: end,
+                running: false,
+            }
+        }
+    }
+}
+
+// The lines of a script, and the last line. The reader keeps the place.
 fn run_lines(
     script: &[u8],
     out: &mut [u8],
@@ -108,18 +154,14 @@ fn run_lines(
     requires { ⌜ length (runLines (readScript (now script)) (lent (now rec) (now memory) (now panel))) ≤ length (now out) ⌝ }
     ensures { λ r. ⌜ Wrote 0 (runLines (readScript (now (script .entry))) (lent (now (rec .entry)) (now (memory .entry)) (now (panel .entry)))) (now (out .entry)) (now (out .exit)) r ⌝ }
 {
-    let mut at: usize = 0;
-    let mut n: u32 = 1;
-    let mut end: usize = 0;
-    loop {
-        let s = reader::read_at(script, at);
-        let LineOrEnd::Line(form, next) = s else {
-            return put_ending(out, end, rec, memory, panel);
-        };
-        end = answer_line(out, end, n, form, rec, memory, panel);
-        at = next;
-        n += 1;
+    let mut r = reader::new(script);
+    let mut p = start();
+    while p.running {
+        let s = reader::next(r);
+        p = answer_next(out, p, s, rec, memory, panel);
+        r = reader::after_line(r);
     }
+    p.end
 }
 
 // What a script prints, from an opened state on: written to the start of out, which has room for it. Answers how many bytes that is.

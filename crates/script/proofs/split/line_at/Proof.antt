@@ -18,9 +18,6 @@ part-read-line-end c = search needs
 read-line-requires : tie.Need-read-line-requires
 read-line-requires c κs = search needs
 
-add-t8 : tie.Need-add-t8
-add-t8 c = search needs
-
 returns : tie.Need-returns
 returns c = search line-read
 
@@ -36,6 +33,5 @@ line-at-spec =
     part-read-line-start
     part-read-line-end
     read-line-requires
-    add-t8
     returns
     returns-2)

@@ -3,7 +3,7 @@ use mathlib.Core.Path.{_≡_, refl}
 use Prim.Native.Nat.{_+_, _-_, _≤_}
 use lib.ListN.{length, drop}
 use Rattle.script.proofs.Splitting.{line-turn, line-stop, line-out}
-use Rattle.script.specs.Ends.{lineLength}
+use Rattle.script.specs.Lines.{lineLength}
 use Rattle.script.proofs.split.line_end.Statement.{statement}
 use Rattle.script.proofs.split.line_end.Tie as tie
 
