@@ -19,7 +19,7 @@ use Rattle.model.specs.Flush.{topOf, rightOf, flagAt, halfStores, glyphStores, 
 use Rattle.laws.specs.Tests.{by-lt, and-true}
 use Rattle.laws.specs.Glyphs.{fits-append, column-fits, lines-fits}
 use Rattle.laws.specs.FlushWalk.{Within, rest, rest-more, rest-end, rest-start}
-use Rattle.flush.specs.Fits.{codeFits, glyphFits, kindFits, shownFits, walkFits, textFits, entriesFit}
+use Rattle.flush.specs.Fits.{codeFits, glyphFits, kindFits, shownFits, walkFits, textFits, entriesFitFrom}
 
 -- ---- the definition's test, kind by kind
 
@@ -119,20 +119,20 @@ module _ (version : ℕ) (f : Fonts) (b trail : ℕ) {m : CellKind} where
 
 -- ---- the extra list, one entry after another: the next is at byte i of n
 
-module _ (list extra : List ℕ) (i n : ℕ) {whole : Bool} (h : entriesFit list extra i ((n - i) / 6) ≡ whole) where
+module _ (list extra : List ℕ) (i n : ℕ) {whole : Bool} (h : entriesFitFrom list extra i ((n - i) / 6) ≡ whole) where
   -- an entry that passes
   pub entry-turn : {o : ℕ} {t : Bool} → i + 6 ≤ n → o ≡ four list (i + 2) → t ≡ leb (o + 32) (length extra) → t ≡ true
-      → entriesFit list extra (i + 6) ((n - (i + 6)) / 6) ≡ whole
-  unfolding entriesFit
+      → entriesFitFrom list extra (i + 6) ((n - (i + 6)) / 6) ≡ whole
+  unfolding entriesFitFrom
   entry-turn l eo et ok = let q : (n - i) / 6 ≡ suc ((n - (i + 6)) / 6) = omega arith in cc
 
   -- and one that fails
   pub entry-stop : {o : ℕ} {t : Bool} → i + 6 ≤ n → o ≡ four list (i + 2) → t ≡ leb (o + 32) (length extra) → t ≡ false → false ≡ whole
-  unfolding entriesFit
+  unfolding entriesFitFrom
   entry-stop l eo et bad = let q : (n - i) / 6 ≡ suc ((n - (i + 6)) / 6) = omega arith in cc
 
   pub entries-end : n < i + 6 → true ≡ whole
-  unfolding entriesFit
+  unfolding entriesFitFrom
   entries-end l = let q : (n - i) / 6 ≡ 0 = omega arith in cc
 
 -- ---- the walk, one step at a time

@@ -22,7 +22,7 @@ use Rattle.model.specs.Codes.{CodeRow, emojiRows, inRow, indexIn, emojiIndex, g
 use Rattle.model.specs.Glyphs.{Fonts, digit, glyphOr, glyphOf}
 use Rattle.model.specs.Flush.{isLast, kindOf, shownAt, nextSpot, spot, walk}
 use Rattle.laws.specs.Tests.{tests, all-true, and-true, if-cases}
-use Rattle.flush.specs.Fits.{codeFits, glyphFits, kindFits, walkFits, textFits, entriesFit, listFits, wholeFonts}
+use Rattle.flush.specs.Fits.{codeFits, glyphFits, kindFits, walkFits, textFits, entriesFitFrom, entriesFit, wholeFonts}
 
 -- ---- indices
 
@@ -64,11 +64,11 @@ Inside (At i) n = i + 32 ≤ n
 Inside Nothing n = Unit {0}
 
 -- where every entry fits, so does the one that is found, in any list
-entry-inside : (list extra : List ℕ) (code i n : ℕ) → entriesFit list extra i n ≡ true → Inside (extraFrom list code i n) (length extra)
-unfolding extraFrom entriesFit
+entry-inside : (list extra : List ℕ) (code i n : ℕ) → entriesFitFrom list extra i n ≡ true → Inside (extraFrom list code i n) (length extra)
+unfolding extraFrom entriesFitFrom
 entry-inside list extra code i zero h = tt
 entry-inside list extra code i (suc n) h =
-    let p = and-true (leb (four list (i + 2) + 32) (length extra)) (entriesFit list extra (i + 6) n) h in
+    let p = and-true (leb (four list (i + 2) + 32) (length extra)) (entriesFitFrom list extra (i + 6) n) h in
     if-cases (λ (x : Found). Inside x (length extra)) (eqb (two list i) code)
     (λ e. leb-true (four list (i + 2) + 32) (length extra) (p .0)) (λ e. entry-inside list extra code (i + 6) n (p .1))
 
@@ -83,12 +83,12 @@ module _ (f : Fonts) (w : wholeFonts (f .ascii8) (f .ascii16) (f .gb) (f .emoji)
     ascii16 : 2048 ≤ length (f .ascii16)
     gb : 243648 ≤ length (f .gb)
     emoji : 16864 ≤ length (f .emoji)
-    list : listFits (f .extraList) (f .extraFont) ≡ true
+    list : entriesFit (f .extraList) (f .extraFont) ≡ true
 
   whole : Whole
   unfolding wholeFonts
   whole =
-      let a = and-true ((leb 568 (length (f .ascii8)) && leb 2048 (length (f .ascii16))) && (leb 243648 (length (f .gb)) && leb 16864 (length (f .emoji)))) (listFits (f .extraList) (f .extraFont)) w in
+      let a = and-true ((leb 568 (length (f .ascii8)) && leb 2048 (length (f .ascii16))) && (leb 243648 (length (f .gb)) && leb 16864 (length (f .emoji)))) (entriesFit (f .extraList) (f .extraFont)) w in
       let b = and-true (leb 568 (length (f .ascii8)) && leb 2048 (length (f .ascii16))) (leb 243648 (length (f .gb)) && leb 16864 (length (f .emoji))) (a .0) in
       let c = and-true (leb 568 (length (f .ascii8))) (leb 2048 (length (f .ascii16))) (b .0) in
       let d = and-true (leb 243648 (length (f .gb))) (leb 16864 (length (f .emoji))) (b .1) in

@@ -46,14 +46,14 @@ blankCells text i zero = true
 blankCells text i (suc k) = eqb (getD text i 0) 0 && blankCells text (i + 1) k
 
 -- n entries of the extra list, from byte i of it on, have their thirty-two bytes in the extra font
-unfoldable pub entriesFit : List ℕ → List ℕ → ℕ → ℕ → Bool
-entriesFit list extra i zero = true
-entriesFit list extra i (suc n) = leb (four list (i + 2) + 32) (length extra) && entriesFit list extra (i + 6) n
+unfoldable pub entriesFitFrom : List ℕ → List ℕ → ℕ → ℕ → Bool
+entriesFitFrom list extra i zero = true
+entriesFitFrom list extra i (suc n) = leb (four list (i + 2) + 32) (length extra) && entriesFitFrom list extra (i + 6) n
 
-abbrev pub listFits : List ℕ → List ℕ → Bool
-listFits list extra = entriesFit list extra 0 (length list / 6)
+abbrev pub entriesFit : List ℕ → List ℕ → Bool
+entriesFit list extra = entriesFitFrom list extra 0 (length list / 6)
 
 -- fonts that hold every code: the digits up to F, 128 characters, 7,614 GB characters, 527 emoji, and what every entry of the extra list names
 unfoldable pub wholeFonts : List ℕ → List ℕ → List ℕ → List ℕ → List ℕ → List ℕ → Bool
 wholeFonts ascii8 ascii16 gb emoji list extra =
-    ((leb 568 (length ascii8) && leb 2048 (length ascii16)) && (leb 243648 (length gb) && leb 16864 (length emoji))) && listFits list extra
+    ((leb 568 (length ascii8) && leb 2048 (length ascii16)) && (leb 243648 (length gb) && leb 16864 (length emoji))) && entriesFit list extra

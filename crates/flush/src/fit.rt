@@ -12,7 +12,7 @@ ghost use Prim.Native.Nat.{_*_, _+_, _<_};
 ghost use lib.Dec.{leb};
 ghost use lib.ListN.{length};
 ghost use Rattle.model.specs.Glyphs.{fonts};
-ghost use Rattle.flush.specs.Fits.{codeFits, glyphFits, shownFits, textFits, listFits, wholeFonts};
+ghost use Rattle.flush.specs.Fits.{codeFits, glyphFits, shownFits, textFits, entriesFit, wholeFonts};
 ghost use Rattle.flush.specs.Rooms.{TextSize};
 
 fn code_fits(ascii8: &[u8], b: u8) -> bool
@@ -102,8 +102,8 @@ const WHOLE_GB: usize = 243648;
 const WHOLE_EMOJI: usize = 16864;
 
 // What every entry of the extra list names lies in the extra font.
-fn list_fits(list: &[u8], extra: &[u8]) -> bool
-    ensures { λ r. ⌜ r ≡ listFits (now (list .entry)) (now (extra .entry)) ⌝ }
+fn entries_fit(list: &[u8], extra: &[u8]) -> bool
+    ensures { λ r. ⌜ r ≡ entriesFit (now (list .entry)) (now (extra .entry)) ⌝ }
 {
     let n = list.len();
     let mut at: usize = 0;
@@ -131,7 +131,7 @@ fn fonts_whole(
 {
     let ascii = (WHOLE_ASCII8 <= ascii8.len()) & (WHOLE_ASCII16 <= ascii16.len());
     let pairs = (WHOLE_GB <= gb.len()) & (WHOLE_EMOJI <= emoji.len());
-    (ascii & pairs) & list_fits(list, extra)
+    (ascii & pairs) & entries_fit(list, extra)
 }
 
 fn walk_fits(

@@ -5,13 +5,13 @@ use native.Mathlib.Nat.{sub-zero}
 use native.Mathlib.Omega.{arith}
 use borrow.Author.Needs.{needs}
 use lib.ListN.{length}
-use Rattle.flush.specs.Fits.{entriesFit, listFits}
+use Rattle.flush.specs.Fits.{entriesFitFrom, entriesFit}
 use Rattle.flush.proofs.Fitting.{entry-turn, entry-stop, entries-end}
-use Rattle.flush.proofs.fit.list_fits.Statement.{statement}
-use Rattle.flush.proofs.fit.list_fits.Tie as tie
+use Rattle.flush.proofs.fit.entries_fit.Statement.{statement}
+use Rattle.flush.proofs.fit.entries_fit.Tie as tie
 
 abbrev Inv-loop : tie.InvT-loop
-Inv-loop list extra n at₀ at = (at ≤ n) × (entriesFit list extra at ((n - at) / 6) ≡ listFits list extra)
+Inv-loop list extra n at₀ at = (at ≤ n) × (entriesFitFrom list extra at ((n - at) / 6) ≡ entriesFit list extra)
 
 abbrev μ-loop : tie.MeasureT-loop
 μ-loop list extra n at₀ at = n - at
@@ -60,8 +60,8 @@ returns-2 c =
     let a = c .before .before .before .before .args in
     entries-end (a .list .now) (a .extra .now) (l .at) (length (a .list .now)) (l .inv .1) (omega arith)
 
-pub list-fits-spec : {M : Type 1} → statement M
-list-fits-spec =
+pub entries-fit-spec : {M : Type 1} → statement M
+entries-fit-spec =
     tie.close
     (tie.spec
     Inv-loop
