@@ -83,7 +83,7 @@ module _ (t o₀ o : List ℕ) (l : Lent) (n end : ℕ) where
       ∙ ap (λ (i : ℕ). withWindow i u (withWindow 0 (take end t) o₀)) (sym (zero-add end))
       ∙ window-extend 0 end (take end t) u o₀ (length-take-le end t (k .within)) (omega arith)
 
-  pub next-room : (xs : List ScriptLine) → Ran t o₀ o l xs n end → end + length (nextPrints n (take 1 xs) l) ≤ length o
+  next-room : (xs : List ScriptLine) → Ran t o₀ o l xs n end → end + length (nextPrints n (take 1 xs) l) ≤ length o
   unfolding nextPrints runLinesFrom
   next-room [] k = omega (arith, k .within, k .room, length-drop end t, ap length (k .left))
   next-room (x ∷ xs) k = omega (arith, k .within, k .room, length-drop end t, ap length (k .left), length-append (linePrints n x l) (runLinesFrom (n + 1) xs (lineLeaves x l)))
@@ -157,8 +157,8 @@ module _ (s o₀ r₀ m₀ v₀ : List ℕ) where
   abbrev pub stillTurns : Turn s o₀ r₀ m₀ v₀ → ℕ
   stillTurns (turn b at n e o r m v z k) = turnsLeft b (readScript (drop at s))
 
-  abbrev pub turn-first : BuffersSized r₀ m₀ v₀ → length s ≤ longest → length text ≤ length o₀ → Turn s o₀ r₀ m₀ v₀
-  turn-first z h r =
+  abbrev pub turn-first : length s ≤ longest → length text ≤ length o₀ → Turn s o₀ r₀ m₀ v₀
+  turn-first h r =
       turn true 0 1 0 o₀ r₀ m₀ v₀ (record { out = refl; rec = refl; memory = refl; panel = refl })
       (ran-start (readScript s) o₀ (lent r₀ m₀ v₀) (omega (arith, read-le s)) r)
 

@@ -96,7 +96,7 @@ module _ {M : Type 1} (Θ : Entry M) where
         calls-start Θ (𝓣 .C) (𝓣 .Λ) fm known ! (λ F. no-more !) (λ wt-p. land ! (from ! (stop !)) (init ! 15 refl wt-p) $
         -- [what the progress owns; what the reader owns; the token; what the script owns; the buffers; local i at i + 8; that each dies]
         move ! (8 ∷ 9 ∷ 10 ∷ 11 ∷ 12 ∷ 13 ∷ 14 ∷ 15 ∷ 16 ∷ 17 ∷ 18 ∷ 19 ∷ 20 ∷ 21 ∷ 22 ∷ 23 ∷ 24 ∷ 25 ∷ 26 ∷ 27 ∷ 28 ∷ 3 ∷ 1 ∷ 0 ∷ 2 ∷ []) $
-        first ! $ blocks ! $ loops ! 𝓣 (Fewer Θ) Fewer-wf (Inv Θ (𝓣 .C) (𝓣 .Λ) bs) (turns Θ (𝓣 .C) (𝓣 .Λ) bs fm known room₁ room₂ room₃ room₄ sized) (turn-first (now s) (now x₁) (now x₂) (now x₃) (now x₄) sized short fits))))
+        first ! $ blocks ! $ loops ! 𝓣 (Fewer Θ) Fewer-wf (Inv Θ (𝓣 .C) (𝓣 .Λ) bs) (turns Θ (𝓣 .C) (𝓣 .Λ) bs fm known room₁ room₂ room₃ room₄ sized) (turn-first (now s) (now x₁) (now x₂) (now x₃) (now x₄) short fits))))
 
 module _ {M : Type 1} (𝓤 : URA M) (H : Heap 𝓤) (A : Atoms 𝓤) (W : Given 𝓤 H A) (mem : Memory → SProp 𝓤) (run : Routine → Fun 𝓤) (𝓣 : Tables 𝓤 H) (known : Known 𝓤 H A mem run (𝓣 .C)) where
   run-lines-walks : Walks 𝓤 H A run-lines.ended stayed (WpFn 𝓤 H (𝓣 .C) (𝓣 .Λ) code.function) (run-lines.clauses 𝓤 H A mem run)

@@ -62,7 +62,7 @@ use Rattle.script_run.proofs.runner.start.Symbol.{name as #script-run·
 use Rattle.script_run.proofs.runner.answer_next as answer
 use Rattle.script_run.proofs.runner.answer_next.Symbol.{name as #script-run·runner·answer-next}
 
--- one call of `run_lines`: a model of the logic, the lifetimes with shares of their tokens, and the slices passed
+-- one call of `run_lines`: a model of the logic, the lifetimes with shares of their tokens, and the slices passed: the script, the output, the record, memory and the panel
 pub record Entry (M : Type 1) : Type 2 where
   pub 𝓤 : URA M
   pub H : Heap 𝓤
