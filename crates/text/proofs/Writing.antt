@@ -45,16 +45,16 @@ module _ (rows columns : ℕ) (t f : List ℕ) (p : Place) where
   unfolding newlineOn
   newline-none r z = record { page = rw (eq-eqb (p .column) 0 z); flags = r .flags; scrolls = omega arith }
 
-  pub newline-scrolls : {n : ℕ} {s g : List ℕ} → Ready rows columns n t f p → (p .column ≡ 0 → ⊥) → p .row + 1 ≡ rows
-      → s ≡ scrolled columns 0 t → g ≡ flagsScrolled columns f
+  pub newline-scrolls : {n j : ℕ} {s g : List ℕ} → Ready rows columns n t f p → (p .column ≡ 0 → ⊥) → p .row + 1 ≡ rows
+      → s ≡ scrolled columns 0 t → g ≡ flagsScrolled j f → j ≡ columns
       → Written (newlineOn rows columns (page t f p)) (p .scrolls + 1) s g (record { row = p .row; column = 0; scrolls = p .scrolls + 1 })
   unfolding newlineOn scrollPage
-  newline-scrolls {s = s} r z l d e =
+  newline-scrolls {s = s} r z l d e j =
       let fs = scrolled columns false (flagsIn (length t) f) in
       let m = length-flagsIn (length t) f (r .flags .sized) in
       let k : length fs ≡ length s = length-scrolled columns false (flagsIn (length t) f) (rw m (row-in-text r)) ∙ m
       ∙ sym (length-scrolled columns 0 t (row-in-text r)) ∙ sym (ap length d) in
-      let q = e ∙ flags-scrolled (length t) f (r .flags) columns in
+      let q = e ∙ ap (λ (i : ℕ). flagsScrolled i f) j ∙ flags-scrolled (length t) f (r .flags) columns in
       record {
         page = rw (ne-eqb (p .column) 0 z, eq-eqb (p .row + 1) rows l)
             (λ i. record { text = d i; flags = flags-back (length s) fs q k i; row = p .row; column = 0; scrolls = p .scrolls + 1 });
@@ -99,11 +99,11 @@ module _ (rows columns : ℕ) (t f : List ℕ) (p : Place) where
 
     -- ---- a byte >= 128 at the last column
 
-    pub wrapped : {s g s′ g′ : List ℕ} {q r : Place} → (leb 128 b && eqb (p .column + 1) columns) ≡ true
+    pub wrapped : {j : ℕ} {s g s′ g′ : List ℕ} {q r : Place} → (leb 128 b && eqb (p .column + 1) j) ≡ true → j ≡ columns
         → Written (writeCell columns v 32 (page t f p)) (p .scrolls) s g q → Written (newlineOn rows columns (page s g q)) (q .scrolls + 1) s′ g′ r
         → Written (wrap rows columns v b (page t f p)) (p .scrolls + 1) s′ g′ r
     unfolding wrap
-    wrapped e w u = record { page = rw e (u .page ∙ ap (newlineOn rows columns) (w .page)); flags = u .flags; scrolls = omega (arith, w .scrolls, u .scrolls) }
+    wrapped e j w u = record { page = rw (ap (λ (k : ℕ). leb 128 b && eqb (p .column + 1) k) (sym j) ∙ e) (u .page ∙ ap (newlineOn rows columns) (w .page)); flags = u .flags; scrolls = omega (arith, w .scrolls, u .scrolls) }
 
     pub not-wrapped : {n : ℕ} → Ready rows columns n t f p → (leb 128 b && eqb (p .column + 1) columns) ≡ false
         → Written (wrap rows columns v b (page t f p)) (p .scrolls + 1) t f p

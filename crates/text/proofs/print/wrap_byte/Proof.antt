@@ -1,3 +1,4 @@
+use native.Mathlib.Omega.{arith}
 use Rattle.text.proofs.Writing.{has-cell, after-cell, wrapped, not-wrapped}
 use borrow.Author.Needs.{needs}
 use Rattle.text.proofs.print.wrap_byte.Statement.{statement}
@@ -27,7 +28,7 @@ returns c =
     let w = u .before .before .before .before .before .before .before in
     let t = w .before .before .before in
     let a = t .before .before .before .args in
-    wrapped (a .rows) (a .columns) (a .text .now) (a .flags .now) (a .p) (a .inverse) (a .b) (t .if1 .taken) (w .write-cell .ensures) (u .newline .ensures)
+    wrapped (a .rows) (a .columns) (a .text .now) (a .flags .now) (a .p) (a .inverse) (a .b) (t .if1 .taken) (omega arith) (w .write-cell .ensures) (u .newline .ensures)
 
 returns-2 : tie.Need-returns-2
 returns-2 c = search not-wrapped
