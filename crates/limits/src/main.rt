@@ -1,93 +1,105 @@
 // Document 01's last known picture, run on the core: graphics base 63,935 and radius 127 are accepted, 63,936 and 128 refused.
-// Each line of output is a call, its answer, 1 if it left all bytes as they were, else 0, and two bytes of memory.
+// A line of output is a call, then its answer, 1 if it left all bytes as they were, else 0, and four bytes of memory. The file stdout beside src/ was written by hand, from
+// document 01 and the steps of the source.
 use caption::ellipses;
 use caption::open;
 use caption::points;
 use model::glass::MEMORY_BYTES;
 use model::glass::RECORD_BYTES;
 
+// Open's graphics base; a circle's radius or an ellipse's two, then the fill flag.
+enum Call {
+    Open(u16),
+    Circle(u8, u8),
+    Ellipse(u8, u8, u8),
+}
+
 fn print_number(n: u64) {
     io::write_all(1, b" ");
     io::print_decimal(1, n);
 }
 
-fn print_result(code: u32, stays: bool, a: u8, b: u8) {
+fn print_byte(byte: u8) {
+    print_number(byte as u64);
+}
+
+fn print_call(call: Call) {
+    match call {
+        Call::Open(graphics) => {
+            io::write_all(1, b"open");
+            print_number(graphics as u64);
+        }
+        Call::Circle(r, fill) => {
+            io::write_all(1, b"circle");
+            print_byte(r);
+            print_byte(fill);
+        }
+        Call::Ellipse(rx, ry, fill) => {
+            io::write_all(1, b"ellipse");
+            print_byte(rx);
+            print_byte(ry);
+            print_byte(fill);
+        }
+    }
+}
+
+// The bytes are pixels 0-7 and 120-127 of line 40 of a screen at 4,096, and the last two of memory.
+fn print_result(code: u32, stays: bool, memory: &[u8; MEMORY_BYTES]) {
+    io::write_all(1, b":");
     print_number(code as u64);
     print_number(stays as u64);
-    print_number(a as u64);
-    print_number(b as u64);
+    print_byte(memory[4896]);
+    print_byte(memory[4911]);
+    print_byte(memory[65534]);
+    print_byte(memory[65535]);
     io::write_all(1, b"\n");
 }
 
-// V2, no keys, the text from byte 0 on.
+// V2, no keys, the text from byte 0 on; then a point at the last pixel, in the screen's last byte. The highest screen ends one byte before memory does.
 fn open_at(rec: &mut [u8], memory: &mut [u8], graphics: u16) -> u32 {
-    open::caption_open(rec, memory, graphics, 0, 1, 0, 0, 0, 0, 0, 0, 0, 0)
+    let code = open::caption_open(rec, memory, graphics, 0, 1, 0, 0, 0, 0, 0, 0, 0, 0);
+    if code == 0 {
+        points::caption_draw_point(rec, memory, 159, 79, 1);
+    }
+    code
 }
 
-// Shows memory's last two bytes after a point at (159, 79): the highest screen ends one byte before memory does.
-fn run_base(graphics: u16) {
+// Shapes have their centre at (127, 40).
+fn make_call(rec: &mut [u8], memory: &mut [u8], call: Call) -> u32 {
+    match call {
+        Call::Open(graphics) => open_at(rec, memory, graphics),
+        Call::Circle(r, fill) => ellipses::caption_draw_circle(rec, memory, 127, 40, r, fill, 1),
+        Call::Ellipse(rx, ry, fill) => {
+            ellipses::caption_draw_ellipse(rec, memory, 127, 40, rx, ry, fill, 1)
+        }
+    }
+}
+
+// Each call is made on a screen at 4,096 that has the last pixel set alone.
+fn run(call: Call) {
     let mut rec = [0u8; RECORD_BYTES];
     let mut memory = [0u8; MEMORY_BYTES];
     open_at(&mut rec, &mut memory, 4096);
     let kept_rec = rec;
     let kept_memory = memory;
-    let code = open_at(&mut rec, &mut memory, graphics);
+    let code = make_call(&mut rec, &mut memory, call);
     let stays = check::same(&rec, &kept_rec) & check::same(&memory, &kept_memory);
-    points::caption_draw_point(&mut rec, &mut memory, 159, 79, 1);
-    io::write_all(1, b"open");
-    print_number(graphics as u64);
-    print_result(code, stays, memory[65534], memory[65535]);
-}
-
-// A circle if the radii are equal.
-fn print_shape(rx: u8, ry: u8, fill: u8) {
-    if rx == ry {
-        io::write_all(1, b"circle");
-    } else {
-        io::write_all(1, b"ellipse");
-        print_number(rx as u64);
-    }
-    print_number(ry as u64);
-    if fill == 0 {
-        io::write_all(1, b" outline");
-    } else {
-        io::write_all(1, b" filled");
-    }
-}
-
-// Its centre is (127, 40).
-fn draw_shape(rec: &mut [u8], memory: &mut [u8], rx: u8, ry: u8, fill: u8) -> u32 {
-    if rx == ry {
-        return ellipses::caption_draw_circle(rec, memory, 127, 40, rx, fill, 1);
-    }
-    ellipses::caption_draw_ellipse(rec, memory, 127, 40, rx, ry, fill, 1)
-}
-
-// Shows pixels 0-7 and 120-127 of line 40.
-fn run_shape(rx: u8, ry: u8, fill: u8) {
-    let mut rec = [0u8; RECORD_BYTES];
-    let mut memory = [0u8; MEMORY_BYTES];
-    open_at(&mut rec, &mut memory, 4096);
-    let kept_rec = rec;
-    let kept_memory = memory;
-    let code = draw_shape(&mut rec, &mut memory, rx, ry, fill);
-    let stays = check::same(&rec, &kept_rec) & check::same(&memory, &kept_memory);
-    print_shape(rx, ry, fill);
-    print_result(code, stays, memory[4896], memory[4911]);
+    print_call(call);
+    print_result(code, stays, &memory);
 }
 
 fn run_radii(fill: u8) {
-    run_shape(127, 127, fill);
-    run_shape(128, 128, fill);
-    run_shape(127, 3, fill);
-    run_shape(128, 3, fill);
-    run_shape(3, 127, fill);
-    run_shape(3, 128, fill);
+    run(Call::Circle(127, fill));
+    run(Call::Circle(128, fill));
+    run(Call::Ellipse(127, 3, fill));
+    run(Call::Ellipse(128, 3, fill));
+    run(Call::Ellipse(3, 127, fill));
+    run(Call::Ellipse(3, 128, fill));
 }
 
 fn main() {
-    run_base(63935);
-    run_base(63936);
+    run(Call::Open(63935));
+    run(Call::Open(63936));
     run_radii(0);
     run_radii(1);
 }
