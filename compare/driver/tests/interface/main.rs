@@ -3,6 +3,7 @@
 //! names, the number, names and kinds of their parameters, and the numbers that they answer.
 
 mod damage;
+mod edits;
 mod function;
 mod header;
 mod rust_like;
