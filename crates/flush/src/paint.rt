@@ -3,7 +3,6 @@ use crate::cells::are_blank;
 use crate::cells::next_spot;
 use crate::cells::shown_at;
 use crate::cells::spot_after;
-use crate::cells::start;
 use crate::glyph::glyph_part;
 use crate::glyph::load_glyph;
 use crate::glyph::paint_character;
@@ -22,8 +21,8 @@ ghost use Prim.Native.Nat.{_+_, _*_, _≤_, _<_};
 ghost use lib.ListN.{length};
 ghost use Rattle.model.specs.Flags.{flagBytes, flagsIn};
 ghost use Rattle.model.specs.Glyphs.{fonts, glyphOf, paint, columnStores};
-ghost use Rattle.model.specs.Flush.{topOf, rightOf, flagAt, glyphStores, shownStores, textStores};
-ghost use Rattle.flush.specs.Fits.{glyphFits, shownFits, textFits};
+ghost use Rattle.model.specs.Flush.{topOf, rightOf, flagAt, glyphStores, shownStores};
+ghost use Rattle.flush.specs.Fits.{glyphFits, shownFits};
 ghost use Rattle.flush.specs.Painted.{LeftFits, PaintedTo};
 ghost use Rattle.flush.specs.Rooms.{TextScreen, SpotRoom, PairRoom, ShownRoom, isHexadecimal};
 
@@ -162,7 +161,7 @@ fn paint_shown<'a>(
 }
 
 // The rest of a row, from a spot on, and the spot below it where the walk goes on. Where all its cells are blank they are stepped over at once.
-fn paint_row<'a>(
+pub fn paint_row<'a>(
     columns: usize,
     rows: usize,
     screen: &mut [u8],
@@ -208,46 +207,4 @@ fn paint_row<'a>(
         s = next_spot(columns, w);
     }
     s
-}
-
-// The whole text, once its glyphs are known to be there.
-pub fn paint_text<'a>(
-    columns: usize,
-    rows: usize,
-    screen: &mut [u8],
-    text: &[u8],
-    flags: &[u8],
-    version: u8,
-    ascii8: &[u8],
-    ascii16: &[u8],
-    gb: &'a [u8],
-    emoji: &'a [u8],
-    list: &[u8],
-    extra: &'a [u8],
-)
-    requires { ⌜ TextScreen columns rows (now screen) ⌝ }
-    requires { ⌜ textFits columns rows (now text) version (fonts (now ascii8) (now ascii16) (now gb) (now emoji) (now list) (now extra)) ≡ true ⌝ }
-    requires { ⌜ length (now flags) ≡ flagBytes (rows * columns) ⌝ }
-    ensures { λ _. ⌜ now (screen .exit) ≡ paint (textStores columns rows (now (text .entry)) (flagsIn (rows * columns) (now (flags .entry))) version (fonts (now (ascii8 .entry)) (now (ascii16 .entry)) (now (gb .entry)) (now (emoji .entry)) (now (list .entry)) (now (extra .entry)))) (now (screen .entry)) ⌝ }
-{
-    let cells = rows * columns;
-    let mut s = start();
-    while s.row < rows {
-        s = paint_row(
-            columns,
-            rows,
-            screen,
-            text,
-            cells,
-            flags,
-            version,
-            ascii8,
-            ascii16,
-            gb,
-            emoji,
-            list,
-            extra,
-            s,
-        );
-    }
 }

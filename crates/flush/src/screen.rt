@@ -1,5 +1,6 @@
-// A flush of the lent screen: cleared in Text mode, then painted.
-use crate::paint::paint_text;
+// A flush of the lent screen: cleared in Text mode, then painted row by row.
+use crate::cells::start;
+use crate::paint::paint_row;
 ghost use mathlib.Core.Bool.{true};
 ghost use mathlib.Core.Path.{_≡_};
 ghost use Prim.Native.Nat.{_*_};
@@ -18,6 +19,7 @@ fn clear_text_screen(screen: &mut [u8], mode: u8)
     }
 }
 
+// The text's glyphs are known to be there.
 pub fn flush_screen<'a>(
     columns: usize,
     rows: usize,
@@ -39,18 +41,24 @@ pub fn flush_screen<'a>(
     ensures { λ _. ⌜ now (screen .exit) ≡ paint (textStores columns rows (now (text .entry)) (flagsIn (rows * columns) (now (flags .entry))) version (fonts (now (ascii8 .entry)) (now (ascii16 .entry)) (now (gb .entry)) (now (emoji .entry)) (now (list .entry)) (now (extra .entry)))) (clearedInText mode (now (screen .entry)) (length (now (screen .entry)))) ⌝ }
 {
     clear_text_screen(screen, mode);
-    paint_text(
-        columns,
-        rows,
-        screen,
-        text,
-        flags,
-        version,
-        ascii8,
-        ascii16,
-        gb,
-        emoji,
-        list,
-        extra,
-    );
+    let cells = rows * columns;
+    let mut s = start();
+    while s.row < rows {
+        s = paint_row(
+            columns,
+            rows,
+            screen,
+            text,
+            cells,
+            flags,
+            version,
+            ascii8,
+            ascii16,
+            gb,
+            emoji,
+            list,
+            extra,
+            s,
+        );
+    }
 }
