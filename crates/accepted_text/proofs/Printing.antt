@@ -6,32 +6,28 @@ use Prim.Native.Nat.{ℕ, _+_, _-_, _*_, _^_, _<_, _≤_}
 use native.Mathlib.Omega.{arith}
 use borrow.Rule.Slice.PartMut.{putMid}
 use lib.Dec.{eqb}
-use lib.ListN.{length, drop, length-drop, take-append-drop}
-use lib.Seq.{length-take-le, drop-drop}
+use lib.ListN.{length}
 use Rattle.model.specs.declared.Canvas.{Canvas}
 use Rattle.model.specs.declared.Head.{Head}
 use Rattle.model.specs.declared.Marks.{Marks}
 use Rattle.model.specs.declared.glass.Glass.{Glass}
-use Rattle.model.specs.Geometry.{Geometry, rows, height, width, cells, screenBytes, rowBytes}
+use Rattle.model.specs.Geometry.{rows, height, cells, screenBytes, rowBytes}
 use Rattle.model.specs.Glass.{geometry, canvas}
 use Rattle.model.specs.Rects.{none}
 use Rattle.model.specs.Memory.{window, withWindow}
 use Rattle.model.specs.Flags.{flagBytes, flagsIn, bytesOfFlags, flagsFit}
-use Rattle.model.specs.Record.{flags, partFits, Pending, State, decode, encode, withHead, withPanels}
-use Rattle.model.specs.Marks.{withDirty, updateDirty, owing, marked}
+use Rattle.model.specs.Record.{flags, partFits, State, decode, encode, withHead}
+use Rattle.model.specs.Marks.{marked}
 use Rattle.model.specs.Text.{atPlace}
 use Rattle.model.specs.Print.{Page, scrolledTimes, newlineOn, isInverse, printOn, pageOf, screenScrolls, scrollMark, stateWithPage, scrolledMemory, memoryWithPage}
 use Rattle.model.specs.Calls.{print, newline, lent, answered, withPage, done}
-use Rattle.laws.specs.Memory.{length-withWindow}
-use Rattle.laws.specs.ListLaws.{map-same}
-use Rattle.laws.specs.Rects.{join-none}
-use Rattle.laws.specs.Bands.{joinOwed-none}
+use Rattle.laws.specs.Memory.{length-withWindow, window-back}
 use Rattle.laws.specs.Parts.{part-back}
 use Rattle.laws.specs.Pages.{length-times, Sheet, newline-sheet}
 use Rattle.laws.specs.Flags.{HasFlags, flags-read}
 use Rattle.laws.specs.Record.{has-flags, part-passes}
 use Rattle.laws.specs.StateTest.{flags-room, flags-part}
-use Rattle.laws.specs.Updates.{flags-known, flags-state}
+use Rattle.laws.specs.Updates.{unmarked-state, flags-known, flags-state}
 use Rattle.laws.specs.Texts.{screen-rows, row-room, page-sheet}
 use Rattle.laws.specs.States.{well-formed}
 use Rattle.record.specs.Update.{updated}
@@ -41,18 +37,6 @@ use Rattle.text.specs.Written.{page, Ready, Written}
 use Rattle.record.specs.Given.{Given}
 use Rattle.accepted_text.specs.Pages.{placeOf, PageStored}
 use Rattle.record.proofs.Drawing.{screenPart, textPart, flagsPart, screen-room, text-room, screen-length, text-length, flags-length, screen-is, text-is}
-
--- an empty mark leaves any state
-unmarked-state : (g : Geometry) (s : State) → marked g none none s ≡ s
-unfolding marked updateDirty owing
-unmarked-state g s =
-    let same : (p : Pending) → owing g none p ≡ p = λ p i. record { owed = joinOwed-none (width g) (g .band) 0 (p .owed) i; hand = p .hand; sent = p .sent } in
-    λ i. withHead (withDirty (join-none (s .head .dirty) i) (s .head)) (withPanels (map-same (owing g none) (s .panels) same i) s)
-
--- a window put back leaves memory
-window-back : (b n : ℕ) (m : List ℕ) → b + n ≤ length m → withWindow b (window b n m) m ≡ m
-unfolding window withWindow
-window-back b n m h = cc (length-take-le n (drop b m) (simp length-drop (omega arith)), drop-drop n b m, take-append-drop n (drop b m), take-append-drop b m)
 
 module _ {v : Glass} {r : List ℕ} {h : Head} {m : List ℕ} (w : Given v r h m) where
   -- ---- the screen and the record

@@ -71,13 +71,14 @@ marks-head {v} {r} n d o {m} k f i j =
     ∙ ap (λ (x : Head). encode g (withHead x (withPanels (map (owing g o) (s .panels)) s))) i
 
 -- an empty mark changes nothing
-pub unmarked : (g : Geometry) (r : List ℕ) → Passing g r → encode g (marked g none none (decode g r)) ≡ r
+pub unmarked-state : (g : Geometry) (s : State) → marked g none none s ≡ s
 unfolding marked updateDirty owing
-unmarked g r k =
-    let s = decode g r in
+unmarked-state g s =
     let same : (p : Pending) → owing g none p ≡ p = λ p i. record { owed = joinOwed-none (width g) (g .band) 0 (p .owed) i; hand = p .hand; sent = p .sent } in
-    (λ i. encode g (withHead (withDirty (join-none (s .head .dirty) i) (s .head)) (withPanels (map-same (owing g none) (s .panels) same i) s)))
-    ∙ encode-decode g r k
+    λ i. withHead (withDirty (join-none (s .head .dirty) i) (s .head)) (withPanels (map-same (owing g none) (s .panels) same i) s)
+
+pub unmarked : (g : Geometry) (r : List ℕ) → Passing g r → encode g (marked g none none (decode g r)) ≡ r
+unmarked g r k = ap (encode g) (unmarked-state g (decode g r)) ∙ encode-decode g r k
 
 -- ---- other flags
 

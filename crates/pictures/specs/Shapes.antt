@@ -6,14 +6,14 @@ use mathlib.Core.List.{List, [], _∷_}
 use Prim.Native.Nat.{ℕ, _+_, _≤_, _<_}
 use native.Mathlib.Omega.{arith}
 use lib.IntN.{ℤ, pos, negsuc}
-use lib.ListN.{length, getD, take, drop, take-append-drop, length-drop}
-use lib.Seq.{drop-cons, drop-drop, length-take-le}
+use lib.ListN.{getD, take}
+use lib.Seq.{drop-cons}
 use borrow.Author.Tests.{le-leb}
 use Rattle.model.specs.Geometry.{base}
 use Rattle.model.specs.Bits.{bitAt}
 use Rattle.model.specs.Pixels.{bit, onScreen, draw, seen}
 use Rattle.model.specs.Rects.{inside, cut, lowered}
-use Rattle.model.specs.Memory.{window, withWindow}
+use Rattle.model.specs.Memory.{window}
 use Rattle.model.specs.Refusals.{SOURCE, refusal, ruled}
 use Rattle.model.specs.Marks.{within, owes, drawnOn}
 use Rattle.model.specs.Bitmaps.{paintMode, paintOp, sourceFits, visible, visibleRect, paintedLine, paintedLines, bitmap}
@@ -22,6 +22,7 @@ use Rattle.model.specs.Lines.{isUnknown, runOp, pixelRun, horizontal, horizonta
 use Rattle.model.specs.Boxes.{boxRows, filledBox, boxOf, box}
 use Rattle.model.specs.Ellipses.{start, moves, advanced, turns, turned, xStep, yStep, part, xParts, yParts, step, stepParts, ended, partsFrom, stepsFrom, parts, steps, corners, partWrites, partsWrites, wraps, ellipseMark, ellipseDrawn, isPoint, isNothing, ellipse, circle, radiiFit, stepsFit}
 use Rattle.model.specs.Calls.{drawPoint, drawLine, drawBox, drawCircle, paintBitmap, Lent, lent, Outcome, answered, refusals, drawingWith, drawing, done, refused, outcome}
+use Rattle.laws.specs.Memory.{window-back}
 use Rattle.laws.specs.Calls.{own-decide}
 use Rattle.laws.specs.Updates.{unmarked}
 use Rattle.order.specs.Theorem.{screenIn}
@@ -30,11 +31,6 @@ use Rattle.pictures.specs.Writes.{hits, made, alike, names, allOf, pictu
 use Rattle.pictures.specs.Drawings.{passing, screen-fits, entered, done-on, drew}
 
 -- ---- points
-
--- a window put back
-window-back : (b n : ℕ) (m : List ℕ) → b + n ≤ length m → withWindow b (window b n m) m ≡ m
-unfolding window withWindow
-window-back b n m h = cc (length-take-le n (drop b m) (simp length-drop (omega arith)), drop-drop n b m, take-append-drop n (drop b m), take-append-drop b m)
 
 pub point-off : (mode : ℕ) → mode ≤ 3 → (l : Lent) → Unmarked l → outcome base (drawPoint 160 0 mode) l ≡ answered 0 [] l
 unfolding done drawingWith drawnOn point pointRect onScreen seen draw owes within answered
