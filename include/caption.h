@@ -175,7 +175,8 @@ uint32_t caption_newline(uint8_t *record, size_t record_len, uint8_t *memory, si
                         else both bytes in hexadecimal, two digits one above the other, never inverted: 8 bytes of ascii8 each, at 8 * character
    A pair at column 19 has its right half in column 0 below (a hexadecimal one in column 0 of its own row, one line lower), and from there on cells are read one
    further ahead; past the last cell zeros are read. A byte from 128 on at row 4, column 19 is shown alone in hexadecimal.
-   A font needs only what the text uses: with 568 bytes of ascii8, 2,048 of ascii16, 243,648 of gb, 16,864 of emoji and no extra list any text passes.
+   A font needs only what the text uses: with 568 bytes of ascii8, 2,048 of ascii16, 243,648 of gb, 16,864 of emoji, and 32 bytes of extra_font from each offset
+   of the list on, any text passes; then the text is walked once, not twice.
    Refusals: LENT (also an extra list of no multiple of 6), STATE, GLYPH. */
 uint32_t caption_flush(uint8_t *record, size_t record_len, uint8_t *memory, size_t memory_len, const uint8_t *ascii8, size_t ascii8_len,
                        const uint8_t *ascii16, size_t ascii16_len, const uint8_t *gb, size_t gb_len, const uint8_t *emoji, size_t emoji_len,
