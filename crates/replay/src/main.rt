@@ -1,11 +1,9 @@
 // Runs a stored list of calls over the core: reads them from standard input and prints for each the answer and a checksum of what it left.
 // The file stdout beside src/ is what the reference printed of the list in stdin (compare/README.md, "The replay").
-mod answer;
-mod call;
 mod checksum;
-mod fonts;
 mod print;
-mod run;
+
+use stored_calls::run;
 
 // Whether there was a next call.
 fn replay_next(rec: &mut [u8], memory: &mut [u8]) -> bool {

@@ -1,5 +1,5 @@
 // A line of output: the answer's numbers and the checksum, in decimal, with single spaces.
-use crate::answer::Answer;
+use stored_calls::answer::Answer;
 
 fn number(n: u32) {
     io::print_decimal(1, n as u64);

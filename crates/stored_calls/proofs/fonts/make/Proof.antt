@@ -2,8 +2,8 @@ use mathlib.Core.Path.{_≡_}
 use Prim.Native.Nat.{_-_, _≤_}
 use native.Mathlib.Omega.{arith}
 use lib.ListN.{length, length-set}
-use Rattle.replay.proofs.fonts.make.Statement.{statement}
-use Rattle.replay.proofs.fonts.make.Tie as tie
+use Rattle.stored_calls.proofs.fonts.make.Statement.{statement}
+use Rattle.stored_calls.proofs.fonts.make.Tie as tie
 
 abbrev Inv-loop : tie.InvT-loop
 Inv-loop font₀ number i₀ font i = (i ≤ length font) × (length font ≡ length font₀)

@@ -2,8 +2,8 @@ use mathlib.Core.Path.{sym}
 use native.Mathlib.Omega.{arith}
 use lib.Seq.{length-take-le}
 use borrow.Author.Needs.{needs}
-use Rattle.replay.proofs.run.print_first.Statement.{statement}
-use Rattle.replay.proofs.run.print_first.Tie as tie
+use Rattle.stored_calls.proofs.run.print_first.Statement.{statement}
+use Rattle.stored_calls.proofs.run.print_first.Tie as tie
 
 returns : tie.Need-returns
 returns c = search needs
