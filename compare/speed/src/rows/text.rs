@@ -32,7 +32,7 @@ fn prints(core: Option<Answering>) -> Vec<Row> {
     vec![
         print("print, one byte", bytes(1)),
         print("print, a row of 20 bytes", bytes(20)).limit(limits::PRINT_ROW),
-        print("print, a row of 10 pairs", pairs(10, 176, 161)).limit(limits::PRINT_ROW),
+        print("print, a row of 10 pairs", pairs(10, 176, 161)).limit(limits::PRINT_PAIRS),
         print("print, a page of 100 bytes", bytes(CELLS)).limit(limits::PRINT_PAGE),
     ]
 }
