@@ -81,7 +81,17 @@ same-length-2 : tie.Need-same-length-2
 same-length-2 c = search needs
 
 returns-2 : tie.Need-returns-2
-returns-2 c = search in-more-bytes
+returns-2 c =
+    let last = c .before .before in
+    let end-mask = last .before in
+    let bytes = end-mask .before .before .before .before in
+    let first = bytes .before .before .before .before .before in
+    let start-mask = first .before in
+    let if1 = start-mask .before .before in
+    let entry = if1 .before .before .before .before .before .before in
+    in-more-bytes (entry .pre) (if1 .before .before .before .before .before .shared-slice-known .given) (if1 .before .before .before .before .slice-known .given)
+    (if1 .if1 .left) (start-mask .start-mask2 .ensures) (end-mask .end-mask2 .ensures) (first .copy-masked2 .ensures) (bytes .copy-bytes .ensures)
+    (end-mask .before .before .slice-known4 .given) (last .copy-masked3 .ensures)
 
 pub copy-line-spec : {M : Type 1} → statement M
 copy-line-spec =
