@@ -60,7 +60,7 @@ numbered-state g to-open l = tt
 numbered-state g record-only l = (omega arith, tt)
 numbered-state g with-memory l = (omega arith, tt)
 numbered-state g (with-fonts f) l = (omega arith, tt)
-numbered-state g with-panel l = (omega arith, tt)
+numbered-state g (with-panel k) l = (omega arith, tt)
 
 -- and an accepted call has passed them all
 pub accepted-call : (g : Geometry) (c : Call) (l : Lent) → Numbered (ownTests g c l) → accepted g c l → Tested g c l × AllPass (ownTests g c l)

@@ -14,7 +14,10 @@ pub record RecordTable : Type 0 where
   pub panel-at : at base (panel 0) ≡ 18
   pub keys-at : at base keys ≡ 38
   pub flags-at : at base flags ≡ 70
-  pub bytes : recordBytes base ≡ 170
+  pub panel-1-at : at base (panel 1) ≡ 170
+  pub panel-2-at : at base (panel 2) ≡ 190
+  pub panel-3-at : at base (panel 3) ≡ 210
+  pub bytes : recordBytes base ≡ 230
 
 pub record-table : RecordTable
 unfolding offset total

@@ -13,7 +13,7 @@ use Rattle.model.specs.Geometry.{Geometry, height, rows, columns, screen
 use Rattle.model.specs.Rects.{Rect, none}
 use Rattle.model.specs.Memory.{window, screenOf, withScreen}
 use Rattle.model.specs.Record.{decode, encode, valid, windows, recordBytes, panelOf, withHead, withPanel}
-use Rattle.model.specs.Refusals.{LENT, STATE, WINDOW, VALUE, SOURCE, RADIUS, GLYPH, ENDLESS, Test, test, refusal, ruled}
+use Rattle.model.specs.Refusals.{LENT, STATE, WINDOW, VALUE, SOURCE, RADIUS, GLYPH, ENDLESS, PANEL, Test, test, refusal, ruled}
 use Rattle.model.specs.Marks.{Drawing, whole, drawnOn, marked, withDirty}
 use Rattle.model.specs.Open.{clearMemory, openState, resetState}
 use Rattle.model.specs.Points.{drawMode, point, isSet}
@@ -63,7 +63,8 @@ pub data Call : Type 0 where
   blinkCursor : Call
   clearCursor : Call
   takeDirtyArea : Call
-  send : Call
+  -- the panel's number
+  send : ℕ → Call
 
 -- the bytes that a call is lent; `[]` stands for what it is not lent
 pub record Lent : Type 0 where
@@ -95,13 +96,13 @@ sentNumbers s = s .sent ∷ s .line ∷ s .left ∷ s .right ∷ []
 
 -- ---- what a call is lent
 
--- record and memory, whatever they hold; the record alone; record and memory; these and the fonts, whose extra list is tested; these and the panel
+-- record and memory, whatever they hold; the record alone; record and memory; these and the fonts, whose extra list is tested; these and the buffer of panel k
 pub data Lending : Type 0 where
   to-open : Lending
   record-only : Lending
   with-memory : Lending
   with-fonts : Fonts → Lending
-  with-panel : Lending
+  with-panel : ℕ → Lending
 
 abbrev pub takes : Call → Lending
 takes (opening graphics text version keys) = to-open
@@ -127,7 +128,7 @@ takes (setPrintMode n) = record-only
 takes blinkCursor = with-memory
 takes clearCursor = with-memory
 takes takeDirtyArea = record-only
-takes send = with-panel
+takes (send k) = with-panel k
 
 -- ---- refusals: LENT, STATE, then the call's own tests
 
@@ -147,7 +148,7 @@ lengthsFit g to-open l = memoryFits l
 lengthsFit g record-only l = true
 lengthsFit g with-memory l = memoryFits l
 lengthsFit g (with-fonts f) l = memoryFits l && listFits f
-lengthsFit g with-panel l = memoryFits l && panelFits g l
+lengthsFit g (with-panel k) l = memoryFits l && panelFits g l
 
 -- LENT: the record has its length, and so has what is lent beside it
 abbrev pub lentTest : Geometry → List ℕ → Bool → Test
@@ -162,7 +163,7 @@ stateTests g to-open l = []
 stateTests g record-only l = stateTest g (l .rec) ∷ []
 stateTests g with-memory l = stateTest g (l .rec) ∷ []
 stateTests g (with-fonts f) l = stateTest g (l .rec) ∷ []
-stateTests g with-panel l = stateTest g (l .rec) ∷ []
+stateTests g (with-panel k) l = stateTest g (l .rec) ∷ []
 
 -- the fill flag and the draw mode are listed
 abbrev pub fillFits : ℕ → ℕ → Bool
@@ -202,7 +203,7 @@ ownTests g (setPrintMode n) l = test VALUE (leb n 2) ∷ []
 ownTests g blinkCursor l = []
 ownTests g clearCursor l = []
 ownTests g takeDirtyArea l = []
-ownTests g send l = []
+ownTests g (send k) l = test PANEL (ltb k (g .panels)) ∷ []
 
 unfoldable pub refusals : Geometry → Call → Lent → List Test
 refusals g c l = lentTest g (l .rec) (lengthsFit g (takes c) l) ∷ (stateTests g (takes c) l ++ ownTests g c l)
@@ -232,7 +233,7 @@ numbers (setPrintMode n) = 0
 numbers blinkCursor = 0
 numbers clearCursor = 0
 numbers takeDirtyArea = 4
-numbers send = 4
+numbers (send k) = 4
 
 -- ---- what an accepted call does
 
@@ -313,11 +314,11 @@ done g (setPrintMode n) l = answered 0 [] (changed g (withPrintMode n) l)
 done g blinkCursor l = answered 0 [] (blinked g l)
 done g clearCursor l = answered 0 [] (cursorCleared g l)
 done g takeDirtyArea l = answered 0 (rectNumbers (decode g (l .rec) .head .dirty)) (changed g (withDirty none) l)
-done g send l =
+done g (send k) l =
     let s = decode g (l .rec) in
-    let p = panelOf g s 0 in
+    let p = panelOf g s k in
     answered 0 (sendNumbers p)
-    (lent (encode g (withPanel 0 (sendPending p) s)) (l .memory) (sendPanel (g .stride) p (screenOf g (s .head .graphics) (l .memory)) (l .panel)))
+    (lent (encode g (withPanel k (sendPending p) s)) (l .memory) (sendPanel (g .stride) p (screenOf g (s .head .graphics) (l .memory)) (l .panel)))
 
 -- ---- the outcome on every input: a refusal leaves all bytes, and its other numbers are 0
 

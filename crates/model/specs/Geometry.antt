@@ -9,9 +9,9 @@ pub record Geometry : Type 0 where
   pub band : ℕ
   pub panels : ℕ
 
--- 160 by 80, one band, one panel
+-- 160 by 80, one band, four panels
 abbrev pub base : Geometry
-base = record { stride = 20; bands = 1; band = 80; panels = 1 }
+base = record { stride = 20; bands = 1; band = 80; panels = 4 }
 
 -- the screen in pixels, and in bytes
 abbrev pub width : Geometry → ℕ

@@ -24,7 +24,7 @@ use Rattle.model.specs.Sends.{sendPending}
 use Rattle.model.specs.Calls.{Call, opening, reset, drawPoint, drawLine, drawBox, drawCircle, drawEllipse, checkPoint, paintBitmap, writeByte, flush, getRow, getColumn, setRow, setColumn, setPrintMode, takeDirtyArea, send, Lent, lent, Lending, to-open, record-only, with-memory, with-fonts, with-panel, takes, filled, refusals, outcome, print, newline, cls, setScreenMode, blinkCursor, clearCursor}
 use Rattle.model.specs.Print.{Page, newlineOn, isInverse, printOn, pageOf, screenScrolls, scrollMark}
 use Rattle.model.specs.Cursor.{blinkDrawing}
-use lib.ListN.{length}
+use lib.ListN.{length, getD, set}
 
 -- ---- lists of calls
 
@@ -56,7 +56,7 @@ Typed (setPrintMode n) = n < 256
 Typed blinkCursor = Unit {0}
 Typed clearCursor = Unit {0}
 Typed takeDirtyArea = Unit {0}
-Typed send = Unit {0}
+Typed (send k) = k < 256
 
 -- An item of a list: a call that is lent what it takes of what the last accepted call left, and may be accepted or refused; or a refused call that is lent other
 -- buffers.
@@ -64,36 +64,53 @@ pub data Item (g : Geometry) : Type 0 where
   here : (c : Call) → Typed c → Item g
   elsewhere : (c : Call) (l : Lent) → (accepted g c l → ⊥) → Item g
 
--- what a call takes of record, memory and panel
-unfoldable pub lentTo : Lending → Lent → Lent
-lentTo to-open l = lent (l .rec) (l .memory) []
-lentTo record-only l = lent (l .rec) [] []
-lentTo with-memory l = lent (l .rec) (l .memory) []
-lentTo (with-fonts f) l = lent (l .rec) (l .memory) []
-lentTo with-panel l = l
+-- what stands between the calls of a list: a record, a memory, and a buffer for each panel
+pub record Buffers : Type 0 where
+  pub rec : List ℕ
+  pub memory : List ℕ
+  pub panels : List (List ℕ)
 
--- these given back as the call left them, k; what it was not lent stands as before
-unfoldable pub givenBack : Lending → Lent → Lent → Lent
-givenBack to-open l k = lent (k .rec) (k .memory) (l .panel)
-givenBack record-only l k = lent (k .rec) (l .memory) (l .panel)
-givenBack with-memory l k = lent (k .rec) (k .memory) (l .panel)
-givenBack (with-fonts f) l k = lent (k .rec) (k .memory) (l .panel)
-givenBack with-panel l k = k
+abbrev pub buffers : List ℕ → List ℕ → List (List ℕ) → Buffers
+buffers r m ps = record { rec = r; memory = m; panels = ps }
+
+-- the buffer of panel k, `[]` where there is none
+abbrev pub panelBuffer : ℕ → Buffers → List ℕ
+panelBuffer k b = getD (b .panels) k []
+
+-- what a send to panel k is lent
+abbrev pub lentToSend : ℕ → Buffers → Lent
+lentToSend k b = lent (b .rec) (b .memory) (panelBuffer k b)
+
+-- what a call takes of them: a send the buffer of the panel that it names, any other call none
+unfoldable pub lentTo : Lending → Buffers → Lent
+lentTo to-open b = lent (b .rec) (b .memory) []
+lentTo record-only b = lent (b .rec) [] []
+lentTo with-memory b = lent (b .rec) (b .memory) []
+lentTo (with-fonts f) b = lent (b .rec) (b .memory) []
+lentTo (with-panel k) b = lentToSend k b
+
+-- these given back as the call left them, l; what it was not lent stands as before
+unfoldable pub givenBack : Lending → Buffers → Lent → Buffers
+givenBack to-open b l = buffers (l .rec) (l .memory) (b .panels)
+givenBack record-only b l = buffers (l .rec) (b .memory) (b .panels)
+givenBack with-memory b l = buffers (l .rec) (l .memory) (b .panels)
+givenBack (with-fonts f) b l = buffers (l .rec) (l .memory) (b .panels)
+givenBack (with-panel k) b l = buffers (l .rec) (l .memory) (set (b .panels) k (l .panel))
 
 -- what stands after a call that is lent what it takes
-unfoldable pub leaves : Geometry → Call → Lent → Lent
-leaves g c l = givenBack (takes c) l (outcome g c (lentTo (takes c) l) .left)
+unfoldable pub leaves : Geometry → Call → Buffers → Buffers
+leaves g c b = givenBack (takes c) b (outcome g c (lentTo (takes c) b) .left)
 
 -- what stands after an item
-unfoldable pub after : (g : Geometry) → Lent → Item g → Lent
-after g l (here c t) = leaves g c l
-after g l (elsewhere c k r) = l
+unfoldable pub after : (g : Geometry) → Buffers → Item g → Buffers
+after g b (here c t) = leaves g c b
+after g b (elsewhere c l r) = b
 
-unfoldable pub run : (g : Geometry) → Lent → List (Item g) → Lent
-run g l [] = l
-run g l (i ∷ is) = run g (after g l i) is
+unfoldable pub run : (g : Geometry) → Buffers → List (Item g) → Buffers
+run g b [] = b
+run g b (i ∷ is) = run g (after g b i) is
 
--- ---- owed, in hand and lines sent, reckoned from the list
+-- ---- owed, in hand and lines sent of a panel, reckoned from the list
 
 -- what an accepted call does to them
 pub data Effect : Type 0 where
@@ -116,34 +133,34 @@ blinks g l =
     let h = decode g (l .rec) .head in
     cond (eqb (h .screen) 0) (draws g (blinkDrawing g h (l .memory))) nothing
 
--- what each call does to them where it is accepted, in the state that the calls before it leave
-unfoldable pub effect : Geometry → Call → Lent → Effect
-effect g (opening graphics text version keys) l = opens
-effect g reset l = marks (whole (g .stride) (height g))
-effect g (drawPoint x y mode) l = draws g (point (g .stride) (height g) x y (drawMode mode))
-effect g (drawLine x1 y1 x2 y2 mode) l = draws g (line (g .stride) (height g) x1 y1 x2 y2 (drawMode mode))
-effect g (drawBox x1 y1 x2 y2 fill mode) l = draws g (box (g .stride) (height g) x1 y1 x2 y2 (filled fill) (drawMode mode))
-effect g (drawCircle x y r fill mode) l = draws g (circle (g .stride) (height g) x y r (filled fill) (drawMode mode))
-effect g (drawEllipse x y rx ry fill mode) l = draws g (ellipse (g .stride) (height g) x y rx ry (filled fill) (drawMode mode))
-effect g (checkPoint x y) l = nothing
-effect g (paintBitmap a x y w n mode) l =
+-- what each call does to those of panel k where it is accepted, in the state that the calls before it leave
+unfoldable pub effect : Geometry → ℕ → Call → Lent → Effect
+effect g k (opening graphics text version keys) l = opens
+effect g k reset l = marks (whole (g .stride) (height g))
+effect g k (drawPoint x y mode) l = draws g (point (g .stride) (height g) x y (drawMode mode))
+effect g k (drawLine x1 y1 x2 y2 mode) l = draws g (line (g .stride) (height g) x1 y1 x2 y2 (drawMode mode))
+effect g k (drawBox x1 y1 x2 y2 fill mode) l = draws g (box (g .stride) (height g) x1 y1 x2 y2 (filled fill) (drawMode mode))
+effect g k (drawCircle x y r fill mode) l = draws g (circle (g .stride) (height g) x y r (filled fill) (drawMode mode))
+effect g k (drawEllipse x y rx ry fill mode) l = draws g (ellipse (g .stride) (height g) x y rx ry (filled fill) (drawMode mode))
+effect g k (checkPoint x y) l = nothing
+effect g k (paintBitmap a x y w n mode) l =
     draws g (bitmap (g .stride) (height g) (window a (sourceBytes w n) (l .memory)) x y w n (paintMode mode))
-effect g (print bs) l =
+effect g k (print bs) l =
     let s = decode g (l .rec) in prints g (printOn (rows g) (columns g) (isInverse (s .head .print)) bs (pageOf g s (l .memory))) l
-effect g newline l = prints g (newlineOn (rows g) (columns g) (pageOf g (decode g (l .rec)) (l .memory))) l
-effect g cls l = marks (whole (g .stride) (height g))
-effect g (writeByte a v) l = let s = decode g (l .rec) in marks (pokeMark g (s .keys) (s .head .graphics) a)
-effect g (flush f) l = marks (whole (g .stride) (height g))
-effect g getRow l = nothing
-effect g getColumn l = nothing
-effect g (setRow n) l = nothing
-effect g (setColumn n) l = nothing
-effect g (setScreenMode n) l = marks (whole (g .stride) (height g))
-effect g (setPrintMode n) l = nothing
-effect g blinkCursor l = blinks g l
-effect g clearCursor l = cond (eqb (decode g (l .rec) .head .cursor) 0) nothing (blinks g l)
-effect g takeDirtyArea l = nothing
-effect g send l = sends
+effect g k newline l = prints g (newlineOn (rows g) (columns g) (pageOf g (decode g (l .rec)) (l .memory))) l
+effect g k cls l = marks (whole (g .stride) (height g))
+effect g k (writeByte a v) l = let s = decode g (l .rec) in marks (pokeMark g (s .keys) (s .head .graphics) a)
+effect g k (flush f) l = marks (whole (g .stride) (height g))
+effect g k getRow l = nothing
+effect g k getColumn l = nothing
+effect g k (setRow n) l = nothing
+effect g k (setColumn n) l = nothing
+effect g k (setScreenMode n) l = marks (whole (g .stride) (height g))
+effect g k (setPrintMode n) l = nothing
+effect g k blinkCursor l = blinks g l
+effect g k clearCursor l = cond (eqb (decode g (l .rec) .head .cursor) 0) nothing (blinks g l)
+effect g k takeDirtyArea l = nothing
+effect g k (send j) l = cond (eqb j k) sends nothing
 
 unfoldable pub affected : Geometry → Pending → Effect → Pending
 affected g p nothing = p
@@ -156,13 +173,13 @@ unfoldable pub effectAt : ℕ → Effect → Effect
 effectAt zero e = e
 effectAt (suc k) e = nothing
 
-unfoldable pub itemEffect : (g : Geometry) → Lent → Item g → Effect
-itemEffect g l (here c t) = let k = lentTo (takes c) l in effectAt (refusal (refusals g c k)) (effect g c k)
-itemEffect g l (elsewhere c k r) = nothing
+unfoldable pub itemEffect : (g : Geometry) → ℕ → Buffers → Item g → Effect
+itemEffect g k b (here c t) = let l = lentTo (takes c) b in effectAt (refusal (refusals g c l)) (effect g k c l)
+itemEffect g k b (elsewhere c l r) = nothing
 
-unfoldable pub reckoned : (g : Geometry) → Pending → Lent → List (Item g) → Pending
-reckoned g p l [] = p
-reckoned g p l (i ∷ is) = reckoned g (affected g p (itemEffect g l i)) (after g l i) is
+unfoldable pub reckoned : (g : Geometry) → ℕ → Pending → Buffers → List (Item g) → Pending
+reckoned g k p b [] = p
+reckoned g k p b (i ∷ is) = reckoned g k (affected g p (itemEffect g k b i)) (after g b i) is
 
 -- ---- L, and the pixels that differ
 

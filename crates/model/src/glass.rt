@@ -24,12 +24,12 @@ pub struct Glass {
     pub others: usize,
 }
 
-// 160 by 80, one band, one panel. The glass's numbers stand here and nowhere else in the code.
+// 160 by 80, one band, four panels. The glass's numbers stand here and nowhere else in the code.
 pub const SMALL: Glass = Glass {
     stride: 20,
     bands: 1,
     band: 80,
-    panels: 1,
+    panels: 4,
     width: 160,
     height: 80,
     screen: SCREEN_BYTES,
@@ -56,7 +56,7 @@ pub const GLYPH_LINES: usize = 16;
 // Lengths of arrays: the text that a flush keeps, and the record and panel of a program that lends them.
 pub const TEXT_BYTES: usize = 100;
 
-pub const RECORD_BYTES: usize = 170;
+pub const RECORD_BYTES: usize = 230;
 
 pub const SCREEN_BYTES: usize = 1600;
 

@@ -20,3 +20,6 @@ pub const RADIUS: u32 = 6;
 
 // Flush would paint a byte past the end of its font.
 pub const GLYPH: u32 = 7;
+
+// Send: a panel's number above the last.
+pub const PANEL: u32 = 9;

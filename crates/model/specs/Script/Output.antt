@@ -61,11 +61,11 @@ textBase = 8192
 abbrev pub noKeys : List ℕ
 noKeys = 0 ∷ 0 ∷ 0 ∷ 0 ∷ 0 ∷ 0 ∷ 0 ∷ 0 ∷ []
 
--- opened with V2, no keys and a zero panel
+-- opened with V2, no keys and a zero panel, which is panel 0
 unfoldable pub opened : Lent
 opened = lent (encode base (openState base graphicsBase textBase 1 noKeys)) (clearMemory noKeys) (zeros (screenBytes base))
 
--- (end d l): differing pixels, then L
+-- (end d l): differing pixels, then L, both of panel 0
 unfoldable pub ending : Lent → List ℕ
 ending l = printed (bytesOf "end") (differing base (screenOf base graphicsBase (l .memory)) (l .panel) ∷ linesLeft (panelOf base (decode base (l .rec)) 0) ∷ [])
 

@@ -130,8 +130,9 @@ lineForm fs = callLine (drawLine (getD fs 4 0) (getD fs 3 0) (getD fs 2 0) (getD
 abbrev pub pokeForm : List ℕ → ScriptLine
 pokeForm fs = callLine (writeByte (getD fs 1 0) (getD fs 0 0))
 
+-- a script sends to panel 0
 abbrev pub sendForm : List ℕ → ScriptLine
-sendForm fs = callLine send
+sendForm fs = callLine (send 0)
 
 unfoldable pub readLine : List ℕ → ScriptLine
 readLine l =
