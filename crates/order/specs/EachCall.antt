@@ -1,10 +1,14 @@
--- Every accepted call: one clause says that it leaves bytes that can be lent again and that the panel's state follows by its effect.
-use mathlib.Core.Path.{_≡_, refl}
+-- Every accepted call, lent what it takes: one clause says that it leaves bytes that can be lent again and that the state of panel k follows by its effect.
+use mathlib.Core.Path.{_≡_, refl, sym}
 use mathlib.Core.Bool.{Bool, true, _&&_}
-use Prim.Native.Nat.{ℕ, _<_}
+use mathlib.Core.List.{List, [], _∷_}
+use Prim.Native.Nat.{ℕ, zero, suc, _<_}
+use native.Mathlib.Nat.{mul-pos}
 use native.Mathlib.Omega.{arith}
 use lib.Dec.{leb, eqb}
-use borrow.Author.Tests.{le-leb}
+use lib.ListN.{length, getD}
+use lib.Seq.{getD-set-same, getD-set-other}
+use borrow.Author.Tests.{le-leb, ltb-true, eq-eqb, ne-eqb}
 use Rattle.model.specs.Geometry.{Geometry, height, columns, rows}
 use Rattle.model.specs.Glass.{IsGlass}
 use Rattle.model.specs.Rects.{none, isEmpty, fits}
@@ -16,11 +20,12 @@ use Rattle.model.specs.declared.Head.{Head}
 use Rattle.model.specs.Bitmaps.{paintMode, sourceBytes}
 use Rattle.model.specs.Memory.{window}
 use Rattle.model.specs.Text.{withRow, withColumn, printMode, withPrintMode}
-use Rattle.model.specs.Calls.{Call, opening, reset, drawPoint, drawLine, drawBox, drawCircle, drawEllipse, checkPoint, paintBitmap, print, newline, cls, writeByte, flush, getRow, getColumn, setRow, setColumn, setScreenMode, setPrintMode, blinkCursor, clearCursor, takeDirtyArea, send, Lent, answered, filled, drawing, done}
+use Rattle.model.specs.Calls.{Call, opening, reset, drawPoint, drawLine, drawBox, drawCircle, drawEllipse, checkPoint, paintBitmap, print, newline, cls, writeByte, flush, getRow, getColumn, setRow, setColumn, setScreenMode, setPrintMode, blinkCursor, clearCursor, takeDirtyArea, send, Lent, record-only, with-memory, takes, answered, filled, drawingWith, drawing, changed, cleared, withPage, blinked, cursorCleared, done}
 use Rattle.model.specs.Print.{isInverse}
-use Rattle.model.specs.Record.{headFits}
-use Rattle.model.specs.Lists.{accepted, Typed, Item, after, draws, effect, itemEffect}
-use Rattle.laws.specs.Tests.{if-cases}
+use Rattle.model.specs.Record.{panelOf, headFits}
+use Rattle.model.specs.Sends.{sendPanel}
+use Rattle.model.specs.Lists.{accepted, Typed, Item, Buffers, panelBuffer, lentToSend, lentTo, givenBack, after, draws, blinks, effect, itemEffect}
+use Rattle.laws.specs.Tests.{if-cases, by-test, by-eq}
 use Rattle.laws.specs.Record.{head-tells}
 use Rattle.laws.specs.Points.{point-fits}
 use Rattle.laws.specs.Slopes.{line-fits}
@@ -32,60 +37,89 @@ use Rattle.laws.specs.Calls.{accepted-call}
 use Rattle.laws.specs.Writes.{AgreeOutside}
 use Rattle.order.specs.Held.{touched}
 use Rattle.order.specs.Step.{still-fits, Lendable, old, screenHeld, Step, known, same-step, changed-step}
-use Rattle.order.specs.Accepted.{by-item}
-use Rattle.order.specs.Opens.{opening-step, reset-step, send-step}
+use Rattle.order.specs.Accepted.{doneOn, by-item}
+use Rattle.order.specs.Opens.{opening-step, reset-step, send-step, other-send-step}
 use Rattle.order.specs.MarkSteps.{poke-step, flush-step, drawing-step, blink-step, clear-cursor-step, cleared-step, page-step}
 
-module _ (g : Geometry) (l : Lent) (q : Lendable g l) where
+-- a panel whose buffer holds anything is there
+has-buffer : (ps : List (List ℕ)) (k : ℕ) → 0 < length (getD ps k []) → k < length ps
+has-buffer [] k h = absurd (omega arith)
+has-buffer (p ∷ ps) zero h = omega arith
+has-buffer (p ∷ ps) (suc k) h = omega (arith, has-buffer ps k h)
+
+module _ (g : Geometry) (k : ℕ) (there : k < g .panels) (b : Buffers) (q : Lendable g (lentToSend k b)) where
+  -- the record, memory, and panel k's buffer
+  abbrev l : Lent
+  l = lentToSend k b
+
   abbrev z : IsGlass g
   z = q .passing .glass
 
   abbrev h : Head
   h = old g l .head
 
-  ellipse-step : (x y rx ry : ℕ) (fill : Bool) (d : DrawMode) → x < 256 → y < 256 → let e = ellipse (g .stride) (height g) x y rx ry fill d in Step g 0 l (draws g e) (drawing g e l)
-  ellipse-step x y rx ry fill d hx hy =
-      drawing-step g 0 (z .one) l q _ (ellipse-fits (g .stride) (height g) x y rx ry fill d (omega (arith, z .columns)) (omega (arith, z .cursor)) (omega (arith, z .row)) (z .high) hx hy)
+  -- what panel k sees of what stands after a call that is done
+  abbrev next : Call → Lent
+  next c = lentToSend k (doneOn g c b)
 
-  -- panel 0 is the one where a send goes
-  pub call-step : (c : Call) → Typed c → accepted g c l → Step g 0 l (effect g c l) (done g c l .left)
-  unfolding effect done answered point headFits fits isEmpty printMode withPrintMode
-  call-step (opening graphics text version keys) t a = opening-step g z graphics text version keys l t a (q .panel)
-  call-step reset t a = reset-step g 0 (z .one) l q
+  ellipse-step : (x y rx ry : ℕ) (fill : Bool) (d : DrawMode) → x < 256 → y < 256 → let e = ellipse (g .stride) (height g) x y rx ry fill d in Step g k l (draws g e) (drawing g e l)
+  ellipse-step x y rx ry fill d hx hy =
+      drawing-step g k there l q _ (ellipse-fits (g .stride) (height g) x y rx ry fill d (omega (arith, z .columns)) (omega (arith, z .cursor)) (omega (arith, z .row)) (z .high) hx hy)
+
+  -- a send to panel k, and one to another
+  sent-step : (j : ℕ) → accepted g (send j) (lentToSend j b) → Step g k l (effect g k (send j) (lentToSend j b)) (next (send j))
+  unfolding effect done answered lentTo givenBack
+  sent-step j a =
+      by-eq j k
+      (λ e.
+      let some : 0 < length (panelBuffer k b) = rw (q .panel) (mul-pos (omega (arith, z .columns)) (omega (arith, z .row, z .filled))) in
+      rw (e, eq-eqb k k refl, getD-set-same (b .panels) k (sendPanel (g .stride) (panelOf g (old g l) k) (screenHeld g l) (panelBuffer k b)) [] (has-buffer (b .panels) k some)) (send-step g k there l q))
+      (λ n.
+      let p = accepted-call g (send j) (lentToSend j b) (omega arith) a .1 in
+      rw (ne-eqb j k n, getD-set-other (b .panels) j k (sendPanel (g .stride) (panelOf g (old g l) j) (screenHeld g l) (panelBuffer j b)) [] (λ e. n (sym e)))
+      (other-send-step g k there l q j (ltb-true j (g .panels) (p .0)) (λ e. n (sym e))))
+
+  pub call-step : (c : Call) → Typed c → accepted g c (lentTo (takes c) b) → Step g k l (effect g k c (lentTo (takes c) b)) (next c)
+  unfolding effect blinks done answered drawingWith changed cleared withPage blinked cursorCleared lentTo givenBack point headFits fits isEmpty printMode withPrintMode
+  call-step (opening graphics text version keys) t a = opening-step g k there z graphics text version keys (b .rec) (b .memory) (panelBuffer k b) t a (q .panel)
+  call-step reset t a = reset-step g k there l q
   call-step (drawPoint x y mode) t a =
-      drawing-step g 0 (z .one) l q (point (g .stride) (height g) x y (drawMode mode)) (point-fits (g .stride) (height g) x y (t .0) (t .1))
+      drawing-step g k there l q (point (g .stride) (height g) x y (drawMode mode)) (point-fits (g .stride) (height g) x y (t .0) (t .1))
   call-step (drawLine x1 y1 x2 y2 mode) t a =
-      drawing-step g 0 (z .one) l q _ (line-fits (g .stride) (height g) x1 y1 x2 y2 (drawMode mode) (t .0) (t .1) (t .2) (t .3))
+      drawing-step g k there l q _ (line-fits (g .stride) (height g) x1 y1 x2 y2 (drawMode mode) (t .0) (t .1) (t .2) (t .3))
   call-step (drawBox x1 y1 x2 y2 fill mode) t a =
-      drawing-step g 0 (z .one) l q _ (box-fits (g .stride) (height g) x1 y1 x2 y2 (filled fill) (drawMode mode) (t .0) (t .1) (t .2) (t .3))
+      drawing-step g k there l q _ (box-fits (g .stride) (height g) x1 y1 x2 y2 (filled fill) (drawMode mode) (t .0) (t .1) (t .2) (t .3))
   call-step (drawCircle x y r fill mode) t a = ellipse-step x y r r (filled fill) (drawMode mode) (t .0) (t .1)
   call-step (drawEllipse x y rx ry fill mode) t a = ellipse-step x y rx ry (filled fill) (drawMode mode) (t .0) (t .1)
-  call-step (checkPoint x y) t a = same-step g 0 (z .one) l q
-  call-step (paintBitmap b x y w n mode) t a =
-      drawing-step g 0 (z .one) l q _ (bitmap-fits (g .stride) (height g) (window b (sourceBytes w n) (l .memory)) x y w n (paintMode mode) (omega (arith, z .cursor)) (z .high))
-  call-step (print bs) t a = page-step g 0 (z .one) l q _ (print-sheet (rows g) (columns g) (isInverse (h .print)) bs)
-  call-step newline t a = page-step g 0 (z .one) l q _ (λ p. newline-sheet (rows g) (columns g) 1 1 p (omega (arith, z .columns)))
-  call-step cls t a = cleared-step g 0 (z .one) l q (h .screen) (le-leb (h .screen) 1 (head-tells g h (known g l q .head) .screen))
-  call-step (writeByte b v) t a = poke-step g 0 (z .one) l q b v
-  call-step (flush f) t a = flush-step g 0 (z .one) l q f
-  call-step getRow t a = same-step g 0 (z .one) l q
-  call-step getColumn t a = same-step g 0 (z .one) l q
-  call-step (setRow n) t a = changed-step g 0 (z .one) l q (withRow n) (still-fits g h (known g l q .head) 1 (accepted-call g (setRow n) l (omega arith) a .1 .0)) refl
-  call-step (setColumn n) t a = changed-step g 0 (z .one) l q (withColumn n) (still-fits g h (known g l q .head) 2 (accepted-call g (setColumn n) l (omega arith) a .1 .0)) refl
-  call-step (setScreenMode n) t a = cleared-step g 0 (z .one) l q n (accepted-call g (setScreenMode n) l (omega arith) a .1 .0)
+  call-step (checkPoint x y) t a = same-step g k there l q
+  call-step (paintBitmap i x y w n mode) t a =
+      drawing-step g k there l q _ (bitmap-fits (g .stride) (height g) (window i (sourceBytes w n) (b .memory)) x y w n (paintMode mode) (omega (arith, z .cursor)) (z .high))
+  call-step (print bs) t a = page-step g k there l q _ (print-sheet (rows g) (columns g) (isInverse (h .print)) bs)
+  call-step newline t a = page-step g k there l q _ (λ p. newline-sheet (rows g) (columns g) 1 1 p (omega (arith, z .columns)))
+  call-step cls t a = cleared-step g k there l q (h .screen) (le-leb (h .screen) 1 (head-tells g h (known g l q .head) .screen))
+  call-step (writeByte i v) t a = poke-step g k there l q i v
+  call-step (flush f) t a = flush-step g k there l q f
+  call-step getRow t a = same-step g k there l q
+  call-step getColumn t a = same-step g k there l q
+  call-step (setRow n) t a = changed-step g k there l q (withRow n) (still-fits g h (known g l q .head) 1 (accepted-call g (setRow n) (lentTo record-only b) (omega arith) a .1 .0)) refl
+  call-step (setColumn n) t a = changed-step g k there l q (withColumn n) (still-fits g h (known g l q .head) 2 (accepted-call g (setColumn n) (lentTo record-only b) (omega arith) a .1 .0)) refl
+  call-step (setScreenMode n) t a = cleared-step g k there l q n (accepted-call g (setScreenMode n) (lentTo with-memory b) (omega arith) a .1 .0)
   -- Flash while Inverse gives Normal: a listed mode too
   call-step (setPrintMode n) t a =
-      changed-step g 0 (z .one) l q (withPrintMode n) (still-fits g h (known g l q .head) 4
-      (if-cases (λ (m : ℕ). leb m 2 ≡ true) (eqb (h .print) 1 && eqb n 2) (λ e. refl) (λ e. accepted-call g (setPrintMode n) l (omega arith) a .1 .0))) refl
-  call-step blinkCursor t a = blink-step g 0 (z .one) l q
-  call-step clearCursor t a = clear-cursor-step g 0 (z .one) l q
-  call-step takeDirtyArea t a = changed-step g 0 (z .one) l q (withDirty none) (still-fits g h (known g l q .head) 7 refl) refl
-  call-step send t a = send-step g 0 (z .one) l q
+      changed-step g k there l q (withPrintMode n) (still-fits g h (known g l q .head) 4
+      (if-cases (λ (m : ℕ). leb m 2 ≡ true) (eqb (h .print) 1 && eqb n 2) (λ e. refl) (λ e. accepted-call g (setPrintMode n) (lentTo record-only b) (omega arith) a .1 .0))) refl
+  call-step blinkCursor t a = let s = blink-step g k there l q in by-test (eqb (h .screen) 0) (λ e. rw e (rw e at s)) (λ e. rw e (rw e at s))
+  call-step clearCursor t a =
+      let s = clear-cursor-step g k there l q in
+      by-test (eqb (h .cursor) 0) (λ e. rw e (rw e at s)) (λ e. by-test (eqb (h .screen) 0) (λ f. rw (e, f) (rw (e, f) at s)) (λ f. rw (e, f) (rw (e, f) at s)))
+  call-step takeDirtyArea t a = changed-step g k there l q (withDirty none) (still-fits g h (known g l q .head) 7 refl) refl
+  call-step (send j) t a = sent-step j a
 
   -- so no accepted call changes a pixel outside what it owes: the last clause of Marks never applies
-  pub no-pixel-outside : (c : Call) → Typed c → accepted g c l → AgreeOutside (g .stride) (height g) (touched g (effect g c l)) (screenHeld g l) (screenHeld g (done g c l .left))
+  pub no-pixel-outside : (c : Call) → Typed c → accepted g c (lentTo (takes c) b)
+      → AgreeOutside (g .stride) (height g) (touched g (effect g k c (lentTo (takes c) b))) (screenHeld g l) (screenHeld g (next c))
   no-pixel-outside c t a = call-step c t a .follows .screen
 
   -- a refused call leaves all as it was, and so does one that was lent other buffers
-  pub item-step : (i : Item g) → Step g 0 l (itemEffect g l i) (after g l i)
-  item-step i = by-item g (λ k e cs. Step g 0 l e k) l i call-step (same-step g 0 (z .one) l q)
+  pub item-step : (i : Item g) → Step g k l (itemEffect g k b i) (lentToSend k (after g b i))
+  item-step i = by-item g k (λ d e cs. Step g k l e (lentToSend k d)) b i call-step (same-step g k there l q)

@@ -70,7 +70,7 @@ module _ (g : Geometry) (k : ℕ) (there : k < g .panels) (l : Lent) (q : Lendab
   abbrev s : State
   s = old g l
 
-  pub poke-step : (a v : ℕ) → Step g k l (effect g (writeByte a v) l) (done g (writeByte a v) l .left)
+  pub poke-step : (a v : ℕ) → Step g k l (effect g k (writeByte a v) l) (done g (writeByte a v) l .left)
   unfolding effect done answered poked
   poke-step a v =
       let m = pokeMark g (s .keys) (s .head .graphics) a in
@@ -84,7 +84,7 @@ module _ (g : Geometry) (k : ℕ) (there : k < g .panels) (l : Lent) (q : Lendab
   long = screen-long g (q .passing .glass) (s .head) (known g l q .head) (l .memory) (q .memory)
 
   -- flush: the screen changes anywhere, and the whole of it is owed
-  pub flush-step : (f : Fonts) → Step g k l (effect g (flush f) l) (done g (flush f) l .left)
+  pub flush-step : (f : Fonts) → Step g k l (effect g k (flush f) l) (done g (flush f) l .left)
   unfolding effect done answered flushed
   flush-step f =
       let m = whole (g .stride) (height g) in

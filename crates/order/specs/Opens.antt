@@ -1,12 +1,13 @@
--- Open and reset: memory is cleared, and the whole screen is owed to each panel. Send: the pending part of panel k and the panel change as the effect says.
+-- Open and reset: memory is cleared, and the whole screen is owed to each panel. Send: the pending part of the panel that it names and its buffer change as the
+-- effect says, and nothing of another panel.
 use mathlib.Core.Path.{_≡_, refl, _∙_}
 use mathlib.Core.Bool.{true}
-use mathlib.Core.List.{List}
+use mathlib.Core.List.{List, []}
 use Prim.Native.Nat.{ℕ, _<_}
 use native.Mathlib.Omega.{arith}
 use lib.Dec.{leb}
 use lib.ListN.{length, set, length-set, length-replicate, getD-replicate}
-use lib.Seq.{getD-set-same}
+use lib.Seq.{getD-set-same, getD-set-other}
 use borrow.Author.Tests.{lt-ltb, le-leb}
 use Rattle.model.specs.Geometry.{Geometry, height, screenBytes, columns, rows, cells, memoryBytes}
 use Rattle.model.specs.Glass.{IsGlass}
@@ -18,7 +19,7 @@ use Rattle.model.specs.Marks.{whole, updateDirty, marked}
 use Rattle.model.specs.Open.{clearMemory, clearHead, clearFlags, openPending, openState, resetState}
 use Rattle.model.specs.Sends.{sendPending, sendPanel}
 use Rattle.model.specs.Calls.{opening, Lent, lent, answered, done}
-use Rattle.model.specs.Lists.{accepted, Typed, marks, opens, sends, affected}
+use Rattle.model.specs.Lists.{accepted, Typed, nothing, marks, opens, sends, affected}
 use Rattle.laws.specs.Tests.{all-true, true-all}
 use Rattle.laws.specs.Calls.{accepted-call}
 use Rattle.laws.specs.Rects.{none-fits}
@@ -55,14 +56,15 @@ open-formed g z graphics text version keys a b n ws = record {
 }
 
 -- an opening needs nothing of what stood before it but the panel's length
-pub opening-step : (g : Geometry) → IsGlass g → (graphics text version : ℕ) (keys : List ℕ) (l : Lent) → Typed (opening graphics text version keys)
-    → accepted g (opening graphics text version keys) l → length (l .panel) ≡ screenBytes g → Step g 0 l opens (done g (opening graphics text version keys) l .left)
+pub opening-step : (g : Geometry) (k : ℕ) → k < g .panels → IsGlass g → (graphics text version : ℕ) (keys : List ℕ) (r m p : List ℕ) → Typed (opening graphics text version keys)
+    → accepted g (opening graphics text version keys) (lent r m []) → length p ≡ screenBytes g
+    → Step g k (lent r m p) opens (done g (opening graphics text version keys) (lent r m p) .left)
 unfolding openState affected done answered
-opening-step g z graphics text version keys l t a p =
-    let b = accepted-call g (opening graphics text version keys) l (omega arith) a .1 in
-    stored g 0 z l opens (openState g graphics text version keys) (clearMemory keys) (l .panel)
-    (open-formed g z graphics text version keys (b .0) (b .1 .0) (t .0) (t .1)) (length-clear-memory keys) p
-    (record { pending = getD-replicate (g .panels) 0 (openPending g) (nothingPending g) (z .one); panel = refl; screen = whole-agrees (g .stride) (height g) _ _ })
+opening-step g k there z graphics text version keys r m p t a n =
+    let b = accepted-call g (opening graphics text version keys) (lent r m []) (omega arith) a .1 in
+    stored g k z (lent r m p) opens (openState g graphics text version keys) (clearMemory keys) p
+    (open-formed g z graphics text version keys (b .0) (b .1 .0) (t .0) (t .1)) (length-clear-memory keys) n
+    (record { pending = getD-replicate (g .panels) k (openPending g) (nothingPending g) there; panel = refl; screen = whole-agrees (g .stride) (height g) _ _ })
 
 module _ (g : Geometry) (k : ℕ) (there : k < g .panels) (l : Lent) (q : Lendable g l) where
   pub reset-step : Step g k l (marks (whole (g .stride) (height g))) (lent (encode g (resetState g (old g l))) (clearMemory (old g l .keys)) (l .panel))
@@ -88,3 +90,15 @@ module _ (g : Geometry) (k : ℕ) (there : k < g .panels) (l : Lent) (q : Lendab
       stored g k (q .passing .glass) l sends (withPanel k (sendPending p) s) (l .memory) (sendPanel (g .stride) p (screenHeld g l) (l .panel))
       (panel-formed g s w k (sendPending p) there (well-send g p (w .panels k there))) (q .memory) (length-send (g .stride) (screenHeld g l) (l .panel) p ∙ q .panel)
       (record { pending = getD-set-same (s .panels) k (sendPending p) (nothingPending g) (omega (arith, w .count)); panel = refl; screen = λ x y hx hy n. refl })
+
+  -- to panel k a send to another panel is nothing
+  pub other-send-step : (j : ℕ) → j < g .panels → (k ≡ j → ⊥) → let p = panelOf g (old g l) j in
+      Step g k l nothing (lent (encode g (withPanel j (sendPending p) (old g l))) (l .memory) (l .panel))
+  unfolding affected
+  other-send-step j i n =
+      let s = old g l in
+      let w = known g l q in
+      let p = panelOf g s j in
+      stored g k (q .passing .glass) l nothing (withPanel j (sendPending p) s) (l .memory) (l .panel)
+      (panel-formed g s w j (sendPending p) i (well-send g p (w .panels j i))) (q .memory) (q .panel)
+      (record { pending = getD-set-other (s .panels) j k (sendPending p) (nothingPending g) n; panel = refl; screen = λ x y hx hy n. refl })

@@ -1,122 +1,130 @@
--- What holds after an accepted opening and every list of items, over any geometry.
+-- What holds of panel k after an accepted opening and every list of items, over any geometry.
 use mathlib.Core.Path.{_≡_, refl, sym, ap, _∙_}
 use mathlib.Core.Logic.{_↔_}
 use mathlib.Core.Bool.{_&&_}
-use mathlib.Core.List.{List, [], _∷_, _++_}
-use Prim.Native.Nat.{ℕ, zero, suc, _+_, _-_, _≤_}
+use mathlib.Core.List.{List, [], _∷_, _++_, map}
+use Prim.Native.Nat.{ℕ, zero, suc, _+_, _-_, _≤_, _<_}
 use native.Mathlib.Omega.{arith}
-use lib.ListN.{length, replicate, length-replicate}
-use borrow.Author.Tests.{eq-eqb}
+use lib.Dec.{eqb}
+use lib.ListN.{length, replicate}
+use borrow.Author.Tests.{eq-eqb, lt-ltb}
 use Rattle.model.specs.Geometry.{Geometry, height, screenBytes, memoryBytes}
 use Rattle.model.specs.Glass.{IsGlass}
 use Rattle.model.specs.Record.{Pending, nothingPending, WellPending}
 use Rattle.model.specs.Refusals.{refusal, ruled}
-use Rattle.model.specs.Calls.{Call, opening, send, Lent, answered, done, outcome}
-use Rattle.model.specs.Lists.{accepted, Typed, Item, here, lentTo, leaves, after, run, Effect, opens, effect, affected, effectAt, itemEffect, reckoned, linesLeft, differing}
+use Rattle.model.specs.Calls.{Call, opening, send, Lent, lent, takes, answered, done, outcome}
+use Rattle.model.specs.Lists.{accepted, Typed, Item, here, Buffers, panelBuffer, lentToSend, lentTo, givenBack, leaves, after, run, Effect, opens, effect, affected, effectAt, itemEffect, reckoned, linesLeft, differing}
+use Rattle.laws.specs.Tests.{by-test}
 use Rattle.laws.specs.Calls.{own-decide, outcome-done}
 use Rattle.laws.specs.Bands.{lines-send, idle-iff, lines-bound}
 use Rattle.order.specs.Held.{PanelState, Held, held-open, held-after, none-left}
 use Rattle.order.specs.Step.{Lendable, view, Step}
 use Rattle.order.specs.Opens.{opening-step}
 use Rattle.order.specs.EachCall.{item-step}
-use Rattle.order.specs.Parts.{same, leaves-done}
-use Rattle.order.specs.Accepted.{by-item, acceptedCall, acceptedCalls, leftBy, left-run}
+use Rattle.order.specs.Accepted.{leaves-done, by-item, acceptedCall, acceptedCalls, named}
 
--- what holds of the lent bytes between calls; p is owed, in hand and sent, as reckoned from the effects
-pub record Standing (g : Geometry) (l : Lent) (p : Pending) : Type 0 where
-  pub lendable : Lendable g l
-  pub held : Held g (view g 0 l)
-  pub pending : view g 0 l .pending ≡ p
+-- what holds of the lent bytes between calls; p is owed, in hand and sent of panel k, as reckoned from the effects
+pub record Standing (g : Geometry) (k : ℕ) (b : Buffers) (p : Pending) : Type 0 where
+  pub lendable : Lendable g (lentToSend k b)
+  pub held : Held g (view g k (lentToSend k b))
+  pub pending : view g k (lentToSend k b) .pending ≡ p
 
-module _ (g : Geometry) where
-  -- the state of the panel where a send goes
-  abbrev state : Lent → PanelState
-  state l = view g 0 l
+module _ (g : Geometry) (k : ℕ) (there : k < g .panels) where
+  abbrev state : Buffers → PanelState
+  state b = view g k (lentToSend k b)
 
   -- ---- after every list
 
-  standing-item : (l : Lent) (i : Item g) (p : Pending) → Standing g l p → Standing g (after g l i) (affected g p (itemEffect g l i))
-  standing-item l i p s =
-      let f = item-step g l (s .lendable) i in
+  pub standing-item : (b : Buffers) (i : Item g) (p : Pending) → Standing g k b p → Standing g k (after g b i) (affected g p (itemEffect g k b i))
+  standing-item b i p s =
+      let f = item-step g k there b (s .lendable) i in
       record {
         lendable = f .lendable;
-        held = held-after g (state l) (itemEffect g l i) (state (after g l i)) (s .held) (f .follows);
-        pending = f .follows .pending ∙ ap (λ (q : Pending). affected g q (itemEffect g l i)) (s .pending);
+        held = held-after g (state b) (itemEffect g k b i) (state (after g b i)) (s .held) (f .follows);
+        pending = f .follows .pending ∙ ap (λ (q : Pending). affected g q (itemEffect g k b i)) (s .pending);
       }
 
-  standing-run : (l : Lent) (is : List (Item g)) (p : Pending) → Standing g l p → Standing g (run g l is) (reckoned g p l is)
+  pub standing-run : (b : Buffers) (is : List (Item g)) (p : Pending) → Standing g k b p → Standing g k (run g b is) (reckoned g k p b is)
   unfolding run reckoned
-  standing-run l [] p s = s
-  standing-run l (i ∷ is) p s = standing-run (after g l i) is (affected g p (itemEffect g l i)) (standing-item l i p s)
+  standing-run b [] p s = s
+  standing-run b (i ∷ is) p s = standing-run (after g b i) is (affected g p (itemEffect g k b i)) (standing-item b i p s)
 
-  -- an accepted opening, lent any record, any memory and a panel, and then a list: owed and in hand are empty at first
-  pub standing-opened : IsGlass g → (graphics text version : ℕ) (keys : List ℕ) (t : Typed (opening graphics text version keys)) (l : Lent)
-      → accepted g (opening graphics text version keys) l → length (l .panel) ≡ screenBytes g
-      → (is : List (Item g)) → let list = here (opening graphics text version keys) t ∷ is in Standing g (run g l list) (reckoned g (nothingPending g) l list)
-  unfolding run after reckoned affected itemEffect effectAt effect
-  standing-opened z graphics text version keys t l a n is =
+  -- an accepted opening, lent any record and any memory, and then a list: owed and in hand are empty at first
+  pub standing-opened : IsGlass g → (graphics text version : ℕ) (keys : List ℕ) (t : Typed (opening graphics text version keys)) (b : Buffers)
+      → accepted g (opening graphics text version keys) (lent (b .rec) (b .memory) []) → length (panelBuffer k b) ≡ screenBytes g
+      → (is : List (Item g)) → let list = here (opening graphics text version keys) t ∷ is in Standing g k (run g b list) (reckoned g k (nothingPending g) b list)
+  unfolding run after reckoned affected itemEffect effectAt effect lentTo givenBack done answered
+  standing-opened z graphics text version keys t b a n is =
       let c = opening graphics text version keys in
-      let first : Step g 0 l opens (leaves g c l) = rw (leaves-done g c l a) (opening-step g z graphics text version keys l t a n) in
-      standing-run (leaves g c l) is (affected g (nothingPending g) (itemEffect g l (here c t)))
+      let first : Step g k (lentToSend k b) opens (lentToSend k (leaves g c b)) =
+      rw (leaves-done g c b a) (opening-step g k there z graphics text version keys (b .rec) (b .memory) (panelBuffer k b) t a n) in
+      standing-run (leaves g c b) is (affected g (nothingPending g) (itemEffect g k b (here c t)))
       (record {
         lendable = first .lendable;
-        held = held-open g (state (leaves g c l)) (first .lendable .panel) (first .follows .pending);
-        pending = first .follows .pending ∙ ap (λ (k : ℕ). affected g (nothingPending g) (effectAt k opens)) (sym (ap refusal (same g c l .0) ∙ a));
+        held = held-open g (state (leaves g c b)) (first .lendable .panel) (first .follows .pending);
+        pending = first .follows .pending ∙ ap (λ (n : ℕ). affected g (nothingPending g) (effectAt n opens)) (sym a);
       })
 
   -- ---- what holds then
 
-  module _ (l : Lent) {p : Pending} (s : Standing g l p) where
-    -- a send is accepted
-    pub sendable : accepted g send l
+  module _ (b : Buffers) {p : Pending} (s : Standing g k b p) where
+    -- a send to it is accepted
+    pub sendable : accepted g (send k) (lentToSend k b)
     unfolding refusal
-    sendable = own-decide g send l (record {
+    sendable = own-decide g (send k) (lentToSend k b) (record {
       sized = s .lendable .passing .sized;
-      lengths = λ i. eq-eqb (length (l .memory)) memoryBytes (s .lendable .memory) i && eq-eqb (length (l .panel)) (screenBytes g) (s .lendable .panel) i;
+      lengths = λ i. eq-eqb (length (b .memory)) memoryBytes (s .lendable .memory) i && eq-eqb (length (panelBuffer k b)) (screenBytes g) (s .lendable .panel) i;
       state = (s .lendable .passing .passes, tt);
-    })
+    }) ∙ rw (lt-ltb k (g .panels) there) refl
 
-    pub bound : linesLeft (state l .pending) ≤ (g .band - 1) + height g
-    bound = lines-bound g (state l .pending) (s .held .well) (s .held .low)
+    pub bound : linesLeft (state b .pending) ≤ (g .band - 1) + height g
+    bound = lines-bound g (state b .pending) (s .held .well) (s .held .low)
 
-    -- where none of a further list is accepted, the bytes are as they were: the next send is done, and answers four zeros exactly where no line is left
-    pub idle : (more : List (Item g)) → acceptedCalls g l more ≡ []
-        → (outcome g send (run g l more) .code ≡ 0) × ((outcome g send (run g l more) .numbers ≡ 0 ∷ 0 ∷ 0 ∷ 0 ∷ []) ↔ (linesLeft (state l .pending) ≡ 0))
-    unfolding done answered leftBy
-    idle more e = rw (left-run g l more, e, outcome-done g send l sendable) (refl, idle-iff g (state l .pending) (s .held .well))
+    -- the next send to it is done, and answers four zeros exactly where no line is left
+    pub idle : let o = outcome g (send k) (lentToSend k b) in (o .code ≡ 0) × ((o .numbers ≡ 0 ∷ 0 ∷ 0 ∷ 0 ∷ []) ↔ (linesLeft (state b .pending) ≡ 0))
+    unfolding done answered
+    idle = rw (outcome-done g (send k) (lentToSend k b) sendable) (refl, idle-iff g (state b .pending) (s .held .well))
 
-  -- ---- a further list whose accepted calls are sends
+  -- ---- a further list whose accepted calls are sends to the panels js
 
-  -- a row of sends is such a list
-  pub row-of-sends : (l : Lent) {p : Pending} → Standing g l p → (n : ℕ) → acceptedCalls g l (replicate n (here send tt)) ≡ replicate n send
+  -- a row of sends to it is such a list
+  pub row-of-sends : (t : Typed (send k)) (b : Buffers) {p : Pending} → Standing g k b p → (n : ℕ) → acceptedCalls g b (replicate n (here (send k) t)) ≡ map send (replicate n k)
   unfolding acceptedCalls acceptedCall ruled run lentTo
-  row-of-sends l s zero = refl
-  row-of-sends l {p} s (suc n) = rw (sendable l s) (ap (λ (cs : List Call). send ∷ cs) (row-of-sends (after g l (here send tt)) (standing-item l (here send tt) p s) n))
+  row-of-sends t b s zero = refl
+  row-of-sends t b {p} s (suc n) =
+      rw (sendable b s) (ap (λ (cs : List Call). send k ∷ cs) (row-of-sends t (after g b (here (send k) t)) (standing-item b (here (send k) t) p s) n))
 
-  -- of an item with the effect e before the accepted calls cs, n sends with its own: it does nothing, or is the first of them and takes a line, if there is one
-  record Sent (q : Pending) (e : Effect) (cs : List Call) (n : ℕ) : Type 0 where
-    others : ℕ
-    rest : cs ≡ replicate others send
-    fewer : linesLeft (affected g q e) - others ≡ linesLeft q - n
+  -- of an item with the effect e before the accepted calls cs, sends to js with its own: it does nothing, or is the first of them and takes a line if it names k and there is one
+  record Sent (q : Pending) (e : Effect) (cs : List Call) (js : List ℕ) : Type 0 where
+    others : List ℕ
+    rest : cs ≡ map send others
+    fewer : linesLeft (affected g q e) - named k others ≡ linesLeft q - named k js
 
-  sent-item : (l : Lent) (i : Item g) (q : Pending) → WellPending g q → (cs : List Call) (n : ℕ) → acceptedCall g l i ++ cs ≡ replicate n send → Sent q (itemEffect g l i) cs n
-  unfolding effect affected
-  sent-item l i q w cs n e = by-item g (λ k f ds. ds ++ cs ≡ replicate n send → Sent q f cs n) l i (λ c t a. first c n) (λ d. record { others = n; rest = d; fewer = refl }) e
+  sent-item : (b : Buffers) (i : Item g) (q : Pending) → WellPending g q → (cs : List Call) (js : List ℕ) → acceptedCall g b i ++ cs ≡ map send js → Sent q (itemEffect g k b i) cs js
+  unfolding effect affected named
+  sent-item b i q w cs js e = by-item g k (λ d f ds. ds ++ cs ≡ map send js → Sent q f cs js) b i (λ c t a. first c (lentTo (takes c) b) js) (λ d. record { others = js; rest = d; fewer = refl }) e
     where
-      first : (c : Call) (n : ℕ) → c ∷ cs ≡ replicate n send → Sent q (effect g c l) cs n
-      first c zero e = absurd (let z = ap length e in omega arith)
-      first c (suc n) e = let a : c ≡ send = cc in record { others = n; rest = cc; fewer = rw a (omega (arith, lines-send g q w)) }
+      first : (c : Call) (l : Lent) (js : List ℕ) → c ∷ cs ≡ map send js → Sent q (effect g k c l) cs js
+      first c l [] e = absurd (let z = ap length e in omega arith)
+      first c l (j ∷ js) e =
+          let a : c ≡ send j = cc in
+          record {
+            others = js;
+            rest = cc;
+            fewer = rw a (by-test (eqb j k) (λ t. rw t (omega (arith, lines-send g q w))) (λ t. rw t refl));
+          }
 
-  -- each send takes a line, as long as there are any
-  pub lines-more : (l : Lent) {p : Pending} → Standing g l p → (more : List (Item g)) (n : ℕ) → acceptedCalls g l more ≡ replicate n send
-      → linesLeft (state (run g l more) .pending) ≡ linesLeft (state l .pending) - n
-  unfolding run acceptedCalls
-  lines-more l s [] n e = let z = ap length e in omega (arith, length-replicate n send)
-  lines-more l {p} s (i ∷ is) n e =
-      let t = sent-item l i (state l .pending) (s .held .well) (acceptedCalls g (after g l i) is) n e in
-      lines-more (after g l i) (standing-item l i p s) is (t .others) (t .rest)
-      ∙ ap (λ (q : Pending). linesLeft q - t .others) (item-step g l (s .lendable) i .follows .pending) ∙ t .fewer
+  -- each send to it takes a line, as long as there are any; sends to other panels take none
+  pub lines-more : (b : Buffers) {p : Pending} → Standing g k b p → (more : List (Item g)) (js : List ℕ) → acceptedCalls g b more ≡ map send js
+      → linesLeft (state (run g b more) .pending) ≡ linesLeft (state b .pending) - named k js
+  unfolding run acceptedCalls named
+  lines-more b s [] [] e = omega arith
+  lines-more b s [] (j ∷ js) e = absurd (let z = ap length e in omega arith)
+  lines-more b {p} s (i ∷ is) js e =
+      let t = sent-item b i (state b .pending) (s .held .well) (acceptedCalls g (after g b i) is) js e in
+      lines-more (after g b i) (standing-item b i p s) is (t .others) (t .rest)
+      ∙ ap (λ (q : Pending). linesLeft q - named k (t .others)) (item-step g k there b (s .lendable) i .follows .pending) ∙ t .fewer
 
-  pub level : (l : Lent) {p : Pending} → Standing g l p → (more : List (Item g)) (n : ℕ) → acceptedCalls g l more ≡ replicate n send → linesLeft (state l .pending) ≤ n
-      → differing g (state (run g l more) .screen) (state (run g l more) .panel) ≡ 0
-  level l {p} s more n e h = none-left g (state (run g l more)) (standing-run l more p s .held) (omega (arith, lines-more l s more n e))
+  pub level : (b : Buffers) {p : Pending} → Standing g k b p → (more : List (Item g)) (js : List ℕ) → acceptedCalls g b more ≡ map send js → linesLeft (state b .pending) ≤ named k js
+      → differing g (state (run g b more) .screen) (state (run g b more) .panel) ≡ 0
+  level b {p} s more js e h = none-left g (state (run g b more)) (standing-run b more p s .held) (omega (arith, lines-more b s more js e))

@@ -45,7 +45,7 @@ module _ (g : Geometry) (s : State) (w : WellFormed g s) where
   pub head-formed : (h : Head) → headFits g h ≡ true → WellFormed g (withHead h s)
   head-formed h e = record { head = e; count = w .count; panels = w .panels; words = w .words; keys = w .keys; flags = w .flags }
 
-  panels-formed : (ps : List Pending) → length ps ≡ g .panels → ((k : ℕ) → k < g .panels → WellPending g (getD ps k (nothingPending g))) → WellFormed g (withPanels ps s)
+  pub panels-formed : (ps : List Pending) → length ps ≡ g .panels → ((k : ℕ) → k < g .panels → WellPending g (getD ps k (nothingPending g))) → WellFormed g (withPanels ps s)
   panels-formed ps n f = record { head = w .head; count = n; panels = f; words = w .words; keys = w .keys; flags = w .flags }
 
   -- another panel k, and no other

@@ -1,88 +1,91 @@
--- Calls in any order: what is promised of the record, memory and panel bytes after an accepted open and every list of calls.
--- Call, takes and outcome stand in crates/model/specs/Calls.antt; Item, lentTo, run, reckoned, linesLeft, InAny, Differs and differing in Lists.antt there;
--- acceptedCalls and leftBy in Accepted.antt here. docs/THEOREM.md says it in words.
-use mathlib.Core.Path.{_≡_, sym, ap, _∙_}
+-- Calls in any order: what is promised of panel k, of the record, the memory and its buffer, after an accepted open and every list of calls.
+-- Call, takes and outcome stand in crates/model/specs/Calls.antt; Buffers, Item, lentTo, run, reckoned, linesLeft, InAny, Differs and differing in Lists.antt there;
+-- acceptedCalls, leftBy and named in Accepted.antt here. docs/THEOREM.md says it in words.
+use mathlib.Core.Path.{_≡_}
 use mathlib.Core.Logic.{_⊎_, _↔_}
 use mathlib.Core.Bool.{true}
-use mathlib.Core.List.{List, [], _∷_}
+use mathlib.Core.List.{List, [], _∷_, map}
 use Prim.Native.Nat.{ℕ, _-_, _≤_, _<_}
 use native.Mathlib.Omega.{arith}
-use lib.ListN.{length, replicate}
+use lib.ListN.{length, getD, replicate}
 use Rattle.model.specs.Geometry.{base}
 use Rattle.model.specs.Memory.{screenOf}
 use Rattle.model.specs.Rects.{In}
 use Rattle.model.specs.Record.{Pending, nothingPending, panelOf, decode, total, valid}
-use Rattle.model.specs.Refusals.{refusal}
-use Rattle.model.specs.Calls.{opening, send, Lent, lent, outcome}
-use Rattle.model.specs.Lists.{accepted, Typed, Item, here, lentTo, run, reckoned, linesLeft, InAny, Differs, differing}
+use Rattle.model.specs.Calls.{opening, send, lent, outcome}
+use Rattle.model.specs.Lists.{accepted, Typed, Item, here, Buffers, buffers, panelBuffer, lentToSend, run, reckoned, linesLeft, InAny, Differs, differing}
 use Rattle.laws.specs.Glasses.{base-glass}
-use Rattle.order.specs.Accepted.{acceptedCalls, leftBy, left-run}
-use Rattle.order.specs.Parts.{same}
-use Rattle.order.specs.Order.{standing-opened, sendable, bound, idle, lines-more, level, row-of-sends}
+use Rattle.order.specs.Accepted.{acceptedCalls, leftBy, named, named-row, left-run}
+use Rattle.order.specs.Order.{standing-run, standing-opened, sendable, bound, idle, lines-more, level, row-of-sends}
 
--- owed, in hand and lines sent as the record has them; L; the screen
-abbrev pub pendingIn : Lent → Pending
-pendingIn l = panelOf base (decode base (l .rec)) 0
+-- owed, in hand and lines sent of panel k as the record has them; its L; the screen
+abbrev pub pendingIn : ℕ → Buffers → Pending
+pendingIn k b = panelOf base (decode base (b .rec)) k
 
-abbrev pub linesIn : Lent → ℕ
-linesIn l = linesLeft (pendingIn l)
+abbrev pub linesIn : ℕ → Buffers → ℕ
+linesIn k b = linesLeft (pendingIn k b)
 
-abbrev pub screenIn : Lent → List ℕ
-screenIn l = screenOf base (decode base (l .rec) .head .graphics) (l .memory)
+abbrev pub screenIn : Buffers → List ℕ
+screenIn b = screenOf base (decode base (b .rec) .head .graphics) (b .memory)
 
--- what is promised of the bytes l that stand after a list of items, the first of which was lent the bytes start
-pub record Promised (start : Lent) (items : List (Item base)) (l : Lent) : Type 0 where
+-- what is promised of panel k and the bytes b that stand after a list of items, the first of which was lent of the bytes start
+pub record Promised (k : ℕ) (start : Buffers) (items : List (Item base)) (b : Buffers) : Type 0 where
   -- the bytes have the lengths that LENT asks for
-  pub record-length : length (l .rec) ≡ 170
-  pub memory-length : length (l .memory) ≡ 65536
-  pub panel-length : length (l .panel) ≡ 1600
+  pub record-length : length (b .rec) ≡ 230
+  pub memory-length : length (b .memory) ≡ 65536
+  pub panel-length : length (panelBuffer k b) ≡ 1600
   -- the record passes STATE
-  pub passes : valid base (l .rec) ≡ true
-  -- so a send that is lent these bytes is accepted
-  pub sendable : accepted base send l
+  pub passes : valid base (b .rec) ≡ true
+  -- so a send to panel k that is lent these bytes is accepted
+  pub sendable : accepted base (send k) (lentToSend k b)
   -- owed, in hand and lines sent are those reckoned from the list, which start from nothing
-  pub pending : pendingIn l ≡ reckoned base (nothingPending base) start items
-  -- record, memory and panel are what the accepted calls leave, one after another; refused ones leave all bytes
-  pub left-by : l ≡ leftBy base start (acceptedCalls base start items)
+  pub pending : pendingIn k b ≡ reckoned base k (nothingPending base) start items
+  -- record, memory and all panels are what the accepted calls leave, one after another; refused ones leave all bytes
+  pub left-by : b ≡ leftBy base start (acceptedCalls base start items)
   -- L is at most 159
-  pub bound : linesIn l ≤ 159
+  pub bound : linesIn k b ≤ 159
   -- a pixel that differs on screen and panel lies in hand or is owed
-  pub places : (x y : ℕ) → x < 160 → y < 80 → Differs base (screenIn l) (l .panel) x y → In (pendingIn l .hand) x y ⊎ InAny (pendingIn l .owed) x y
-  -- refused calls may follow: the first send after them is done, and answers idle, which is four zeros, exactly when L is 0
-  pub idle : (more : List (Item base)) → acceptedCalls base l more ≡ []
-      → (outcome base send (run base l more) .code ≡ 0) × ((outcome base send (run base l more) .numbers ≡ 0 ∷ 0 ∷ 0 ∷ 0 ∷ []) ↔ (linesIn l ≡ 0))
-  -- refused calls and n accepted sends may follow, in any order: each send lowers L by one until it is 0 ..
-  pub lines : (more : List (Item base)) (n : ℕ) → acceptedCalls base l more ≡ replicate n send → linesIn (run base l more) ≡ linesIn l - n
-  -- .. and no pixel differs after them where n is L or more
-  pub level : (more : List (Item base)) (n : ℕ) → acceptedCalls base l more ≡ replicate n send → linesIn l ≤ n
-      → differing base (screenIn (run base l more)) (run base l more .panel) ≡ 0
-  -- L sends in a row are such a list
-  pub level-row : let l′ = run base l (replicate (linesIn l) (here send tt)) in differing base (screenIn l′) (l′ .panel) ≡ 0
+  pub places : (x y : ℕ) → x < 160 → y < 80 → Differs base (screenIn b) (panelBuffer k b) x y → In (pendingIn k b .hand) x y ⊎ InAny (pendingIn k b .owed) x y
+  -- refused calls and accepted sends to the panels js may follow, in any order: the first that names k is done, and answers idle, which is four zeros, exactly
+  -- when L is 0 ..
+  pub idle : (more : List (Item base)) (js : List ℕ) → acceptedCalls base b more ≡ map send js → named k js ≡ 0
+      → let o = outcome base (send k) (lentToSend k (run base b more)) in (o .code ≡ 0) × ((o .numbers ≡ 0 ∷ 0 ∷ 0 ∷ 0 ∷ []) ↔ (linesIn k b ≡ 0))
+  -- .. each that names k lowers L by one until it is 0 ..
+  pub lines : (more : List (Item base)) (js : List ℕ) → acceptedCalls base b more ≡ map send js → linesIn k (run base b more) ≡ linesIn k b - named k js
+  -- .. and no pixel differs after them where L or more of them name k
+  pub level : (more : List (Item base)) (js : List ℕ) → acceptedCalls base b more ≡ map send js → linesIn k b ≤ named k js
+      → differing base (screenIn (run base b more)) (panelBuffer k (run base b more)) ≡ 0
+  -- L sends to k in a row are such a list
+  pub level-row : (t : Typed (send k)) → let b′ = run base b (replicate (linesIn k b) (here (send k) t)) in differing base (screenIn b′) (panelBuffer k b′) ≡ 0
 
--- the theorem: an accepted open, lent any record r and any memory m, beside a panel p of any bytes, and then every list of items
-pub calls-in-any-order : (graphics text version : ℕ) (keys : List ℕ) (t : Typed (opening graphics text version keys)) (r m p : List ℕ)
-    → accepted base (opening graphics text version keys) (lent r m []) → length p ≡ 1600 → (items : List (Item base))
-    → let list = here (opening graphics text version keys) t ∷ items in Promised (lent r m p) list (run base (lent r m p) list)
-unfolding total lentTo
-calls-in-any-order graphics text version keys t r m p a n items =
+-- The theorem, for each panel k: an accepted open, lent any record r and any memory m, beside panel buffers ps of any bytes, of which panel k's has 1,600, and then
+-- every list of items.
+pub calls-in-any-order : (k : ℕ) → k < 4 → (graphics text version : ℕ) (keys : List ℕ) (t : Typed (opening graphics text version keys)) (r m : List ℕ) (ps : List (List ℕ))
+    → accepted base (opening graphics text version keys) (lent r m []) → length (getD ps k []) ≡ 1600 → (items : List (Item base))
+    → let list = here (opening graphics text version keys) t ∷ items in Promised k (buffers r m ps) list (run base (buffers r m ps) list)
+unfolding total
+calls-in-any-order k there graphics text version keys t r m ps a n items =
     let list = here (opening graphics text version keys) t ∷ items in
-    let l = run base (lent r m p) list in
-    let k = same base (opening graphics text version keys) (lent r m p) in
-    let s = standing-opened base base-glass graphics text version keys t (lent r m p) (sym (ap refusal (k .0)) ∙ a) n items in
+    let start = buffers r m ps in
+    let b = run base start list in
+    let p = reckoned base k (nothingPending base) start list in
+    let s = standing-opened base k there base-glass graphics text version keys t start a n items in
     record {
       record-length = s .lendable .passing .sized;
       memory-length = s .lendable .memory;
       panel-length = s .lendable .panel;
       passes = s .lendable .passing .passes;
-      sendable = sendable base l s;
+      sendable = sendable base k there b s;
       pending = s .pending;
-      left-by = left-run base (lent r m p) list;
-      bound = omega (arith, bound base l s);
+      left-by = left-run base start list;
+      bound = omega (arith, bound base k there b s);
       places = s .held .covered;
-      idle = λ more e.
-          let i = idle base l s more e in
-          (i .0, (λ z. omega (arith, i .1 .0 z), λ z. i .1 .1 (omega arith)));
-      lines = lines-more base l s;
-      level = λ more k e h. level base l s more k e (omega arith);
-      level-row = level base l s (replicate (linesIn l) (here send tt)) (linesIn l) (row-of-sends base l s (linesIn l)) (omega arith);
+      idle = λ more js e z.
+          let i = idle base k there (run base b more) (standing-run base k there b more p s) in
+          let same = lines-more base k there b s more js e in
+          (i .0, (λ o. omega (arith, i .1 .0 o), λ o. i .1 .1 (omega arith)));
+      lines = lines-more base k there b s;
+      level = λ more js e h. level base k there b s more js e (omega arith);
+      level-row = λ u.
+          level base k there b s (replicate (linesIn k b) (here (send k) u)) (replicate (linesIn k b) k) (row-of-sends base k there u b s (linesIn k b)) (omega (arith, named-row k (linesIn k b)));
     }

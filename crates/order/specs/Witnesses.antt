@@ -1,54 +1,155 @@
--- The claim is not about nothing: there is an accepted open, and there are lists after which L is 159, the most that it may be.
+-- The claim is not about nothing: there is an accepted open; there are lists after which L is 159, the most that it may be; and where all four panels have their
+-- buffers, sends to any of them in any order are a list of the kind that may follow, after which one panel is level and another is not.
 use mathlib.Core.Path.{_≡_, refl, ap, _∙_}
-use mathlib.Core.List.{List, [], _∷_}
-use Prim.Native.Nat.{ℕ}
+use mathlib.Core.List.{List, [], _∷_, map}
+use Prim.Native.Nat.{ℕ, zero, suc, _<_}
 use native.Mathlib.Omega.{arith}
-use lib.ListN.{length}
+use lib.ListN.{length, getD, replicate, length-replicate, getD-replicate}
 use borrow.Author.Tests.{eq-eqb}
 use Rattle.model.specs.Geometry.{base}
-use Rattle.model.specs.Memory.{zeros}
+use Rattle.model.specs.Bits.{bitAt}
+use Rattle.model.specs.Memory.{window, zeros, screenOf}
 use Rattle.model.specs.Rects.{isEmpty, join, cut}
-use Rattle.model.specs.Record.{nothingPending, windows, total}
-use Rattle.model.specs.Refusals.{refusal}
+use Rattle.model.specs.Record.{Pending, nothingPending, windows, total}
+use Rattle.model.specs.Refusals.{refusal, ruled}
 use Rattle.model.specs.Marks.{owing, joinOwed}
-use Rattle.model.specs.Open.{openPending}
+use Rattle.model.specs.Open.{isKey, withKeys, clearMemory, openPending, openState}
 use Rattle.model.specs.Sends.{sendPending, takeOwed, firstOwed, restOwed, lineSent, nextLine}
-use Rattle.model.specs.Calls.{opening, cls, send, Lent, lent}
-use Rattle.model.specs.Lists.{accepted, Typed, Item, here, lentTo, run, effect, affected, effectAt, itemEffect, reckoned, owedLines, linesLeft}
+use Rattle.model.specs.Calls.{Call, opening, cls, send, lent, answered, done}
+use Rattle.model.specs.Lists.{accepted, Typed, Item, here, Buffers, buffers, panelBuffer, lentTo, givenBack, after, run, effect, affected, effectAt, itemEffect, reckoned, owedLines, linesLeft, differs, sum, differing}
 use Rattle.model.specs.Script.Output.{noKeys}
+use Rattle.laws.specs.Glasses.{base-glass}
 use Rattle.laws.specs.Loops.{length-zeros}
 use Rattle.laws.specs.Calls.{own-decide}
-use Rattle.order.specs.Theorem.{linesIn, calls-in-any-order}
+use Rattle.laws.specs.Record.{decode-encode}
+use Rattle.laws.specs.Counts.{byteDiffers, bytesDiffer, differing-bytes}
+use Rattle.order.specs.Accepted.{acceptedCall, acceptedCalls, named, leaves-done}
+use Rattle.order.specs.Opens.{open-formed}
+use Rattle.order.specs.Order.{Standing, standing-item, standing-opened, sendable}
+use Rattle.order.specs.Theorem.{linesIn, screenIn, Promised, calls-in-any-order}
 
 -- the open of the script program (bases 4,096 and 8,192, V2, no keys) is accepted over a record and a memory of any bytes
-pub accepted-open : (r m : List ℕ) → length r ≡ 170 → length m ≡ 65536 → accepted base (opening 4096 8192 1 noKeys) (lent r m [])
+pub accepted-open : (r m : List ℕ) → length r ≡ 230 → length m ≡ 65536 → accepted base (opening 4096 8192 1 noKeys) (lent r m [])
 unfolding refusal total windows
 accepted-open r m hr hm = own-decide base (opening 4096 8192 1 noKeys) (lent r m []) (record { sized = hr; lengths = eq-eqb (length m) 65536 hm; state = tt })
 
-module _ (graphics text version : ℕ) (keys : List ℕ) (t : Typed (opening graphics text version keys)) (r m p : List ℕ)
-    (a : accepted base (opening graphics text version keys) (lent r m [])) (n : length p ≡ 1600) where
-  abbrev start : Lent
-  start = lent r m p
+-- ---- sends to any panels that there are
+
+abbrev pub Panels : List ℕ → Type 0
+Panels [] = Unit {0}
+Panels (j ∷ js) = (j < 4) × Panels js
+
+unfoldable pub sendsTo : (js : List ℕ) → Panels js → List (Item base)
+sendsTo [] h = []
+sendsTo (j ∷ js) h = here (send j) (omega (arith, h .0)) ∷ sendsTo js (h .1)
+
+-- n rounds of sends to panels 3, 0 and 1
+unfoldable pub rounds : ℕ → List ℕ
+rounds zero = []
+rounds (suc n) = 3 ∷ 0 ∷ 1 ∷ rounds n
+
+pub round-panels : (n : ℕ) → Panels (rounds n)
+unfolding rounds
+round-panels zero = tt
+round-panels (suc n) = (omega arith, (omega arith, (omega arith, round-panels n)))
+
+round-named : (n : ℕ) → (named 0 (rounds n) ≡ n) × (named 2 (rounds n) ≡ 0)
+unfolding rounds named
+round-named zero = (refl, refl)
+round-named (suc n) = (ap suc (round-named n .0), round-named n .1)
+
+all-accepted : (b : Buffers) (p : ℕ → Pending) → ((k : ℕ) → k < 4 → Standing base k b (p k)) → (js : List ℕ) (h : Panels js) → acceptedCalls base b (sendsTo js h) ≡ map send js
+unfolding acceptedCalls acceptedCall ruled lentTo sendsTo
+all-accepted b p s [] h = refl
+all-accepted b p s (j ∷ js) h =
+    let i = here (send j) (omega (arith, h .0)) in
+    rw (sendable base j (h .0) b (s j (h .0)))
+    (ap (λ (cs : List Call). send j ∷ cs)
+    (all-accepted (after base b i) (λ k. affected base (p k) (itemEffect base k b i)) (λ k there. standing-item base k there b i (p k) (s k there)) js (h .1)))
+
+module _ (graphics text version : ℕ) (keys : List ℕ) (t : Typed (opening graphics text version keys)) (r m : List ℕ) (ps : List (List ℕ))
+    (a : accepted base (opening graphics text version keys) (lent r m [])) where
+  abbrev start : Buffers
+  start = buffers r m ps
 
   abbrev first : Item base
   first = here (opening graphics text version keys) t
 
-  -- an accepted open owes 80 lines, a send takes them in hand and leaves 79, and `cls` owes 80 again
-  pub most-lines : linesIn (run base start (first ∷ here send tt ∷ here cls tt ∷ [])) ≡ 159
+  -- an accepted open owes 80 lines to a panel, a send to it takes them in hand and leaves 79, and `cls` owes 80 again
+  pub most-lines : (k : ℕ) → k < 4 → length (getD ps k []) ≡ 1600 → (u : Typed (send k)) → linesIn k (run base start (first ∷ here (send k) u ∷ here cls tt ∷ [])) ≡ 159
   unfolding total lentTo run refusal reckoned itemEffect effectAt effect affected openPending nothingPending sendPending takeOwed firstOwed restOwed lineSent nextLine owing joinOwed
       join cut isEmpty linesLeft owedLines
-  most-lines =
-      let promised = calls-in-any-order graphics text version keys t r m p a n in
-      let sent = promised (here send tt ∷ []) in
-      let l = run base start (first ∷ here send tt ∷ []) in
-      let k = lent (l .rec) (l .memory) [] in
-      let clears : accepted base cls k =
-      own-decide base cls k (record { sized = sent .record-length; lengths = eq-eqb (length (l .memory)) 65536 (sent .memory-length); state = (sent .passes, tt) }) in
-      ap linesLeft (promised (here send tt ∷ here cls tt ∷ []) .pending) ∙ rw (a, promised [] .sendable, clears) refl
+  most-lines k there n u =
+      let promised = calls-in-any-order k there graphics text version keys t r m ps a n in
+      let sent = promised (here (send k) u ∷ []) in
+      let b = run base start (first ∷ here (send k) u ∷ []) in
+      let l = lent (b .rec) (b .memory) [] in
+      let clears : accepted base cls l =
+      own-decide base cls l (record { sized = sent .record-length; lengths = eq-eqb (length (b .memory)) 65536 (sent .memory-length); state = (sent .passes, tt) }) in
+      ap linesLeft (promised (here (send k) u ∷ here cls tt ∷ []) .pending) ∙ rw (a, promised [] .sendable, clears, eq-eqb k k refl) refl
 
--- such a list from a record, a memory and a panel of zeros
-pub a-list-of-most-lines : let first = here (opening 4096 8192 1 noKeys) (refl, omega arith) in
-    linesIn (run base (lent (zeros 170) (zeros 65536) (zeros 1600)) (first ∷ here send tt ∷ here cls tt ∷ [])) ≡ 159
+  module _ (all : (k : ℕ) → k < 4 → length (getD ps k []) ≡ 1600) where
+    abbrev opened : Buffers
+    opened = run base start (first ∷ [])
+
+    -- after the open, sends to any panels are all accepted
+    pub any-sends : (js : List ℕ) (h : Panels js) → acceptedCalls base opened (sendsTo js h) ≡ map send js
+    any-sends js h =
+        all-accepted opened (λ k. reckoned base k (nothingPending base) start (first ∷ []))
+        (λ k there. standing-opened base k there base-glass graphics text version keys t start a (all k there) []) js h
+
+    -- the open owes each panel 80 lines
+    pub opened-lines : (k : ℕ) → k < 4 → linesIn k opened ≡ 80
+    unfolding run lentTo reckoned itemEffect effectAt effect affected openPending nothingPending owing joinOwed join cut isEmpty linesLeft owedLines
+    opened-lines k there = ap linesLeft (calls-in-any-order k there graphics text version keys t r m ps a (all k there) [] .pending) ∙ rw a refl
+
+    -- eighty rounds of sends to panels 3, 0 and 1: panel 0 is level, panel 2, which none of them names, has its 80 lines still to come
+    pub polled-between : let b = run base opened (sendsTo (rounds 80) (round-panels 80)) in (differing base (screenIn b) (panelBuffer 0 b) ≡ 0) × (linesIn 2 b ≡ 80)
+    polled-between =
+        let e = any-sends (rounds 80) (round-panels 80) in
+        let promised : (k : ℕ) (there : k < 4) → Promised k start (first ∷ []) opened = λ k there. calls-in-any-order k there graphics text version keys t r m ps a (all k there) [] in
+        let counted = round-named 80 in (
+          promised 0 (omega arith) .level (sendsTo (rounds 80) (round-panels 80)) (rounds 80) e (omega (arith, opened-lines 0 (omega arith))),
+          promised 2 (omega arith) .lines (sendsTo (rounds 80) (round-panels 80)) (rounds 80) e ∙ omega (arith, opened-lines 2 (omega arith)),
+        )
+
+-- ---- such lists written out: record and memory of zeros, four panels whose every pixel is set
+
+abbrev ones : List ℕ
+ones = replicate 1600 255
+
+abbrev fresh : Buffers
+fresh = buffers (zeros 230) (zeros 65536) (replicate 4 ones)
+
+abbrev open-it : Item base
+open-it = here (opening 4096 8192 1 noKeys) (refl, omega arith)
+
+may-open : accepted base (opening 4096 8192 1 noKeys) (lent (zeros 230) (zeros 65536) [])
+may-open = accepted-open (zeros 230) (zeros 65536) (length-zeros 230) (length-zeros 65536)
+
+full : (k : ℕ) → k < 4 → length (getD (replicate 4 ones) k []) ≡ 1600
+full k there = rw (getD-replicate 4 k ones [] there) (length-replicate {A = ℕ} 1600 255)
+
+pub a-list-of-most-lines : linesIn 3 (run base fresh (open-it ∷ here (send 3) (omega arith) ∷ here cls tt ∷ [])) ≡ 159
 a-list-of-most-lines =
-    most-lines 4096 8192 1 noKeys (refl, omega arith) (zeros 170) (zeros 65536) (zeros 1600)
-    (accepted-open (zeros 170) (zeros 65536) (length-zeros 170) (length-zeros 65536)) (length-zeros 1600)
+    most-lines 4096 8192 1 noKeys (refl, omega arith) (zeros 230) (zeros 65536) (replicate 4 ones) may-open 3 (omega arith) (full 3 (omega arith)) (omega arith)
+
+pub cleared-screen : screenOf base 4096 (clearMemory noKeys) ≡ zeros 1600
+unfolding window clearMemory withKeys isKey bitAt zeros
+cleared-screen = refl
+
+ones-differ : differing base (zeros 1600) ones ≡ 12800
+unfolding zeros bytesDiffer byteDiffers sum differs bitAt
+ones-differ = differing-bytes base (zeros 1600) ones refl refl
+
+-- after the open every pixel of panel 0 differs ..
+pub all-differ : let b = run base fresh (open-it ∷ []) in differing base (screenIn b) (panelBuffer 0 b) ≡ 12800
+unfolding run after lentTo givenBack done answered openState windows
+all-differ =
+    let c = opening 4096 8192 1 noKeys in
+    let w = open-formed base base-glass 4096 8192 1 noKeys refl refl refl (omega arith) in
+    rw (leaves-done base c fresh may-open, decode-encode base (openState base 4096 8192 1 noKeys) base-glass w, cleared-screen) ones-differ
+
+-- .. and after the rounds none
+pub none-differs : let b = run base (run base fresh (open-it ∷ [])) (sendsTo (rounds 80) (round-panels 80)) in differing base (screenIn b) (panelBuffer 0 b) ≡ 0
+none-differs = polled-between 4096 8192 1 noKeys (refl, omega arith) (zeros 230) (zeros 65536) (replicate 4 ones) may-open full .0

@@ -2,23 +2,24 @@
 -- its writes change.
 use mathlib.Core.Path.{_≡_, refl, sym, ap, _∙_}
 use mathlib.Core.Bool.{true}
-use mathlib.Core.List.{List, [], _∷_}
+use mathlib.Core.List.{List, [], _∷_, map}
 use Prim.Native.Nat.{ℕ, _+_, _≤_}
 use native.Mathlib.Omega.{arith}
-use lib.ListN.{length}
+use lib.ListN.{length, replicate, getD-replicate}
 use borrow.Author.Tests.{eq-eqb}
 use Rattle.model.specs.declared.Rect.{Rect}
 use Rattle.model.specs.Geometry.{base}
 use Rattle.model.specs.Pixels.{PixelWrite, draw, seen}
 use Rattle.model.specs.Rects.{isEmpty, join, cut}
 use Rattle.model.specs.Memory.{zeros, screenOf, withScreen}
-use Rattle.model.specs.Record.{State, nothingPending, panelOf, windows, total, listing, decode, encode, withHead, withPanel, WellFormed}
+use Rattle.model.specs.Record.{Pending, State, nothingPending, panelOf, windows, total, decode, encode, withHead, withPanels, WellFormed}
 use Rattle.model.specs.Marks.{withDirty, updateDirty, joinOwed, owing, owes, marked, Drawing, drawnOn}
 use Rattle.model.specs.Open.{openState}
 use Rattle.model.specs.Calls.{Call, Lent, lent, answered, Lending, with-memory, takes, lengthsFit, ownTests, drawingWith, drawing, done, outcome}
 use Rattle.model.specs.Script.Output.{noKeys}
 use Rattle.laws.specs.Rects.{Fits}
 use Rattle.laws.specs.Calls.{AllPass, pass-accepted, Tested, own-decide, outcome-done}
+use Rattle.laws.specs.ListLaws.{getD-map, map-agree}
 use Rattle.laws.specs.Memory.{window-same}
 use Rattle.laws.specs.Pixels.{length-draw}
 use Rattle.laws.specs.Loops.{length-zeros}
@@ -26,16 +27,15 @@ use Rattle.laws.specs.Record.{Passing, decode-encode}
 use Rattle.laws.specs.Glasses.{base-glass}
 use Rattle.laws.specs.States.{well-formed, encode-passing}
 use Rattle.laws.specs.Bands.{well-nothing}
-use Rattle.order.specs.Step.{panel-formed, marked-formed, screen-in, screen-long}
+use Rattle.order.specs.Step.{panels-formed, marked-formed, screen-in, screen-long}
 use Rattle.order.specs.Opens.{open-formed}
-use Rattle.order.specs.Theorem.{screenIn}
-use Rattle.pictures.specs.Picture.{graphicsIn, Unmarked, withMarks, Drew}
+use Rattle.pictures.specs.Picture.{screenIn, graphicsIn, Unmarked, withOwed, withMarks, Drew}
 use Rattle.pictures.specs.Writes.{pictured, pictured-changed}
 
 -- ---- bytes to start from: a record as it is opened, but with nothing owed, and a memory of zeros
 
 abbrev clearState : State
-clearState = withPanel 0 (nothingPending base) (openState base 4096 8192 1 noKeys)
+clearState = withPanels (replicate 4 (nothingPending base)) (openState base 4096 8192 1 noKeys)
 
 unfoldable pub clearBytes : Lent
 clearBytes = lent (encode base clearState) (zeros 65536) []
@@ -43,7 +43,8 @@ clearBytes = lent (encode base clearState) (zeros 65536) []
 pub clear-unmarked : Unmarked clearBytes
 unfolding clearBytes openState nothingPending total windows
 clear-unmarked =
-    let w = panel-formed base _ (open-formed base base-glass 4096 8192 1 noKeys refl refl refl (omega arith)) 0 (nothingPending base) (omega arith) (well-nothing base) in
+    let w = panels-formed base _ (open-formed base base-glass 4096 8192 1 noKeys refl refl refl (omega arith)) (replicate 4 (nothingPending base)) refl
+    (λ k h. rw (getD-replicate 4 k (nothingPending base) (nothingPending base) h) (well-nothing base)) in
     let p = encode-passing base base-glass clearState w in
     let e = decode-encode base clearState base-glass w in
     record {
@@ -52,7 +53,7 @@ clear-unmarked =
       passes = p .passes;
       memory = length-zeros 65536;
       dirty = ap (λ (s : State). s .head .dirty) e;
-      owed = ap (λ (s : State). panelOf base s 0 .owed) e;
+      owed = λ k h. ap (λ (s : State). panelOf base s k .owed) e ∙ ap (λ (p : Pending). p .owed) (getD-replicate 4 k (nothingPending base) (nothingPending base) h);
     }
 
 -- ---- a drawing call
@@ -87,16 +88,24 @@ module _ (l : Lent) (u : Unmarked l) where
   done-on c e a = outcome-done base c l (own-decide base c l (entered c e) ∙ pass-accepted (ownTests base c l) a)
 
   -- nothing was marked, so its own marks are what stands
+  panels-only : (o owed : Rect) → cut 160 0 80 o ≡ owed → map (owing base o) (s .panels) ≡ map (withOwed owed) (s .panels)
+  unfolding owing joinOwed join isEmpty
+  panels-only o owed f =
+      map-agree (owing base o) (withOwed owed) (s .panels) (nothingPending base)
+      (λ k h. λ i. record {
+        owed = (ap (joinOwed 160 80 0 o) (u .owed k (omega (arith, formed .count))) ∙ ap (λ (q : Rect). q ∷ []) f) i;
+        hand = panelOf base s k .hand;
+        sent = panelOf base s k .sent;
+      })
+
   marks-only : (m o dirty owed : Rect) → m ≡ dirty → cut 160 0 80 o ≡ owed → marked base m o s ≡ withMarks dirty owed s
-  unfolding decode listing marked updateDirty owing joinOwed join isEmpty
-  marks-only m o dirty owed e f =
-      λ i. withHead (withDirty ((ap (λ (q : Rect). join q m) (u .dirty) ∙ e) i) (s .head))
-      (withPanel 0 (record { owed = (ap (joinOwed 160 80 0 o) (u .owed) ∙ ap (λ (q : Rect). q ∷ []) f) i; hand = panelOf base s 0 .hand; sent = panelOf base s 0 .sent }) s)
+  unfolding marked updateDirty join isEmpty
+  marks-only m o dirty owed e f = λ i. withHead (withDirty ((ap (λ (q : Rect). join q m) (u .dirty) ∙ e) i) (s .head)) (withPanels (panels-only o owed f i) s)
 
   pub drew : (c : Call) (d : Drawing) (ps : List PixelWrite) (dirty owed : Rect) → takes c ≡ with-memory → AllPass (ownTests base c l)
       → done base c l ≡ answered 0 [] (drawing base d l) → Fits 256 0 256 dirty → d .dirty ≡ dirty → cut 160 0 80 (owedBy d) ≡ owed
       → pictured (seen 20 80 (d .writes)) ps ≡ true → Drew l ps dirty owed (outcome base c l)
-  unfolding answered drawingWith drawnOn decode listing
+  unfolding answered drawingWith drawnOn
   drew c d ps dirty owed t a k f e o p =
       let ws = seen 20 80 (d .writes) in
       let new = draw 20 ws (screenIn l) in
@@ -111,7 +120,9 @@ module _ (l : Lent) (u : Unmarked l) where
         code = refl;
         numbers = refl;
         dirty = ap (λ (z : State). z .head .dirty) state;
-        owed = ap (λ (z : State). panelOf base z 0 .owed) state;
+        owed = λ k h.
+            ap (λ (z : State). panelOf base z k .owed) state
+            ∙ ap (λ (q : Pending). q .owed) (getD-map (withOwed owed) (s .panels) k (nothingPending base) (omega (arith, formed .count)));
         pixels = rw screen (pictured-changed ws ps (screenIn l) long p);
         rec = ap (encode base) m;
         memory = ap (λ (z : List ℕ). withScreen (graphicsIn l) z (l .memory)) (sym screen);

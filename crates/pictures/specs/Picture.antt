@@ -2,20 +2,19 @@
 use mathlib.Core.Path.{_≡_}
 use mathlib.Core.Logic.{_≢_, _⊎_}
 use mathlib.Core.Bool.{true, false, not}
-use mathlib.Core.List.{List, [], _∷_}
+use mathlib.Core.List.{List, [], _∷_, map}
 use Prim.Native.Nat.{ℕ, _<_}
 use lib.ListN.{length}
 use Rattle.model.specs.declared.Rect.{Rect}
 use Rattle.model.specs.Geometry.{base}
 use Rattle.model.specs.Pixels.{PixelWrite, bit}
 use Rattle.model.specs.Rects.{none}
-use Rattle.model.specs.Memory.{withScreen}
+use Rattle.model.specs.Memory.{screenOf, withScreen}
 use Rattle.model.specs.Bytes.{Bytes}
-use Rattle.model.specs.Record.{State, panelOf, decode, encode, valid, withHead, withPanel}
+use Rattle.model.specs.Record.{Pending, State, panelOf, decode, encode, valid, withHead, withPanels}
 use Rattle.model.specs.Marks.{withDirty}
 use Rattle.model.specs.Calls.{Call, Lent, Outcome, outcome}
 use Rattle.laws.specs.Pixels.{Each}
-use Rattle.order.specs.Theorem.{screenIn}
 
 abbrev pub rect : ℕ → ℕ → ℕ → ℕ → Rect
 rect left top right bottom = record { left = left; top = top; right = right; bottom = bottom }
@@ -42,33 +41,41 @@ pub record Changed (ps : List PixelWrite) (s t : List ℕ) : Type 0 where
 abbrev pub dirtyIn : Lent → Rect
 dirtyIn l = decode base (l .rec) .head .dirty
 
-abbrev pub owedIn : Lent → List Rect
-owedIn l = panelOf base (decode base (l .rec)) 0 .owed
+-- what panel k is owed
+abbrev pub owedIn : ℕ → Lent → List Rect
+owedIn k l = panelOf base (decode base (l .rec)) k .owed
 
 abbrev pub graphicsIn : Lent → ℕ
 graphicsIn l = decode base (l .rec) .head .graphics
 
--- the record passes STATE, its dirty and owed are empty, and the memory has its length
+abbrev pub screenIn : Lent → List ℕ
+screenIn l = screenOf base (graphicsIn l) (l .memory)
+
+-- the record passes STATE, its dirty and each panel's owed are empty, and the memory has its length
 pub record Unmarked (l : Lent) : Type 0 where
-  pub sized : length (l .rec) ≡ 170
+  pub sized : length (l .rec) ≡ 230
   pub bytes : Bytes (l .rec)
   pub passes : valid base (l .rec) ≡ true
   pub memory : length (l .memory) ≡ 65536
   pub dirty : dirtyIn l ≡ none
-  pub owed : owedIn l ≡ none ∷ []
+  pub owed : (k : ℕ) → k < 4 → owedIn k l ≡ none ∷ []
 
--- a state with another dirty and another owed
+-- a panel that is owed o
+abbrev pub withOwed : Rect → Pending → Pending
+withOwed o p = record { owed = o ∷ []; hand = p .hand; sent = p .sent }
+
+-- a state with another dirty and another owed, the same for each panel
 abbrev pub withMarks : Rect → Rect → State → State
-withMarks d o s = withHead (withDirty d (s .head)) (withPanel 0 (record { owed = o ∷ []; hand = panelOf base s 0 .hand; sent = panelOf base s 0 .sent }) s)
+withMarks d o s = withHead (withDirty d (s .head)) (withPanels (map (withOwed o) (s .panels)) s)
 
 -- ---- pictures
 
--- a call that was lent l is done; it leaves dirty d and owed o, changes the pixels that ps names, and nothing else
+-- a call that was lent l is done; it leaves dirty d and o owed to each panel, changes the pixels that ps names, and nothing else
 pub record Drew (l : Lent) (ps : List PixelWrite) (d o : Rect) (out : Outcome) : Type 0 where
   pub code : out .code ≡ 0
   pub numbers : out .numbers ≡ []
   pub dirty : dirtyIn (out .left) ≡ d
-  pub owed : owedIn (out .left) ≡ o ∷ []
+  pub owed : (k : ℕ) → k < 4 → owedIn k (out .left) ≡ o ∷ []
   pub pixels : Changed ps (screenIn l) (screenIn (out .left))
   -- no other field of the record changes, no byte of memory outside the screen, and no byte of the panel
   pub rec : out .left .rec ≡ encode base (withMarks d o (decode base (l .rec)))

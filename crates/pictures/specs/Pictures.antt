@@ -15,8 +15,7 @@ use Rattle.model.specs.Codes.{inRow, indexIn, emojiIndex}
 use Rattle.model.specs.Calls.{drawPoint, drawLine, drawBox, drawCircle, paintBitmap, Lent, answered, outcome}
 use Rattle.model.specs.Characters.{bytesOf}
 use Rattle.model.specs.Script.Output.{scriptText}
-use Rattle.order.specs.Theorem.{screenIn}
-use Rattle.pictures.specs.Picture.{rect, sets, clears, inverts, Unmarked, Drew, Picture}
+use Rattle.pictures.specs.Picture.{screenIn, rect, sets, clears, inverts, Unmarked, Drew, Picture}
 use Rattle.pictures.specs.Drawings.{clearBytes, clear-unmarked}
 use Rattle.pictures.specs.Shapes.{point-off, point-unknown, line-clamped, line-sloped, box-past-bottom, box-row, circle-parts, circle-steps, circle-two, circle-one, bitmap-clipped, source-refused, source-accepted}
 use Rattle.pictures.specs.Scripts.{point-send, send-point}

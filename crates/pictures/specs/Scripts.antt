@@ -12,11 +12,11 @@ use Rattle.model.specs.Geometry.{base}
 use Rattle.model.specs.Bits.{bitAt, withBit}
 use Rattle.model.specs.Pixels.{bit, put, onScreen, writePixel, draw, seen, copyRun}
 use Rattle.model.specs.Rects.{inside, isEmpty, join, cut}
-use Rattle.model.specs.Memory.{window, zeros, screenOf, withScreen}
+use Rattle.model.specs.Memory.{zeros, screenOf, withScreen}
 use Rattle.model.specs.Record.{State, nothingPending, panelOf, windows, encode, withPanel, WellFormed}
 use Rattle.model.specs.Refusals.{refusal}
 use Rattle.model.specs.Marks.{updateDirty, joinOwed, owing, within, owes, marked, drawnOn}
-use Rattle.model.specs.Open.{isKey, withKeys, clearMemory, openPending, openState}
+use Rattle.model.specs.Open.{clearMemory, openPending, openState}
 use Rattle.model.specs.Points.{pointOp, pointRect, point}
 use Rattle.model.specs.Sends.{firstOwed, restOwed, takeOwed, nextLine, lineSent, sendPending, lineNumbers, sendNumbers, copyLine, sendPanel}
 use Rattle.model.specs.Calls.{Call, drawPoint, send, Lent, lent, answered, drawingWith, done, outcome}
@@ -34,6 +34,7 @@ use Rattle.laws.specs.Counts.{byteDiffers, bytesDiffer, differing-bytes}
 use Rattle.laws.specs.Bands.{well-send}
 use Rattle.order.specs.Step.{panel-formed, marked-formed}
 use Rattle.order.specs.Opens.{length-clear-memory, open-formed}
+use Rattle.order.specs.Witnesses.{cleared-screen}
 use Rattle.pictures.specs.Picture.{rect}
 
 -- ---- the record
@@ -77,20 +78,16 @@ module _ (s : State) (w : WellFormed base s) (m p : List ℕ) (hm : length m ≡
       let t = own-decide base (drawPoint 3 0 1) l (record { sized = q .sized; lengths = eq-eqb (length m) 65536 hm; state = (q .passes, tt) }) in
       rw (outcome-done base (drawPoint 3 0 1) l t, decode-encode base s base-glass w)
 
-  send-done : length p ≡ 1600 → outcome base send (lent (encode base s) m p)
+  send-done : length p ≡ 1600 → outcome base (send 0) (lent (encode base s) m p)
       ≡ answered 0 (sendNumbers (panelOf base s 0)) (lent (encode base (sentOf s)) m (sendPanel 20 (panelOf base s 0) (screenOf base (s .head .graphics) m) p))
   unfolding refusal done sentOf
   send-done hp =
       let l = lent (encode base s) m p in
       let q = encode-passing base base-glass s w in
       let n : (eqb (length m) 65536 && eqb (length p) 1600) ≡ true = λ i. eq-eqb (length m) 65536 hm i && eq-eqb (length p) 1600 hp i in
-      rw (outcome-done base send l (own-decide base send l (record { sized = q .sized; lengths = n; state = (q .passes, tt) })), decode-encode base s base-glass w)
+      rw (outcome-done base (send 0) l (own-decide base (send 0) l (record { sized = q .sized; lengths = n; state = (q .passes, tt) })), decode-encode base s base-glass w)
 
 -- ---- the screen and the panel
-
-cleared-screen : screenOf base 4096 (clearMemory noKeys) ≡ zeros 1600
-unfolding window clearMemory withKeys isKey bitAt zeros
-cleared-screen = refl
 
 -- the point drawn, then the first line sent: no pixel differs
 none-left : differing base (dotted (zeros 1600)) (copyRun 20 (dotted (zeros 1600)) 0 0 160 (zeros 1600)) ≡ 0
@@ -123,26 +120,26 @@ module _ (m : List ℕ) (hm : length m ≡ 65536) (e : screenOf base 4096 m ≡ 
   dotted-memory = length-withWindow 4096 (dotted (screenOf base 4096 m)) m (rw dotted-long (omega arith)) ∙ hm
 
   -- the point, then the send
-  point-first : runLines (callLine (drawPoint 3 0 1) ∷ callLine send ∷ []) (lent (encode base openedState) m (zeros 1600))
+  point-first : runLines (callLine (drawPoint 3 0 1) ∷ callLine (send 0) ∷ []) (lent (encode base openedState) m (zeros 1600))
       ≡ said 0 [] ++ (said 0 (1 ∷ 0 ∷ 0 ∷ 160 ∷ []) ++ printed (bytesOf "end") (0 ∷ 79 ∷ []))
   unfolding pointed marked updateDirty openedState openState openPending nothingPending owing joinOwed join isEmpty cut sentOf sendPending lineSent takeOwed firstOwed restOwed nextLine sendNumbers lineNumbers sendPanel copyLine linesLeft owedLines
   point-first =
       let s = pointed openedState in
       let w = pointed-formed openedState opened-formed in
       let m′ = withScreen 4096 (dotted (screenOf base 4096 m)) m in
-      two-lines (drawPoint 3 0 1) send (lent (encode base openedState) m (zeros 1600)) (lent (encode base s) m′ (zeros 1600)) [] (1 ∷ 0 ∷ 0 ∷ 160 ∷ [])
+      two-lines (drawPoint 3 0 1) (send 0) (lent (encode base openedState) m (zeros 1600)) (lent (encode base s) m′ (zeros 1600)) [] (1 ∷ 0 ∷ 0 ∷ 160 ∷ [])
       (sentOf s) (sent-formed s w) m′ (copyRun 20 (screenOf base 4096 m′) 0 0 160 (zeros 1600)) (dotted (zeros 1600)) 0 79 dotted-screen (rw dotted-screen none-left) refl
       (point-done openedState opened-formed m (zeros 1600) hm) (send-done s w m′ (zeros 1600) dotted-memory (length-zeros 1600))
 
   -- the send, then the point
-  send-first : runLines (callLine send ∷ callLine (drawPoint 3 0 1) ∷ []) (lent (encode base openedState) m (zeros 1600))
+  send-first : runLines (callLine (send 0) ∷ callLine (drawPoint 3 0 1) ∷ []) (lent (encode base openedState) m (zeros 1600))
       ≡ said 0 (1 ∷ 0 ∷ 0 ∷ 160 ∷ []) ++ (said 0 [] ++ printed (bytesOf "end") (1 ∷ 80 ∷ []))
   unfolding pointed marked updateDirty openedState openState openPending nothingPending owing joinOwed join isEmpty cut sentOf sendPending lineSent takeOwed firstOwed restOwed nextLine sendNumbers lineNumbers sendPanel copyLine linesLeft owedLines
   send-first =
       let s = sentOf openedState in
       let w = sent-formed openedState opened-formed in
       let p = copyRun 20 (screenOf base 4096 m) 0 0 160 (zeros 1600) in
-      two-lines send (drawPoint 3 0 1) (lent (encode base openedState) m (zeros 1600)) (lent (encode base s) m p) (1 ∷ 0 ∷ 0 ∷ 160 ∷ []) []
+      two-lines (send 0) (drawPoint 3 0 1) (lent (encode base openedState) m (zeros 1600)) (lent (encode base s) m p) (1 ∷ 0 ∷ 0 ∷ 160 ∷ []) []
       (pointed s) (pointed-formed s w) (withScreen 4096 (dotted (screenOf base 4096 m)) m) p (dotted (zeros 1600)) 1 80 dotted-screen (rw e point-left) refl
       (send-done openedState opened-formed m (zeros 1600) hm (length-zeros 1600)) (point-done s w m p hm)
 

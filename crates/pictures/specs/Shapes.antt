@@ -25,8 +25,7 @@ use Rattle.model.specs.Calls.{drawPoint, drawLine, drawBox, drawCircle, paintBi
 use Rattle.laws.specs.Memory.{window-back}
 use Rattle.laws.specs.Calls.{own-decide}
 use Rattle.laws.specs.Updates.{unmarked}
-use Rattle.order.specs.Theorem.{screenIn}
-use Rattle.pictures.specs.Picture.{rect, sets, clears, inverts, graphicsIn, Unmarked, Drew, Picture}
+use Rattle.pictures.specs.Picture.{screenIn, rect, sets, clears, inverts, graphicsIn, Unmarked, Drew, Picture}
 use Rattle.pictures.specs.Writes.{hits, made, alike, names, allOf, pictured}
 use Rattle.pictures.specs.Drawings.{passing, screen-fits, entered, done-on, drew}
 
