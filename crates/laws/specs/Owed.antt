@@ -1,12 +1,13 @@
 -- The owed rectangles on the bytes, band after band: a mark joined to them, the first taken from them, the test of them. In each law `left` bands are to come, the first from
 -- byte a and line lo; what is left, done to what stands, gives the whole.
 use mathlib.Core.Path.{_≡_, refl, _∙_}
-use mathlib.Core.Bool.{Bool, true, false, _&&_, and-assoc, and-true}
+use mathlib.Core.Bool.{Bool, true, false, not}
 use mathlib.Core.List.{List, [], _++_, append-assoc}
 use Prim.Native.Nat.{ℕ, zero, suc, _+_, _-_, _*_, _<_, _≤_}
 use native.Mathlib.Omega.{arith}
 use lib.ListN.{length, getD, take, drop, take-append-drop, length-append}
 use lib.Seq.{drop-at, length-take-le}
+use borrow.Author.Tests.{not-true, not-false}
 use Rattle.model.specs.declared.Rect.{Rect}
 use Rattle.model.specs.Memory.{withWindow}
 use Rattle.model.specs.Rects.{none, isEmpty, fits, join, cut}
@@ -125,24 +126,31 @@ take-ends bands at r₀ r a left k n e = let z : left ≡ 0 = omega arith in rec
 
 -- ---- STATE's test
 
--- where the loop stands
-pub record Testing (w band bands at : ℕ) (r : List ℕ) (ok : Bool) (a lo left : ℕ) : Type 0 where
+-- where the loop stands: the bands before have passed
+pub record Testing (w band bands at : ℕ) (r : List ℕ) (a lo left : ℕ) : Type 0 where
   pub room : a + 8 * left ≤ length r
   pub lines : lo + left * band ≤ 65535
-  pub same : (ok && bandsFit w band lo (rectsAt left r a)) ≡ bandsFit w band 0 (rectsAt bands r at)
+  pub same : bandsFit w band lo (rectsAt left r a) ≡ bandsFit w band 0 (rectsAt bands r at)
 
-pub test-starts : (w band bands at : ℕ) (r : List ℕ) → at + 8 * bands ≤ length r → bands * band ≤ 65535 → Testing w band bands at r true at 0 bands
+pub test-starts : (w band bands at : ℕ) (r : List ℕ) → at + 8 * bands ≤ length r → bands * band ≤ 65535 → Testing w band bands at r at 0 bands
 test-starts w band bands at r h l = record { room = h; lines = omega arith; same = refl }
 
-pub test-goes : {w band bands at : ℕ} {r : List ℕ} {ok : Bool} {a lo left : ℕ} {q : Rect} {t : Bool} → Testing w band bands at r ok a lo left → 0 < left
-    → q ≡ rectAt r a → t ≡ fits w lo (lo + band) q → Testing w band bands at r (ok && t) (a + 8) (lo + band) (left - 1)
+pub test-goes : {w band bands at : ℕ} {r : List ℕ} {a lo left : ℕ} {q : Rect} {t : Bool} → Testing w band bands at r a lo left → 0 < left
+    → q ≡ rectAt r a → t ≡ fits w lo (lo + band) q → not t ≡ false → Testing w band bands at r (a + 8) (lo + band) (left - 1)
 unfolding bandsFit
-test-goes {left = zero} k p e f = absurd (omega arith)
-test-goes {w} {band} {r = r} {ok} {a} {lo} {left = suc n} {t = t} k p e f =
+test-goes {left = zero} k p e f y = absurd (omega arith)
+test-goes {left = suc n} {t = t} k p e f y =
     let z : suc n - 1 ≡ n = omega arith in
-    record { room = omega arith; lines = rw z (omega arith); same = cc (and-assoc ok t (bandsFit w band (lo + band) (rectsAt n r (a + 8)))) }
+    let passed = not-false t y in
+    record { room = omega arith; lines = rw z (omega arith); same = cc (k .same) }
 
-pub test-ends : (w band bands at : ℕ) (r : List ℕ) (ok : Bool) (a lo left : ℕ) → Testing w band bands at r ok a lo left → left ≤ 0
-    → ok ≡ bandsFit w band 0 (rectsAt bands r at)
+pub test-fails : {w band bands at : ℕ} {r : List ℕ} {a lo left : ℕ} {q : Rect} {t : Bool} → Testing w band bands at r a lo left → 0 < left
+    → q ≡ rectAt r a → t ≡ fits w lo (lo + band) q → not t ≡ true → false ≡ bandsFit w band 0 (rectsAt bands r at)
 unfolding bandsFit
-test-ends w band bands at r ok a lo left k z = let e : left ≡ 0 = omega arith in cc (and-true ok)
+test-fails {left = zero} k p e f y = absurd (omega arith)
+test-fails {left = suc n} {t = t} k p e f y = let failed = not-true t y in cc (k .same)
+
+pub test-ends : (w band bands at : ℕ) (r : List ℕ) (a lo left : ℕ) → Testing w band bands at r a lo left → left ≤ 0
+    → true ≡ bandsFit w band 0 (rectsAt bands r at)
+unfolding bandsFit
+test-ends w band bands at r a lo left k z = let e : left ≡ 0 = omega arith in cc

@@ -119,8 +119,8 @@ pub record Marking (v : Glass) (m : Rect) (r₀ r : List ℕ) (panels k : ℕ) :
   pub sized : length r ≡ length r₀
   pub same : markFrom (geometry v) m k (panels - k) r ≡ markFrom (geometry v) m 0 (v .panels) r₀
 
-pub mark-starts : (v : Glass) (m : Rect) (r : List ℕ) → Marking v m r r (v .panels) 0
-mark-starts v m r = let e : v .panels - 0 ≡ v .panels = omega arith in record { counted = refl; some = omega arith; sized = refl; same = rw e }
+pub mark-starts : (v : Glass) (m : Rect) (r : List ℕ) (panels : ℕ) → panels ≡ v .panels → Marking v m r r panels 0
+mark-starts v m r panels c = let e : panels - 0 ≡ v .panels = omega arith in record { counted = c; some = omega arith; sized = refl; same = rw e refl }
 
 pub mark-goes : {v : Glass} {m : Rect} {r₀ r : List ℕ} {panels k a : ℕ} {r′ : List ℕ} → Suits v → Marking v m r₀ r panels k → k < panels → length r′ ≡ length r
     → a ≡ at (geometry v) (panel k) → r′ ≡ joined (v .width) (v .band) 0 m (v .bands) a r → Marking v m r₀ r′ panels (k + 1)

@@ -81,12 +81,12 @@ module _ {v : Glass} {r : List ℕ} (k : ℕ) (w : Known v r) (h : k < v .panels
       cc (panel-here, none-left g p well none .1, encode-decode g r (w .passing))
 
   -- a line sent
-  pub sends : {a : ℕ} {q n : Rect} {c : ℕ} {r′ s t : List ℕ} {u : Bool} → a ≡ at (geometry v) (panel k) → InHand (geometry v) a r q r′ → u ≡ isEmpty q → u ≡ false
-      → n ≡ nextLine q → s ≡ withWindow (a + 8 * v .bands) (rectBytes n) r′ → c ≡ min (four r (a + 8 * v .bands + 8) + 1) 4294967295
-      → t ≡ withWindow (a + 8 * v .bands + 8) (fourBytes c) s
+  pub sends : {a b : ℕ} {q n : Rect} {c : ℕ} {r′ s t : List ℕ} {u : Bool} → a ≡ at (geometry v) (panel k) → InHand (geometry v) a r q r′ → u ≡ isEmpty q → u ≡ false
+      → n ≡ nextLine q → s ≡ withWindow (a + 8 * v .bands) (rectBytes n) r′ → b ≡ a + 8 * v .bands + 8 → c ≡ min (four r b + 1) 4294967295
+      → t ≡ withWindow b (fourBytes c) s
       → t ≡ encode (geometry v) (withPanel k (sendPending (panelOf (geometry v) (decode (geometry v) r) k)) (decode (geometry v) r))
   unfolding sendPending lineSent
-  sends {a} {q} {n} {c} e i f y m s j t =
+  sends {a} {b} {q} {n} {c} e i f y m s o j t =
       let g = geometry v in
       let st = decode g r in
       let p = panelOf g st k in

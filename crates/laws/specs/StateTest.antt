@@ -1,12 +1,13 @@
 -- STATE as the code tests it, part after part in an order of its own: it is `valid`.
 use mathlib.Core.Path.{_≡_, refl, sym, ap, _∙_}
-use mathlib.Core.Bool.{Bool, true, false, _&&_, _||_, and-assoc}
+use mathlib.Core.Bool.{Bool, true, false, not, _&&_, _||_}
 use mathlib.Core.List.{List}
 use Prim.Native.Nat.{ℕ, zero, suc, _+_, _-_, _*_, _<_, _≤_}
 use native.Mathlib.Omega.{arith}
 use native.Mathlib.Numerals.{add-one}
 use lib.Dec.{leb, ltb}
 use lib.ListN.{length, take, drop}
+use borrow.Author.Tests.{not-true, not-false}
 use Rattle.model.specs.declared.Rect.{Rect}
 use Rattle.model.specs.declared.Head.{Head}
 use Rattle.model.specs.declared.glass.Glass.{Glass}
@@ -70,34 +71,41 @@ unfolding headFits
 head-is v h z e f =
     λ i. ((((((e i && ltb (h .row) (z .is-rows i)) && ltb (h .column) (z .is-columns i)) && leb (h .screen) 1) && leb (h .print) 2) && leb (h .cursor) 2) && leb (h .version) 1) && f i
 
-pub pending-is : (v : Glass) (r : List ℕ) (k a : ℕ) {b t : Bool} {q : Rect} → Suits v → a ≡ at (geometry v) (panel k) → b ≡ bandsFit (v .width) (v .band) 0 (rectsAt (v .bands) r a)
-    → q ≡ rectAt r (a + 8 * v .bands) → t ≡ fits (v .width) 0 (v .height) q → (b && t) ≡ pendingFits (geometry v) (pendingOf (geometry v) r (at (geometry v) (panel k)))
-unfolding pendingFits
-pending-is v r k a z e f g h = cc (z .is-width, z .is-height)
+-- a panel's part: what is owed fails, or what is in hand decides
+module _ (v : Glass) (r : List ℕ) (k a : ℕ) {b : Bool} (z : Suits v) (e : a ≡ at (geometry v) (panel k)) (f : b ≡ bandsFit (v .width) (v .band) 0 (rectsAt (v .bands) r a)) where
+  pub pending-fails : not b ≡ true → false ≡ pendingFits (geometry v) (pendingOf (geometry v) r (at (geometry v) (panel k)))
+  unfolding pendingFits
+  pending-fails n = let y = not-true b n in cc (z .is-width)
 
--- where the loop over panels stands
-pub record Fitting (v : Glass) (r : List ℕ) (panels : ℕ) (ok : Bool) (k : ℕ) : Type 0 where
+  pub pending-is : {t : Bool} {q : Rect} → not b ≡ false → q ≡ rectAt r (a + 8 * v .bands) → t ≡ fits (v .width) 0 (v .height) q
+      → t ≡ pendingFits (geometry v) (pendingOf (geometry v) r (at (geometry v) (panel k)))
+  unfolding pendingFits
+  pending-is n g h = let y = not-false b n in cc (z .is-width, z .is-height)
+
+-- where the loop over panels stands: those before k have passed
+pub record Fitting (v : Glass) (r : List ℕ) (panels k : ℕ) : Type 0 where
   pub counted : panels ≡ v .panels
   pub some : k ≤ panels
-  pub same : (ok && panelsFit (geometry v) r k (panels - k)) ≡ panelsFit (geometry v) r 0 (v .panels)
+  pub same : panelsFit (geometry v) r k (panels - k) ≡ panelsFit (geometry v) r 0 (v .panels)
 
-pub fit-starts : (v : Glass) (r : List ℕ) → Fitting v r (v .panels) true 0
+pub fit-starts : (v : Glass) (r : List ℕ) → Fitting v r (v .panels) 0
 fit-starts v r = record { counted = refl; some = omega arith; same = let e : v .panels - 0 ≡ v .panels = omega arith in ap (panelsFit (geometry v) r 0) e }
 
-pub fit-goes : {v : Glass} {r : List ℕ} {panels : ℕ} {ok : Bool} {k : ℕ} {t : Bool} → Fitting v r panels ok k → k < panels
-    → t ≡ pendingFits (geometry v) (pendingOf (geometry v) r (at (geometry v) (panel k))) → Fitting v r panels (ok && t) (k + 1)
-unfolding panelsFit
-fit-goes {v} {r} {panels} {ok} {k} {t} i h e =
-    let c : panels - k ≡ suc (panels - (k + 1)) = omega arith in
-    let n = panels - (k + 1) in
-    let g = geometry v in
-    record { counted = i .counted; some = omega arith; same = cc (add-one k, and-assoc ok t (panelsFit g r (suc k) n), i .same) }
+module _ {v : Glass} {r : List ℕ} {panels k : ℕ} {t : Bool} (i : Fitting v r panels k) (h : k < panels)
+    (e : t ≡ pendingFits (geometry v) (pendingOf (geometry v) r (at (geometry v) (panel k)))) where
+  these : (t && panelsFit (geometry v) r (suc k) (panels - (k + 1))) ≡ panelsFit (geometry v) r 0 (v .panels)
+  unfolding panelsFit
+  these = let c : panels - k ≡ suc (panels - (k + 1)) = omega arith in cc (i .same)
 
-pub fit-ends : {v : Glass} {r : List ℕ} {panels : ℕ} {ok : Bool} {k : ℕ} → Fitting v r panels ok k → panels ≤ k → ok ≡ panelsFit (geometry v) r 0 (v .panels)
+  pub fit-goes : not t ≡ false → Fitting v r panels (k + 1)
+  fit-goes n = let y = not-false t n in record { counted = i .counted; some = omega arith; same = cc (add-one k, these) }
+
+  pub fit-fails : not t ≡ true → false ≡ panelsFit (geometry v) r 0 (v .panels)
+  fit-fails n = let y = not-true t n in cc these
+
+pub fit-ends : {v : Glass} {r : List ℕ} {panels k : ℕ} → Fitting v r panels k → panels ≤ k → true ≡ panelsFit (geometry v) r 0 (v .panels)
 unfolding panelsFit
-fit-ends {v} {r} {panels} {ok} {k} i h =
-    let z : panels - k ≡ 0 = omega (arith, i) in
-    sym (ap (λ (n : ℕ). ok && panelsFit (geometry v) r k n) z ∙ and-last ok) ∙ i .same
+fit-ends {panels = panels} {k} i h = let z : panels - k ≡ 0 = omega (arith, i) in cc (i .same)
 
 -- the flags lie in the record
 pub flags-room : (v : Glass) → Suits v → (v .flags ≤ v .others) × (v .others ≤ recordBytes (geometry v))
@@ -113,6 +121,27 @@ flags-part v r z =
 pub flags-sized : (v : Glass) (r : List ℕ) → Suits v → length r ≡ recordBytes (geometry v) → length (take (v .others - v .flags) (drop (v .flags) r)) ≡ flagBytes (v .cells)
 flags-sized v r z l = cc (flags-part v r z, length-part (geometry v) flags r (has-flags (geometry v)) l, z .is-cells)
 
-pub is-valid : (v : Glass) (r : List ℕ) {h : Head} {a b c : Bool} → Suits v → h ≡ headOf r → a ≡ headFits (geometry v) h → b ≡ panelsFit (geometry v) r 0 (v .panels)
-    → c ≡ flagsFit (v .cells) (take (v .others - v .flags) (drop (v .flags) r)) → ((a && b) && c) ≡ valid (geometry v) r
-is-valid v r z h a b c = valid-is (geometry v) r (z .glass) (a ∙ ap (headFits (geometry v)) h) b (c ∙ (λ i. flagsFit (z .is-cells i) (flags-part v r z i)))
+-- the head fails, or a panel does, or the flags decide
+module _ (v : Glass) (r : List ℕ) {h : Head} {a : Bool} (z : Suits v) (e : h ≡ headOf r) (f : a ≡ headFits (geometry v) h) where
+  heads : a ≡ headFits (geometry v) (headOf r)
+  heads = f ∙ ap (headFits (geometry v)) e
+
+  pub head-fails : not a ≡ true → false ≡ valid (geometry v) r
+  head-fails n =
+      let g = geometry v in
+      let y = not-true a n in
+      cc (valid-is g r {b = panelsFit g r 0 (g .panels)} {c = flagsFit (cells g) (partIn g flags r)} (z .glass) heads refl refl)
+
+  module _ (n : not a ≡ false) {b : Bool} (p : b ≡ panelsFit (geometry v) r 0 (v .panels)) where
+    pub panel-fails : not b ≡ true → false ≡ valid (geometry v) r
+    panel-fails m =
+        let g = geometry v in
+        let x = not-false a n in
+        let y = not-true b m in
+        cc (valid-is g r {c = flagsFit (cells g) (partIn g flags r)} (z .glass) heads p refl)
+
+    pub flags-decide : {c : Bool} → not b ≡ false → c ≡ flagsFit (v .cells) (take (v .others - v .flags) (drop (v .flags) r)) → c ≡ valid (geometry v) r
+    flags-decide {c} m q =
+        let x = not-false a n in
+        let y = not-false b m in
+        cc (valid-is (geometry v) r (z .glass) heads p (q ∙ (λ i. flagsFit (z .is-cells i) (flags-part v r z i))))

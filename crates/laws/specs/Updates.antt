@@ -108,23 +108,23 @@ module _ {v : Glass} {r : List ℕ} (k : Known v r) (fs : List Bool) (n : length
 
 -- ---- no flags
 
--- the flags' part was lent and cleared
-module _ {v : Glass} {r : List ℕ} (k : Known v r) {c : List ℕ}
-    (e : c ≡ zeros (length (take (v .others - v .flags) (drop (v .flags) r)))) where
+-- the flags' part was lent, up to where the other panels begin, and cleared
+module _ {v : Glass} {r : List ℕ} (k : Known v r) {c : List ℕ} {to : ℕ} (e : c ≡ zeros (length (take (to - v .flags) (drop (v .flags) r)))) (ends : to ≡ v .others) where
   cleared : c ≡ bytesOfFlags (clearFlags (geometry v))
   cleared =
       let g = geometry v in
       cc (flags-part v r (k .suits), length-part g flags r (has-flags g) (k .passing .sized), no-flags (cells g))
 
-  pub cleared-known : Known v (putMid (v .flags) (v .others - v .flags) r c)
-  cleared-known = flags-known k (clearFlags (geometry v)) (length-no-flags (cells (geometry v))) cleared
+  pub cleared-known : Known v (putMid (v .flags) (to - v .flags) r c)
+  cleared-known = rw ends (flags-known k (clearFlags (geometry v)) (length-no-flags (cells (geometry v))) cleared)
 
   pub cleared-record : (n : Head) (d o : Rect) {t : List ℕ}
-      → t ≡ encode (geometry v) (marked (geometry v) d o (withHead n (decode (geometry v) (putMid (v .flags) (v .others - v .flags) r c))))
+      → t ≡ encode (geometry v) (marked (geometry v) d o (withHead n (decode (geometry v) (putMid (v .flags) (to - v .flags) r c))))
       → t ≡ encode (geometry v) (marked (geometry v) d o (withHead n (withFlags (clearFlags (geometry v)) (decode (geometry v) r))))
   cleared-record n d o f =
       let g = geometry v in
-      f ∙ ap (λ (s : State). encode g (marked g d o (withHead n s))) (flags-state k (clearFlags g) (length-no-flags (cells g)) cleared)
+      f ∙ ap (λ (x : ℕ). encode g (marked g d o (withHead n (decode g (putMid (v .flags) (x - v .flags) r c))))) ends
+      ∙ ap (λ (s : State). encode g (marked g d o (withHead n s))) (flags-state k (clearFlags g) (length-no-flags (cells g)) cleared)
 
 -- the head of open and reset, no flags, and the whole screen owed
 pub resets : {v : Glass} {r : List ℕ} {h n : Head} {w d o : Rect} {s : List ℕ} → Known v r → h ≡ decode (geometry v) r .head

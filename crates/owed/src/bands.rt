@@ -52,17 +52,18 @@ pub fn bands_fit(rec: &[u8], at: usize, bands: usize, band: u16, width: u16) -> 
     requires { ⌜ (at + 8 * bands ≤ length (now rec)) × (bands * band ≤ 65535) ⌝ }
     ensures { λ r. ⌜ r ≡ bandsFit width band 0 (rectsAt bands (now (rec .entry)) at) ⌝ }
 {
-    let mut ok = true;
     let mut a = at;
     let mut lo: u16 = 0;
     let mut left = bands;
     while left > 0 {
         let q = rects::load_rect(rec, a);
         let hi = lo + band;
-        ok = ok & rect::rect_fits(width, lo, hi, q);
+        if !rect::rect_fits(width, lo, hi, q) {
+            return false;
+        }
         a += 8;
         lo = hi;
         left -= 1;
     }
-    ok
+    true
 }

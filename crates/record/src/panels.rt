@@ -4,7 +4,7 @@ use model::glass::Glass;
 use model::glass::HEAD_BYTES;
 use owed::bands;
 ghost use mathlib.Core.Path.{_≡_};
-ghost use Prim.Native.Nat.{_<_};
+ghost use Prim.Native.Nat.{_+_, _*_, _≤_, _<_};
 ghost use lib.ListN.{length};
 ghost use Rattle.model.specs.Glass.{geometry, Suits};
 ghost use Rattle.model.specs.Record.{at, panel, recordBytes};
@@ -20,6 +20,14 @@ pub fn panel_at(glass: Glass, k: usize) -> usize
         return HEAD_BYTES;
     }
     glass.others + (k - 1) * glass.pending
+}
+
+// Where the count of lines sent stands in the part that begins at byte `at`: behind the bands and the rectangle in hand.
+pub fn sent_at(glass: Glass, at: usize) -> usize
+    requires { ⌜ at + 8 * glass .bands + 12 ≤ 65535 ⌝ }
+    ensures { λ r. ⌜ r ≡ at + 8 * glass .bands + 8 ⌝ }
+{
+    at + 8 * glass.bands + 8
 }
 
 // A mark joined to what each panel is owed.

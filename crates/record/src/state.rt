@@ -45,9 +45,11 @@ fn pending_fits(rec: &[u8], glass: Glass, k: usize) -> bool
 {
     let a = panels::panel_at(glass, k);
     let bands = glass.bands;
-    let owed = bands::bands_fit(rec, a, bands, glass.band, glass.width);
+    if !bands::bands_fit(rec, a, bands, glass.band, glass.width) {
+        return false;
+    }
     let hand = rects::load_rect(rec, a + 8 * bands);
-    owed & rect::rect_fits(glass.width, 0, glass.height, hand)
+    rect::rect_fits(glass.width, 0, glass.height, hand)
 }
 
 fn panels_fit(rec: &[u8], glass: Glass) -> bool
@@ -56,13 +58,14 @@ fn panels_fit(rec: &[u8], glass: Glass) -> bool
     ensures { λ r. ⌜ r ≡ panelsFit (geometry glass) (now (rec .entry)) 0 (glass .panels) ⌝ }
 {
     let panels = glass.panels;
-    let mut ok = true;
     let mut k: usize = 0;
     while k < panels {
-        ok = ok & pending_fits(rec, glass, k);
+        if !pending_fits(rec, glass, k) {
+            return false;
+        }
         k += 1;
     }
-    ok
+    true
 }
 
 // Whether the record, whose head is h, passes STATE.
@@ -73,5 +76,11 @@ pub fn is_valid(rec: &[u8], glass: Glass, h: Head) -> bool
 {
     let from = glass.flags;
     let to = glass.others;
-    head_fits(glass, h) & panels_fit(rec, glass) & flags::flags_fit(&rec[from..to], glass.cells)
+    if !head_fits(glass, h) {
+        return false;
+    }
+    if !panels_fit(rec, glass) {
+        return false;
+    }
+    flags::flags_fit(&rec[from..to], glass.cells)
 }

@@ -1,14 +1,14 @@
-use Rattle.laws.specs.Owed.{Testing, test-starts, test-goes, test-ends, band-in}
+use Rattle.laws.specs.Owed.{Testing, test-starts, test-goes, test-fails, test-ends, band-in}
 use native.Mathlib.Omega.{arith}
 use borrow.Author.Needs.{needs}
 use Rattle.owed.proofs.bands.bands_fit.Statement.{statement}
 use Rattle.owed.proofs.bands.bands_fit.Tie as tie
 
 abbrev Inv-loop : tie.InvT-loop
-Inv-loop rec at bands band width ok₀ a₀ lo₀ left₀ ok a lo left = Testing width band bands at rec ok a lo left
+Inv-loop rec at bands band width a₀ lo₀ left₀ a lo left = Testing width band bands at rec a lo left
 
 abbrev μ-loop : tie.MeasureT-loop
-μ-loop rec at bands band width ok₀ a₀ lo₀ left₀ ok a lo left = left
+μ-loop rec at bands band width a₀ lo₀ left₀ a lo left = left
 
 loop-holds : tie.Need-loop-holds Inv-loop μ-loop
 loop-holds c = search test-starts
@@ -22,6 +22,11 @@ add-hi c = let l = c .before in omega (arith, band-in _ _ _ _ (l .loop-test .tak
 rect-fits-requires : tie.Need-rect-fits-requires Inv-loop μ-loop
 rect-fits-requires c κs = search needs
 
+returns : tie.Need-returns Inv-loop μ-loop
+returns c =
+    let l = c .before .before .before in
+    test-fails (l .before .loop .inv) (l .loop-test .taken) (c .before .before .load-rect .ensures) (c .before .rect-fits .ensures) (c .if1 .taken)
+
 add-a : tie.Need-add-a Inv-loop μ-loop
 add-a c = search needs
 
@@ -32,10 +37,12 @@ loop-less : tie.Need-loop-less Inv-loop μ-loop
 loop-less c = search needs
 
 loop-again : tie.Need-loop-again Inv-loop μ-loop
-loop-again c = let l = c .before .before in test-goes (l .before .loop .inv) (l .loop-test .taken) (c .before .load-rect .ensures) (c .rect-fits .ensures)
+loop-again c =
+    let l = c .before .before .before in
+    test-goes (l .before .loop .inv) (l .loop-test .taken) (c .before .before .load-rect .ensures) (c .before .rect-fits .ensures) (c .if1 .left)
 
-returns : tie.Need-returns Inv-loop μ-loop
-returns c = search test-ends
+returns-2 : tie.Need-returns-2 Inv-loop μ-loop
+returns-2 c = search test-ends
 
 pub bands-fit-spec : {M : Type 1} → statement M
 bands-fit-spec =
@@ -47,8 +54,9 @@ bands-fit-spec =
     load-rect-requires
     add-hi
     rect-fits-requires
+    returns
     add-a
     sub-left
     loop-less
     loop-again
-    returns)
+    returns-2)

@@ -1,5 +1,5 @@
 use native.Mathlib.Omega.{arith}
-use Rattle.laws.specs.StateTest.{flags-room, flags-sized, is-valid}
+use Rattle.laws.specs.StateTest.{flags-room, flags-sized, head-fails, panel-fails, flags-decide}
 use borrow.Author.Needs.{needs}
 use Rattle.record.proofs.state.is_valid.Statement.{statement}
 use Rattle.record.proofs.state.is_valid.Tie as tie
@@ -7,32 +7,46 @@ use Rattle.record.proofs.state.is_valid.Tie as tie
 head-fits-requires : tie.Need-head-fits-requires
 head-fits-requires c κs = search needs
 
+returns : tie.Need-returns
+returns c = let s = c .before .before .before in head-fails (s .args .glass) (s .args .rec .now) (s .pre .0) (s .pre .1 .1) (c .before .head-fits .ensures) (c .if1 .taken)
+
 panels-fit-requires : tie.Need-panels-fit-requires
 panels-fit-requires c κs = search needs
+
+returns-2 : tie.Need-returns-2
+returns-2 c =
+    let s = c .before .before .before .before .before in
+    panel-fails (s .args .glass) (s .args .rec .now) (s .pre .0) (s .pre .1 .1) (c .before .before .before .head-fits .ensures) (c .before .before .if1 .left)
+    (c .before .panels-fit .ensures) (c .if2 .taken)
 
 sub-flags-fit : tie.Need-sub-flags-fit
 sub-flags-fit c = search needs
 
 part-flags-fit-start : tie.Need-part-flags-fit-start
-part-flags-fit-start c = let s = c .before .before .before in omega (arith, flags-room (s .args .glass) (s .pre .0))
+part-flags-fit-start c = let s = c .before .before .before .before .before in omega (arith, flags-room (s .args .glass) (s .pre .0))
 
 part-flags-fit-end : tie.Need-part-flags-fit-end
-part-flags-fit-end c = let s = c .before .before .before in omega (arith, flags-room (s .args .glass) (s .pre .0), s .pre .1 .0)
+part-flags-fit-end c = let s = c .before .before .before .before .before in omega (arith, flags-room (s .args .glass) (s .pre .0), s .pre .1 .0)
 
 flags-fit-requires : tie.Need-flags-fit-requires
-flags-fit-requires c κs = let s = c .before .before .before .before in flags-sized (s .args .glass) (s .args .rec .now) (s .pre .0) (s .pre .1 .0)
+flags-fit-requires c κs = let s = c .before .before .before .before .before .before in flags-sized (s .args .glass) (s .args .rec .now) (s .pre .0) (s .pre .1 .0)
 
-returns : tie.Need-returns
-returns c = let s = c .before .before .before .before .before in is-valid (s .args .glass) (s .args .rec .now) (s .pre .0) (s .pre .1 .1) (c .before .before .before .head-fits .ensures) (c .before .before .panels-fit .ensures) (c .flags-fit .ensures)
+returns-3 : tie.Need-returns-3
+returns-3 c =
+    let s = c .before .before .before .before .before .before .before in
+    flags-decide (s .args .glass) (s .args .rec .now) (s .pre .0) (s .pre .1 .1) (c .before .before .before .before .before .head-fits .ensures) (c .before .before .before .before .if1 .left)
+    (c .before .before .before .panels-fit .ensures) (c .before .before .if2 .left) (c .flags-fit .ensures)
 
 pub is-valid-spec : {M : Type 1} → statement M
 is-valid-spec =
     tie.close
     (tie.spec
     head-fits-requires
+    returns
     panels-fit-requires
+    returns-2
     sub-flags-fit
     part-flags-fit-start
     part-flags-fit-end
     flags-fit-requires
-    returns)
+    returns-3)

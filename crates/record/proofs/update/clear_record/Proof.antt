@@ -25,13 +25,13 @@ clear-flags-requires : tie.Need-clear-flags-requires
 clear-flags-requires c κs = search needs
 
 mark-head-requires : tie.Need-mark-head-requires
-mark-head-requires c κs = let chosen = c .before .before .before .before .before .glass-of .ensures in let k = known-glass chosen (c .before .before .before .before .before .before .before .pre) in let n = cleared-known k (c .before .before .before .clear-flags .ensures) in passes-for (still-chosen k n chosen) n
+mark-head-requires c κs = let chosen = c .before .before .before .before .before .glass-of .ensures in let k = known-glass chosen (c .before .before .before .before .before .before .before .pre) in let n = cleared-known k (c .before .before .before .clear-flags .ensures) (omega arith) in passes-for (still-chosen k n chosen) n
 
 same-length : tie.Need-same-length
 same-length c = search needs
 
 returns : tie.Need-returns
-returns c = let s = c .before .before .before .before .before .before .before .before .before .before in let chosen = c .before .before .before .before .before .before .before .before .glass-of .ensures in let k = known-glass chosen (s .pre) in let e = c .before .before .before .before .before .before .clear-flags .ensures in let n = cleared-known k e in updates _ (λ g x. marked g (s .args .m .dirty) (s .args .m .owed) (withHead (s .args .n) (withFlags (clearFlags g) x))) chosen (cleared-record k e (s .args .n) (s .args .m .dirty) (s .args .m .owed) (updated-for _ _ (still-chosen k n chosen) (c .before .before .mark-head .ensures)))
+returns c = let s = c .before .before .before .before .before .before .before .before .before .before in let chosen = c .before .before .before .before .before .before .before .before .glass-of .ensures in let k = known-glass chosen (s .pre) in let e = c .before .before .before .before .before .before .clear-flags .ensures in let n = cleared-known k e (omega arith) in updates _ (λ g x. marked g (s .args .m .dirty) (s .args .m .owed) (withHead (s .args .n) (withFlags (clearFlags g) x))) chosen (cleared-record k e (omega arith) (s .args .n) (s .args .m .dirty) (s .args .m .owed) (updated-for _ _ (still-chosen k n chosen) (c .before .before .mark-head .ensures)))
 
 pub clear-record-spec : {M : Type 1} → statement M
 clear-record-spec =
