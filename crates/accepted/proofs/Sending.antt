@@ -2,7 +2,7 @@
 use mathlib.Core.Path.{_≡_, refl, sym, ap, _∙_}
 use mathlib.Core.List.{List}
 use mathlib.Core.Bool.{Bool, true, false}
-use Prim.Native.Nat.{ℕ, _*_}
+use Prim.Native.Nat.{ℕ, _*_, _<_}
 use native.Mathlib.Omega.{arith}
 use lib.ListN.{length}
 use Rattle.model.specs.declared.Canvas.{Canvas}
@@ -23,33 +23,38 @@ use Rattle.record.specs.Given.{Given}
 use Rattle.accepted.specs.NoLine.{noLine}
 use Rattle.record.proofs.Drawing.{screenPart, screen-is, screen-part}
 
-module _ {v : Glass} {r : List ℕ} {h : Head} {m : List ℕ} (w : Given v r h m) {q : Rect} {s : List ℕ} (i : SentOn v 0 r q s) {t : Bool} (e : t ≡ isEmpty q) where
-  empty-as : {u : Bool} → t ≡ u → isEmpty (takeOwed (panelOf (geometry v) (decode (geometry v) r) 0) .hand) ≡ u
+-- panel j is sent to, which is the one that is named, k
+module _ {v : Glass} {r : List ℕ} {h : Head} {m : List ℕ} (w : Given v r h m) (k : ℕ) {j : ℕ} {q : Rect} {s : List ℕ} (sent : SentOn v j r q s) (named : j ≡ k) {t : Bool}
+    (e : t ≡ isEmpty q) where
+  i : SentOn v k r q s
+  i = rw (← named) sent
+
+  empty-as : {u : Bool} → t ≡ u → isEmpty (takeOwed (panelOf (geometry v) (decode (geometry v) r) k) .hand) ≡ u
   empty-as f = ap isEmpty (sym (i .line)) ∙ sym e ∙ f
 
-  pub idles : (p : List ℕ) {a : Sent} → t ≡ true → a ≡ noLine 0 → answered (a .code) (sentNumbers a) (lent s m p) ≡ done (geometry v) send (lent r m p)
+  pub idles : (p : List ℕ) {a : Sent} → t ≡ true → a ≡ noLine 0 → answered (a .code) (sentNumbers a) (lent s m p) ≡ done (geometry v) (send k) (lent r m p)
   unfolding done sendNumbers sendPanel
   idles p f a = rw (empty-as f) (λ j. answered (a j .code) (sentNumbers (a j)) (lent (i .left j) m p))
 
-  pub may-copy : {k : Canvas} {p : List ℕ} → t ≡ false → k ≡ canvas v → length p ≡ screenBytes (geometry v)
-      → LineOn (k .stride) (k .height) (screenPart v h m) p q
+  pub may-copy : {a : Canvas} {p : List ℕ} → t ≡ false → a ≡ canvas v → (length p ≡ screenBytes (geometry v)) × (k < v .panels)
+      → LineOn (a .stride) (a .height) (screenPart v h m) p q
   may-copy f c l =
       let z = w .known .suits in
-      let n = sent-proper (w .known) (z .glass .one) i e f in
+      let n = sent-proper (w .known) (l .1) i e f in
       rw c (record {
         screen = screen-part w {k = canvas v} refl;
-        panel = l ∙ ap (λ (x : ℕ). v .stride * x) (sym (z .is-height));
+        panel = l .0 ∙ ap (λ (x : ℕ). v .stride * x) (sym (z .is-height));
         wide = n .wide;
         inside = n .right-in;
         above = omega (arith, n, z .is-height);
       })
 
-  pub sends-line : (p : List ℕ) {k : Canvas} {b : List ℕ} {a : Sent} → t ≡ false → k ≡ canvas v → b ≡ copyLine (k .stride) q (screenPart v h m) p
-      → a .code ≡ 0 → sentNumbers a ≡ lineNumbers q → answered (a .code) (sentNumbers a) (lent s m b) ≡ done (geometry v) send (lent r m p)
+  pub sends-line : (p : List ℕ) {d : Canvas} {b : List ℕ} {a : Sent} → t ≡ false → d ≡ canvas v → b ≡ copyLine (d .stride) q (screenPart v h m) p
+      → a .code ≡ 0 → sentNumbers a ≡ lineNumbers q → answered (a .code) (sentNumbers a) (lent s m b) ≡ done (geometry v) (send k) (lent r m p)
   unfolding done sendNumbers sendPanel
   sends-line p f c d o l =
       let g = geometry v in
       rw (empty-as f)
       ((λ j. answered (o j) (l j) (lent (i .left j) m ((d ∙ (λ y. copyLine (c y .stride) q (screen-is w y) p)
       ∙ ap (λ (x : Head). copyLine (v .stride) q (window (x .graphics) (screenBytes g) m) p) (w .head)) j)))
-      ∙ ap (λ (x : Rect). answered 0 (lineNumbers x) (lent (encode g (withPanel 0 (sendPending (panelOf g (decode g r) 0)) (decode g r))) m (copyLine (v .stride) x (window (decode g r .head .graphics) (screenBytes g) m) p))) (i .line))
+      ∙ ap (λ (x : Rect). answered 0 (lineNumbers x) (lent (encode g (withPanel k (sendPending (panelOf g (decode g r) k)) (decode g r))) m (copyLine (v .stride) x (window (decode g r .head .graphics) (screenBytes g) m) p))) (i .line))

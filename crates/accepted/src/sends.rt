@@ -8,6 +8,7 @@ use record::glass::canvas_of;
 use send::line;
 use send::pending;
 ghost use mathlib.Core.Path.{_≡_};
+ghost use Prim.Native.Nat.{_<_};
 ghost use lib.ListN.{length};
 ghost use Rattle.model.specs.Geometry.{screenBytes};
 ghost use Rattle.model.specs.Glass.{geometry};
@@ -43,12 +44,20 @@ fn sent_line(q: Rect) -> Sent
     }
 }
 
-pub fn send(rec: &mut [u8], memory: &[u8], panel: &mut [u8], glass: Glass, h: Head) -> Sent
+// A send to panel k.
+pub fn send(
+    rec: &mut [u8],
+    memory: &[u8],
+    panel: &mut [u8],
+    glass: Glass,
+    h: Head,
+    k: usize,
+) -> Sent
     requires { ⌜ Given glass (now rec) h (now memory) ⌝ }
-    requires { ⌜ length (now panel) ≡ screenBytes (geometry glass) ⌝ }
-    ensures { λ r. ⌜ answered (r .code) (sentNumbers r) (lent (now (rec .exit)) (now (memory .entry)) (now (panel .exit))) ≡ done (geometry glass) calls.send (lent (now (rec .entry)) (now (memory .entry)) (now (panel .entry))) ⌝ }
+    requires { ⌜ (length (now panel) ≡ screenBytes (geometry glass)) × (k < glass .panels) ⌝ }
+    ensures { λ r. ⌜ answered (r .code) (sentNumbers r) (lent (now (rec .exit)) (now (memory .entry)) (now (panel .exit))) ≡ done (geometry glass) (calls.send k) (lent (now (rec .entry)) (now (memory .entry)) (now (panel .entry))) ⌝ }
 {
-    let q = pending::send_panel(rec, glass, 0);
+    let q = pending::send_panel(rec, glass, k);
     if rect::is_empty(q) {
         return no_line(0);
     }

@@ -129,7 +129,7 @@ stores-head f {r = r} {m} {p} i z q t =
     let g = glassOf (length r) in
     λ j. lent ((t ∙ ap (λ (x : Head). encode g (withHead x (decode g r))) (q ∙ ap f (i .head z))) j) m p
 
--- ---- a place beyond the rows or columns of the glass, or on it
+-- ---- a place beyond the rows or columns of the glass, or on it; a panel beyond its panels, or one of them
 
 module _ {n : ℕ} {v : Glass} (k : Chosen n v) where
   row-of : v .rows ≡ rows (glassOf n)
@@ -149,6 +149,15 @@ module _ {n : ℕ} {v : Glass} (k : Chosen n v) where
 
   pub a-column : (i : ℕ) → i < v .columns → ltb i (columns (glassOf n)) ≡ true
   a-column i h = lt-ltb i (columns (glassOf n)) (rw (← column-of) h)
+
+  panels-of : v .panels ≡ glassOf n .panels
+  panels-of = ap (λ (g : Geometry). g .panels) (k .glass)
+
+  pub no-panel : (i : ℕ) → v .panels ≤ i → ltb i (glassOf n .panels) ≡ false
+  no-panel i h = le-ltb i (glassOf n .panels) (rw (← panels-of) h)
+
+  pub a-panel : (i : ℕ) → i < v .panels → ltb i (glassOf n .panels) ≡ true
+  a-panel i h = lt-ltb i (glassOf n .panels) (rw (← panels-of) h)
 
 -- ---- a send: the panel's length is the glass's
 

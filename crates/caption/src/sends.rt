@@ -2,15 +2,17 @@
 use accepted::sends;
 use model::Sent;
 use model::glass::MEMORY_BYTES;
+use model::refusal;
 use record::entry;
 use record::glass::glass_of;
 ghost use mathlib.Core.Path.{_≡_};
 ghost use Rattle.model.specs.Geometry.{base};
 ghost use Rattle.model.specs.Calls.{send, lent, answered, sentNumbers, outcome};
 
+// To the panel of that number, whose buffer is lent.
 #[no_mangle]
-pub extern "C" fn caption_send(rec: &mut [u8], memory: &[u8], panel: &mut [u8]) -> Sent
-    ensures { λ r. ⌜ answered (r .code) (sentNumbers r) (lent (now (rec .exit)) (now (memory .entry)) (now (panel .exit))) ≡ outcome base send (lent (now (rec .entry)) (now (memory .entry)) (now (panel .entry))) ⌝ }
+pub extern "C" fn caption_send(rec: &mut [u8], memory: &[u8], panel: &mut [u8], number: u8) -> Sent
+    ensures { λ r. ⌜ answered (r .code) (sentNumbers r) (lent (now (rec .exit)) (now (memory .entry)) (now (panel .exit))) ≡ outcome base (send number) (lent (now (rec .entry)) (now (memory .entry)) (now (panel .entry))) ⌝ }
 {
     let glass = glass_of(rec.len());
     let e = entry::enter(
@@ -21,5 +23,9 @@ pub extern "C" fn caption_send(rec: &mut [u8], memory: &[u8], panel: &mut [u8]) 
     if code != 0 {
         return sends::no_line(code);
     }
-    sends::send(rec, memory, panel, glass, e.head)
+    let k = number as usize;
+    if k >= glass.panels {
+        return sends::no_line(refusal::PANEL);
+    }
+    sends::send(rec, memory, panel, glass, e.head, k)
 }

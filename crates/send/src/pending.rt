@@ -58,12 +58,13 @@ pub fn send_panel(rec: &mut [u8], glass: Glass, k: usize) -> Rect
 {
     let at = panels::panel_at(glass, k);
     let in_hand = at + 8 * glass.bands;
-    let sent = slices::load_four(rec, in_hand + 8);
+    let counted = panels::sent_at(glass, at);
+    let sent = slices::load_four(rec, counted);
     let hand = take_hand(rec, glass, at);
     if rect::is_empty(hand) {
         return hand;
     }
     rects::store_rect(rec, in_hand, next_line(hand));
-    slices::store_four(rec, in_hand + 8, count_line(sent));
+    slices::store_four(rec, counted, count_line(sent));
     hand
 }

@@ -1,3 +1,4 @@
+use native.Mathlib.Omega.{arith}
 use Rattle.record.proofs.Drawing.{screen-room}
 use Rattle.accepted.proofs.Sending.{idles, may-copy, sends-line}
 use borrow.Author.Needs.{needs}
@@ -5,7 +6,7 @@ use Rattle.accepted.proofs.sends.send.Statement.{statement}
 use Rattle.accepted.proofs.sends.send.Tie as tie
 
 send-panel-requires : tie.Need-send-panel-requires
-send-panel-requires c κs = search needs
+send-panel-requires c κs = let s = c .before .before .before .before in (s .pre .0 .known, omega (arith, s .pre .1 .1))
 
 is-empty-requires : tie.Need-is-empty-requires
 is-empty-requires c κs = search needs
@@ -17,7 +18,9 @@ same-length : tie.Need-same-length
 same-length c = search needs
 
 returns : tie.Need-returns
-returns c = idles (c .before .before .before .before .before .before .before .before .before .before .pre .0) (c .before .before .before .before .before .send-panel .ensures) (c .before .before .is-empty .ensures) _ (c .before .if1 .taken) (c .no-line .ensures)
+returns c =
+    let s = c .before .before .before .before .before .before .before .before .before .before in
+    idles (s .pre .0) (s .args .k) (c .before .before .before .before .before .send-panel .ensures) (omega arith) (c .before .before .is-empty .ensures) _ (c .before .if1 .taken) (c .no-line .ensures)
 
 cast-from : tie.Need-cast-from
 cast-from c = search needs
@@ -38,7 +41,9 @@ part-copy-line-end : tie.Need-part-copy-line-end
 part-copy-line-end c = screen-room (c .before .before .before .before .before .before .before .before .before .before .before .before .pre .0)
 
 copy-line-requires : tie.Need-copy-line-requires
-copy-line-requires c κs = may-copy (c .before .before .before .before .before .before .before .before .before .before .before .before .before .before .pre .0) (c .before .before .before .before .before .before .before .before .before .send-panel .ensures) (c .before .before .before .before .before .before .is-empty .ensures) (c .before .before .before .before .before .if1 .left) (c .before .before .canvas-of .ensures) (c .before .before .before .before .before .before .before .before .before .before .before .before .before .before .pre .1)
+copy-line-requires c κs =
+    let s = c .before .before .before .before .before .before .before .before .before .before .before .before .before .before in
+    may-copy (s .pre .0) (s .args .k) (c .before .before .before .before .before .before .before .before .before .send-panel .ensures) (omega arith) (c .before .before .before .before .before .before .is-empty .ensures) (c .before .before .before .before .before .if1 .left) (c .before .before .canvas-of .ensures) (s .pre .1)
 
 sent-line-requires : tie.Need-sent-line-requires
 sent-line-requires c κs = search needs
@@ -50,7 +55,10 @@ same-length-3 : tie.Need-same-length-3
 same-length-3 c = search needs
 
 returns-2 : tie.Need-returns-2
-returns-2 c = sends-line (c .before .before .before .before .before .before .before .before .before .before .before .before .before .before .before .before .before .before .pre .0) (c .before .before .before .before .before .before .before .before .before .before .before .before .before .send-panel .ensures) (c .before .before .before .before .before .before .before .before .before .before .is-empty .ensures) _ (c .before .before .before .before .before .before .before .before .before .if1 .left) (c .before .before .before .before .before .before .canvas-of .ensures) (c .before .before .before .copy-line .ensures) (c .sent-line .ensures .0) (c .sent-line .ensures .1)
+returns-2 c =
+    let s = c .before .before .before .before .before .before .before .before .before .before .before .before .before .before .before .before .before .before in
+    sends-line (s .pre .0) (s .args .k) (c .before .before .before .before .before .before .before .before .before .before .before .before .before .send-panel .ensures) (omega arith) (c .before .before .before .before .before .before .before .before .before .before .is-empty .ensures) _ (c .before .before .before .before .before .before .before .before .before .if1 .left) (c .before .before .before .before .before .before .canvas-of .ensures)
+    (c .before .before .before .copy-line .ensures) (c .sent-line .ensures .0) (c .sent-line .ensures .1)
 
 pub send-spec : {M : Type 1} → statement M
 send-spec =

@@ -1,7 +1,10 @@
 use mathlib.Core.Path.{refl, ap}
+use mathlib.Core.List.{[]}
+use native.Mathlib.Omega.{arith}
 use Rattle.model.specs.declared.Sent.{Sent}
+use Rattle.model.specs.Refusals.{PANEL}
 use Rattle.model.specs.Calls.{sentNumbers}
-use Rattle.caption.proofs.Calls.{as-answered, none-left, stops, ends, entered-panel, given-panel}
+use Rattle.caption.proofs.Calls.{as-answered, fails, passes, none-left, stops, stops-later, ends, no-panel, a-panel, entered-panel, given-panel}
 use borrow.Author.Needs.{needs}
 use Rattle.caption.proofs.sends.caption_send.Statement.{statement}
 use Rattle.caption.proofs.sends.caption_send.Tie as tie
@@ -18,20 +21,48 @@ no-line-requires c κs = search needs
 same-length : tie.Need-same-length
 same-length c = search needs
 
+-- refused at the entry
 returns : tie.Need-returns
-returns c = let a = c .before .before .before .before .before .before .before .before .before .args in as-answered _ (ap (λ (s : Sent). s .code) (c .no-line .ensures)) (ap sentNumbers (c .no-line .ensures)) (stops _ _ refl (entered-panel (a .memory .now) (a .panel .now) (c .before .before .before .before .before .glass-of .ensures) (c .before .before .enter .ensures)) (c .before .if1 .taken))
+returns c =
+    let a = c .before .before .before .before .before .before .before .before .before .args in
+    let g = c .before .before .before .before .before .glass-of .ensures in
+    let n = entered-panel (a .memory .now) (a .panel .now) g (c .before .before .enter .ensures) in
+    as-answered _ (ap (λ (s : Sent). s .code) (c .no-line .ensures)) (ap sentNumbers (c .no-line .ensures)) (stops _ _ refl n (c .before .if1 .taken))
 
-send-requires : tie.Need-send-requires
-send-requires c κs = let a = c .before .before .before .before .before .before .before .before .before .before .args in given-panel (a .memory .now) (a .panel .now) (c .before .before .before .before .before .before .glass-of .ensures) (c .before .before .before .enter .ensures) (c .before .before .if1 .left)
+no-line-requires-2 : tie.Need-no-line-requires-2
+no-line-requires-2 c κs = search needs
 
 same-length-2 : tie.Need-same-length-2
 same-length-2 c = search needs
 
+-- no such panel
+returns-2 : tie.Need-returns-2
+returns-2 c =
+    let a = c .before .before .before .before .before .before .before .before .before .before .before .args in
+    let g = c .before .before .before .before .before .before .before .glass-of .ensures in
+    let n = entered-panel (a .memory .now) (a .panel .now) g (c .before .before .before .before .enter .ensures) in
+    as-answered _ (ap (λ (s : Sent). s .code) (c .no-line2 .ensures)) (ap sentNumbers (c .no-line2 .ensures))
+    (stops-later _ _ refl n (c .before .before .before .if1 .left) PANEL (fails [] (no-panel g (a .number) (omega (arith, c .before .if2 .taken)))) (λ z. omega arith))
+
+send-requires : tie.Need-send-requires
+send-requires c κs =
+    let a = c .before .before .before .before .before .before .before .before .before .before .before .before .args in
+    let p = given-panel (a .memory .now) (a .panel .now) (c .before .before .before .before .before .before .before .before .glass-of .ensures) (c .before .before .before .before .before .enter .ensures) (c .before .before .before .before .if1 .left) in
+    (p .0, (p .1, omega (arith, c .before .before .if2 .left)))
+
 same-length-3 : tie.Need-same-length-3
 same-length-3 c = search needs
 
-returns-2 : tie.Need-returns-2
-returns-2 c = let a = c .before .before .before .before .before .before .before .before .before .before .before .before .before .before .before .args in ends _ _ refl (entered-panel (a .memory .now) (a .panel .now) (c .before .before .before .before .before .before .before .before .before .before .before .glass-of .ensures) (c .before .before .before .before .before .before .before .before .enter .ensures)) (c .before .before .before .before .before .before .before .if1 .left) (c .before .before .before .before .before .before .before .before .before .before .before .glass-of .ensures) none-left (c .before .before .before .before .send .ensures)
+same-length-4 : tie.Need-same-length-4
+same-length-4 c = search needs
+
+-- sent
+returns-3 : tie.Need-returns-3
+returns-3 c =
+    let a = c .before .before .before .before .before .before .before .before .before .before .before .before .before .before .before .before .before .args in
+    let g = c .before .before .before .before .before .before .before .before .before .before .before .before .before .glass-of .ensures in
+    let n = entered-panel (a .memory .now) (a .panel .now) g (c .before .before .before .before .before .before .before .before .before .before .enter .ensures) in
+    ends _ _ refl n (c .before .before .before .before .before .before .before .before .before .if1 .left) g (passes PANEL [] (a-panel g (a .number) (omega (arith, c .before .before .before .before .before .before .before .if2 .left))) none-left) (c .before .before .before .before .send .ensures)
 
 pub caption-send-spec : {M : Type 1} → statement M
 caption-send-spec =
@@ -42,7 +73,10 @@ caption-send-spec =
     no-line-requires
     same-length
     returns
-    send-requires
+    no-line-requires-2
     same-length-2
+    returns-2
+    send-requires
     same-length-3
-    returns-2)
+    same-length-4
+    returns-3)

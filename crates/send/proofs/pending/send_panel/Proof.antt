@@ -2,7 +2,7 @@ use native.Mathlib.Omega.{arith}
 use Prim.Native.Nat.{ℕ, _+_, min}
 use mathlib.Core.Path.{ap, _∙_}
 use Rattle.laws.specs.Sending.{line-follows, line-sent, idle, sends}
-use Rattle.send.proofs.Hand.{panel-room}
+use Rattle.send.proofs.Hand.{panel-room, short-room, count-room}
 use borrow.Author.Needs.{needs}
 use Rattle.send.proofs.pending.send_panel.Statement.{statement}
 use Rattle.send.proofs.pending.send_panel.Tie as tie
@@ -16,14 +16,14 @@ mul-in-hand c = search needs
 add-in-hand : tie.Need-add-in-hand
 add-in-hand c = let p = c .before in omega (arith, panel-room (p .before .before .pre) (p .panel-at .ensures))
 
-add-load-four : tie.Need-add-load-four
-add-load-four c = let p = c .before .before in omega (arith, panel-room (p .before .before .pre) (p .panel-at .ensures))
+sent-at-requires : tie.Need-sent-at-requires
+sent-at-requires c κs = let p = c .before in short-room (p .before .before .pre) (p .panel-at .ensures)
 
 load-four-requires : tie.Need-load-four-requires
-load-four-requires c κs = let p = c .before .before in omega (arith, panel-room (p .before .before .pre) (p .panel-at .ensures))
+load-four-requires c κs = let p = c .before .before .before in omega (arith, panel-room (p .before .before .pre) (p .panel-at .ensures), c .before .sent-at .ensures)
 
 take-hand-requires : tie.Need-take-hand-requires
-take-hand-requires c κs = let p = c .before .before .before .before in omega (arith, panel-room (p .before .before .pre) (p .panel-at .ensures))
+take-hand-requires c κs = let p = c .before .before .before .before .before in omega (arith, panel-room (p .before .before .pre) (p .panel-at .ensures))
 
 is-empty-requires : tie.Need-is-empty-requires
 is-empty-requires c κs = search needs
@@ -31,10 +31,11 @@ is-empty-requires c κs = search needs
 same-length : tie.Need-same-length
 same-length c = search needs
 
+-- nothing to send
 returns : tie.Need-returns
 returns c =
     let t = c .before .before .before .before in
-    let p = t .before .before .before .before .before in
+    let p = t .before .before .before .before .before .before in
     let s = p .before .before in
     record {
       line = line-sent (s .args .k) (s .pre .0) (s .pre .1) (p .panel-at .ensures) (t .take-hand .ensures);
@@ -44,38 +45,40 @@ returns c =
 next-line-requires : tie.Need-next-line-requires
 next-line-requires c κs =
     let t = c .before .before .before .before .before in
-    let p = t .before .before .before .before .before in
+    let p = t .before .before .before .before .before .before in
     let s = p .before .before in
     line-follows (s .args .k) (s .pre .0) (s .pre .1) (p .panel-at .ensures) (t .take-hand .ensures)
 
 store-rect-requires : tie.Need-store-rect-requires
-store-rect-requires c κs = let p = c .before .before .before .before .before .before .before .before .before .before .before in omega (arith, panel-room (p .before .before .pre) (p .panel-at .ensures))
-
-add-store-four : tie.Need-add-store-four
-add-store-four c = let p = c .before .before .before .before .before .before .before .before .before .before .before .before .before .before .before in omega (arith, panel-room (p .before .before .pre) (p .panel-at .ensures))
+store-rect-requires c κs = let p = c .before .before .before .before .before .before .before .before .before .before .before .before in omega (arith, panel-room (p .before .before .pre) (p .panel-at .ensures))
 
 count-line-requires : tie.Need-count-line-requires
 count-line-requires c κs = search needs
 
 store-four-requires : tie.Need-store-four-requires
-store-four-requires c κs = let p = c .before .before .before .before .before .before .before .before .before .before .before .before .before .before .before .before in omega (arith, panel-room (p .before .before .pre) (p .panel-at .ensures))
+store-four-requires c κs =
+    let n = c .before .before .before .before .before .before .before .before .before .before .before .before .before .before .before in
+    let p = n .before .before in
+    count-room (p .before .before .pre) (p .panel-at .ensures) (n .sent-at .ensures) (omega (arith, c .before .before .before .rec2 .given, c .before .before .before .before .before .before .before .before .before .before .rec .given))
 
 same-length-2 : tie.Need-same-length-2
 same-length-2 c = search needs
 
+-- a line
 returns-2 : tie.Need-returns-2
 returns-2 c =
     let b = c .before .before .before .before .before .before .before in
     let e = b .before .before .before .before in
     let t = e .before .before .before in
     let l = t .before .before in
-    let p = l .before .before .before in
+    let n = l .before .before in
+    let p = n .before .before in
     let s = p .before .before in
     let counted = c .before .before .before .count-line .ensures ∙ ap (λ (n : ℕ). min (n + 1) 4294967295) (l .load-four .ensures) in
     record {
       line = line-sent (s .args .k) (s .pre .0) (s .pre .1) (p .panel-at .ensures) (t .take-hand .ensures);
       left = sends (s .args .k) (s .pre .0) (s .pre .1) (p .panel-at .ensures) (t .take-hand .ensures) (e .is-empty .ensures) (b .before .before .before .if1 .left)
-          (b .before .next-line .ensures) (b .store-rect .ensures) counted (c .before .before .store-four .ensures);
+          (b .before .next-line .ensures) (b .store-rect .ensures) (n .sent-at .ensures) counted (c .before .before .store-four .ensures);
     }
 
 pub send-panel-spec : {M : Type 1} → statement M
@@ -85,7 +88,7 @@ send-panel-spec =
     panel-at-requires
     mul-in-hand
     add-in-hand
-    add-load-four
+    sent-at-requires
     load-four-requires
     take-hand-requires
     is-empty-requires
@@ -93,7 +96,6 @@ send-panel-spec =
     returns
     next-line-requires
     store-rect-requires
-    add-store-four
     count-line-requires
     store-four-requires
     same-length-2
