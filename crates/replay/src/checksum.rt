@@ -10,17 +10,18 @@ fn add_byte(sum: u64, byte: u8) -> u64
     (31 * sum + (byte as u64)) % 4294967296
 }
 
-// All but owed, in hand and lines sent of the panel, which the reference has not.
+// All but owed, in hand and lines sent of each panel, which the reference has not: the first panel's part lies between head and keys, the others behind the flags.
 fn add_record(rec: &[u8]) -> u64
     ensures { λ r. ⌜ r < 4294967296 ⌝ }
 {
     let glass = glass_of(rec.len());
     let start = panel_at(glass, 0);
     let end = start + glass.pending;
+    let others = glass.others;
     let mut sum: u64 = 0;
     let mut i = 0;
     while i < rec.len() {
-        if (i < start) | (i >= end) {
+        if (i < start) | ((i >= end) & (i < others)) {
             sum = add_byte(sum, rec[i]);
         }
         i += 1;

@@ -31,7 +31,7 @@ unfoldable pub meaning : Form → ScriptLine
 meaning (Point x y m) = callLine (drawPoint x y m)
 meaning (LineForm x y z w m) = callLine (drawLine x y z w m)
 meaning (Poke a v) = callLine (writeByte a v)
-meaning Send = callLine send
+meaning Send = callLine (send 0)
 meaning Bad = badLine
 
 -- what stands at a place: one line, or none

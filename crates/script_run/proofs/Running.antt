@@ -142,15 +142,15 @@ unfolding meaning
 means-poke f a v e = rw e
 
 module _ (f : Form) (n at : ℕ) (r m p r′ p′ o : List ℕ) (q : Sent) where
-  pub send-room : f ≡ Send → answered (q .code) (sentNumbers q) (lent r′ m p′) ≡ outcome base send (lent r m p)
+  pub send-room : f ≡ Send → answered (q .code) (sentNumbers q) (lent r′ m p′) ≡ outcome base (send 0) (lent r m p)
       → at + length (linePrints n (meaning f) (lent r m p)) ≤ length o → at + length (said (q .code) (sentNumbers q)) ≤ length o
   unfolding meaning
-  send-room e a h = call-room n at (q .code) (sentNumbers q) send (lent r m p) (lent r′ m p′) o (sym a) (rw e at h)
+  send-room e a h = call-room n at (q .code) (sentNumbers q) (send 0) (lent r m p) (lent r′ m p′) o (sym a) (rw e at h)
 
-  pub send-answered : (o′ : List ℕ) (b : ℕ) → f ≡ Send → answered (q .code) (sentNumbers q) (lent r′ m p′) ≡ outcome base send (lent r m p)
+  pub send-answered : (o′ : List ℕ) (b : ℕ) → f ≡ Send → answered (q .code) (sentNumbers q) (lent r′ m p′) ≡ outcome base (send 0) (lent r m p)
       → Wrote at (said (q .code) (sentNumbers q)) o o′ b → Answered n (meaning f) at o (lent r m p) o′ (lent r′ m p′) b
   unfolding meaning
-  send-answered o′ b e a w = rw e (call-answered n at (q .code) (sentNumbers q) send (lent r m p) (lent r′ m p′) o (sym a) o′ b w)
+  send-answered o′ b e a w = rw e (call-answered n at (q .code) (sentNumbers q) (send 0) (lent r m p) (lent r′ m p′) o (sym a) o′ b w)
 
 pub bad-room : (f : Form) (n at : ℕ) (l : Lent) (o : List ℕ) → f ≡ Bad → at + length (linePrints n (meaning f) l) ≤ length o → at + length (printed (bytesOf "bad") (n ∷ [])) ≤ length o
 unfolding meaning linePrints

@@ -66,7 +66,7 @@ sent-le : (p : Pending) → length (sendNumbers p) ≤ 4
 unfolding sendNumbers lineNumbers
 sent-le p = by-test {P = length (sendNumbers p) ≤ 4} (isEmpty (takeOwed p .hand)) (λ e. rw e (omega arith)) (λ e. rw e (omega arith))
 
-send-le : (l : Lent) → length (outcome base send l .numbers) ≤ 4
+send-le : (l : Lent) → length (outcome base (send 0) l .numbers) ≤ 4
 unfolding outcome refused done answered
 send-le l = ruled-le _ _ _ (λ k. omega arith) (sent-le _)
 

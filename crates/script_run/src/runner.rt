@@ -76,7 +76,7 @@ fn answer_line(
             put_code(out, at, code)
         }
         Form::Send => {
-            let s = caption::sends::caption_send(rec, memory, panel);
+            let s = caption::sends::caption_send(rec, memory, panel, 0);
             put_sent(out, at, s)
         }
         Form::Bad => output::put_printed(out, at, b"bad", &[n]),
