@@ -22,7 +22,7 @@ const DAMAGES: [Damage; 42] = [
     (TABLE, "keys0-7", "keys0-6", "caption_open"),
     (TABLE, "record, memory, const text", "record, memory", "caption_print"),
     (DECLARATIONS, "x : u8 , ", "", "caption_draw_point"),
-    (SOURCES, "number : u8", "", "caption_send"),
+    (SOURCES, ", number : u8", "", "caption_send"),
     (HEADER, ", uint8_t number", "", "caption_send"),
     (TABLE, "| record, const memory, panel | number |", "| record, const memory, panel | |", "caption_send"),
     (DECLARATIONS, "number : u8 , ", "", "caption_send"),
