@@ -105,13 +105,16 @@ impl Judge {
         Ok(idle)
     }
 
-    /// A call that is refused: by its number, or as it is lent a panel of another length.
+    /// A call that is refused: for its numbers, or as it is lent a short panel or a broken record.
     fn refuse_between(&mut self, order: &mut Random, tally: &mut Tally) -> Judged<()> {
         let short = Other { panel_len: PANEL - 1, ..Other::same() };
-        let answer = match order.below(8) {
-            0 => self.other_step(&Call::Send { number: order.below(PANELS) as u8 }, &short, tally)?,
-            1 | 2 => self.own_step(&Call::SetRow { row: ROWS as u8 }, tally)?,
-            3 | 4 => self.own_step(&Call::DrawPoint { x: 1, y: 1, mode: 4 }, tally)?,
+        let broken = Other { record_bytes: vec![(ROW, ROWS as u8)], ..Other::same() };
+        let send = Call::Send { number: order.below(PANELS) as u8 };
+        let answer = match order.below(16) {
+            0 => self.other_step(&send, &short, tally)?,
+            1 => self.other_step(&send, &broken, tally)?,
+            2..5 => self.own_step(&Call::SetRow { row: ROWS as u8 }, tally)?,
+            5..8 => self.own_step(&Call::DrawPoint { x: 1, y: 1, mode: 4 }, tally)?,
             _ => self.own_step(&Call::Send { number: 4 + order.below(252) as u8 }, tally)?,
         };
         tally.refused_between += 1;
