@@ -1,4 +1,4 @@
-/// The numbers of document 01's table of refusals.
+/// The numbers of document 01's table of refusals, and of the change requests.
 #[derive(Debug, Clone, Copy, PartialEq, Eq)]
 pub enum Refusal {
     Lent = 1,
@@ -9,6 +9,7 @@ pub enum Refusal {
     Radius = 6,
     Glyph = 7,
     Endless = 8,
+    Panel = 9,
 }
 
 /// What a call answers: its code, then the other numbers of its result, zero where it has none.

@@ -26,7 +26,7 @@ pub enum Call {
     ClearCursor,
     WriteByte { address: u16, byte: u8 },
     TakeDirtyArea,
-    Send,
+    Send { number: u8 },
 }
 
 /// What flush is lent: so many first bytes of each stand-in font, and the extra list.
@@ -136,7 +136,7 @@ impl Call {
             Self::ClearCursor => 20,
             Self::WriteByte { .. } => 21,
             Self::TakeDirtyArea => 22,
-            Self::Send => 23,
+            Self::Send { .. } => 23,
         }
     }
 

@@ -1,6 +1,7 @@
-use crate::layout::{MEMORY, PANEL, RECORD};
+use crate::Call;
+use crate::layout::{MEMORY, PANEL, PANELS, RECORD};
 
-/// What a call is lent. A call that takes the record alone doesn't look at the rest.
+/// What a call is lent. A call doesn't look at what it doesn't take.
 pub struct Lent<'a> {
     pub record: &'a mut [u8],
     pub memory: &'a mut [u8],
@@ -12,22 +13,32 @@ pub struct Lent<'a> {
 pub struct Buffers {
     pub record: Vec<u8>,
     pub memory: Vec<u8>,
-    pub panel: Vec<u8>,
+    pub panels: [Vec<u8>; PANELS],
 }
 
 impl Buffers {
     pub fn zero() -> Self {
-        Self { record: vec![0; RECORD], memory: vec![0; MEMORY], panel: vec![0; PANEL] }
+        let panels = std::array::from_fn(|_| vec![0; PANEL]);
+        Self { record: vec![0; RECORD], memory: vec![0; MEMORY], panels }
     }
 
-    pub fn lend(&mut self) -> Lent<'_> {
-        Lent { record: &mut self.record, memory: &mut self.memory, panel: &mut self.panel }
+    /// A send is lent the panel that it names, and one of them where its number names none; any
+    /// other call is lent no panel.
+    #[inline]
+    pub fn lend(&mut self, call: &Call) -> Lent<'_> {
+        let panel = match call {
+            Call::Send { number } => &mut self.panels[*number as usize % PANELS][..],
+            _ => &mut [],
+        };
+        Lent { record: &mut self.record, memory: &mut self.memory, panel }
     }
 
     /// Become equal to other buffers of the same lengths.
     pub fn follow(&mut self, other: &Buffers) {
         self.record.copy_from_slice(&other.record);
         self.memory.copy_from_slice(&other.memory);
-        self.panel.copy_from_slice(&other.panel);
+        for (panel, same) in self.panels.iter_mut().zip(&other.panels) {
+            panel.copy_from_slice(same);
+        }
     }
 }

@@ -90,5 +90,6 @@ unsafe extern "C" {
     pub fn caption_take_dirty_area(record: Out, record_len: usize) -> Area;
     pub fn caption_send(
         record: Out, record_len: usize, memory: In, memory_len: usize, panel: Out, panel_len: usize,
+        number: u8,
     ) -> Sent;
 }

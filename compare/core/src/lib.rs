@@ -100,7 +100,9 @@ pub fn answer(call: &Call, lent: Lent) -> Option<Answer> {
         #[cfg(has = "take_dirty_area")]
         Call::TakeDirtyArea => area(ffi::caption_take_dirty_area(record, record_len)),
         #[cfg(has = "send")]
-        Call::Send => sent(ffi::caption_send(record, record_len, memory, memory_len, panel, panel_len)),
+        Call::Send { number } => sent(
+            ffi::caption_send(record, record_len, memory, memory_len, panel, panel_len, number),
+        ),
         #[allow(unreachable_patterns)]
         _ => return None,
     } })

@@ -11,7 +11,7 @@ pub struct List {
     pub steps: Vec<Step>,
 }
 
-/// The bytes before the first call. Memory, panel and an unopened record hold bytes made from a
+/// The bytes before the first call. Memory, panels and an unopened record hold bytes made from a
 /// seed, zeros for seed 0.
 #[derive(Debug, Clone, PartialEq, Eq)]
 pub struct Start {
@@ -31,8 +31,8 @@ pub struct Step {
 pub enum Lending {
     /// What the last accepted call left.
     Own,
-    /// The same, after the host has emptied dirty and owed, so that the call's own marks show.
-    /// Only in lists that start from a record.
+    /// The same, after the host has emptied dirty and what every panel is owed, so that the call's own
+    /// marks show. Only in lists that start from a record.
     Unmarked,
     /// A copy of that, with other lengths and some other record bytes. What is done to it is not
     /// part of the list.
@@ -45,6 +45,7 @@ pub struct Other {
     pub record_bytes: Vec<(usize, u8)>,
     pub record_len: usize,
     pub memory_len: usize,
+    /// Of every panel.
     pub panel_len: usize,
 }
 
@@ -62,7 +63,8 @@ impl Start {
 
     pub fn fill(&self, buffers: &mut Buffers) {
         let mut random = Random::new(self.seed);
-        for bytes in [&mut buffers.memory, &mut buffers.panel, &mut buffers.record] {
+        let Buffers { record, memory, panels } = buffers;
+        for bytes in panels.iter_mut().chain([memory, record]) {
             if self.seed == 0 {
                 bytes.fill(0);
             } else {
@@ -85,7 +87,9 @@ impl Other {
     pub fn copy(&self, own: &Buffers, copy: &mut Buffers) {
         resized(&own.record, &mut copy.record, self.record_len);
         resized(&own.memory, &mut copy.memory, self.memory_len);
-        resized(&own.panel, &mut copy.panel, self.panel_len);
+        for (panel, copy) in own.panels.iter().zip(&mut copy.panels) {
+            resized(panel, copy, self.panel_len);
+        }
         for (place, byte) in &self.record_bytes {
             if let Some(target) = copy.record.get_mut(*place) {
                 *target = *byte;
@@ -125,7 +129,7 @@ impl fmt::Display for List {
             write!(f, "  {place}: {:?}", step.call)?;
             match &step.lending {
                 Lending::Own => writeln!(f)?,
-                Lending::Unmarked => writeln!(f, ", dirty and owed emptied before")?,
+                Lending::Unmarked => writeln!(f, ", dirty and what every panel is owed emptied before")?,
                 Lending::Other(other) => writeln!(f, "\n     lent a copy: {other:?}")?,
             }
         }

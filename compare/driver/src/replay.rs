@@ -6,7 +6,7 @@
 
 use crate::judge::panics;
 use crate::random::{Random, Windows};
-use calls::layout::{ADDED, RECORD};
+use calls::layout::IN_REFERENCE;
 use calls::{Buffers, Call, FontsLent};
 use reference::{Reference, Told};
 use std::fmt::Write;
@@ -42,13 +42,13 @@ impl Replay {
         let windows = random.windows();
         let mut state = Buffers::zero();
         let open = open(random, windows);
-        model::answer(&open, state.lend());
+        model::answer(&open, state.lend(&open));
         self.add(&open, reference);
         for _ in 0..CALLS_IN_LIST {
             let number = random.pick(&numbers);
             let call = fit(random.call(number, windows));
             let done_alike = !panics::due(&call) && reference.can_follow(&call);
-            if done_alike && model::answer(&call, state.lend()).accepted() {
+            if done_alike && model::answer(&call, state.lend(&call)).accepted() {
                 self.add(&call, reference);
             }
         }
@@ -145,6 +145,6 @@ fn stored(call: &Call) -> [u8; STORED] {
 /// has fields for and then all of memory.
 fn checksum(reference: &Reference) -> u32 {
     let record = reference.record();
-    let bytes = record[..ADDED.start].iter().chain(&record[ADDED.end..RECORD]).chain(reference.memory());
+    let bytes = IN_REFERENCE.into_iter().flat_map(|part| &record[part]).chain(reference.memory());
     bytes.fold(0, |sum: u32, byte| sum.wrapping_mul(31).wrapping_add(*byte as u32))
 }

@@ -60,7 +60,7 @@ impl Run {
 
     fn show(&self, list: &List) {
         eprintln!("looking for the shortest list that shows it ..");
-        match shrink(list, self.core) {
+        match shrink(list, &mut Judge::new(self.core, true)) {
             Some((list, difference)) => {
                 print!("shortest list that shows it, {difference}\n{list}");
             }

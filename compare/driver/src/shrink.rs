@@ -1,7 +1,6 @@
 //! The shortest list that shows a difference: calls are left out and numbers made smaller as
 //! long as a difference stays.
 
-use crate::core_side::Answering;
 use crate::judge::{Difference, Judge};
 use crate::list::{Lending, List, Start};
 use crate::tally::Tally;
@@ -10,9 +9,8 @@ use calls::{Call, FontsLent};
 use std::ops::Range;
 
 /// A list that differs, no longer than the given one, and its difference. `None` if it doesn't
-/// differ.
-pub fn shrink(list: &List, core: Option<Answering>) -> Option<(List, Difference)> {
-    let mut judge = Judge::new(core, true);
+/// differ. The judge is one that compares memory whole after every call.
+pub fn shrink(list: &List, judge: &mut Judge) -> Option<(List, Difference)> {
     let mut differs = |list: &List| judge.judge(list, &mut Tally::default()).err();
     let mut difference = differs(list)?;
     let mut list = list.clone();
@@ -75,16 +73,23 @@ fn simpler_starts(start: &Start) -> Vec<Start> {
     if let Some(record) = &start.record {
         let mut plain = [0; RECORD];
         plain[GRAPHICS_BASE..ROW].copy_from_slice(&[0, 16, 0, 32]);
-        let ends = [0, ROW, COLUMN, SCREEN_MODE, PRINT_MODE, CURSOR, VERSION, DIRTY];
-        let ends = [&ends[..], &[OWED, IN_HAND, LINES_SENT, KEYS, FLAGS, RECORD]].concat();
-        for field in ends.windows(2) {
+        for field in record_fields() {
             let mut simpler = record.clone();
-            simpler[field[0]..field[1]].copy_from_slice(&plain[field[0]..field[1]]);
+            simpler[field.clone()].copy_from_slice(&plain[field]);
             starts.push(Start { record: Some(simpler), ..*start });
         }
     }
     starts.retain(|simpler| simpler != start);
     starts
+}
+
+/// The fields of the record; the two bases are one.
+fn record_fields() -> Vec<Range<usize>> {
+    let mut starts =
+        vec![0, ROW, COLUMN, SCREEN_MODE, PRINT_MODE, CURSOR, VERSION, DIRTY, KEYS, FLAGS, RECORD];
+    starts.extend((0..PANELS).flat_map(|panel| [owed(panel), in_hand(panel), lines_sent(panel)]));
+    starts.sort();
+    starts.windows(2).map(|two| two[0]..two[1]).collect()
 }
 
 /// The first call of an unopened list stays an accepted open: without keys, or `panelrun`'s.
@@ -177,5 +182,6 @@ fn smaller_calls(call: &Call) -> Vec<Call> {
         SetScreenMode { mode }
         SetPrintMode { mode }
         WriteByte { address, byte }
+        Send { number }
     )
 }

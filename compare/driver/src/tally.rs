@@ -1,6 +1,7 @@
 //! What was done: for each call how often it was accepted and refused, and with which number.
 
 use crate::core_side;
+use calls::layout::PANELS;
 use calls::{Answer, Call};
 
 #[derive(Debug, Clone, Copy, Default)]
@@ -17,10 +18,14 @@ struct Row {
 #[derive(Debug, Default)]
 pub struct Tally {
     rows: [Row; Call::NAMES.len()],
-    refusals: [u64; 9],
+    refusals: [u64; REFUSALS.len()],
+    /// Accepted sends by panel: those of the lists, and those made after them, to see that each panel
+    /// comes level.
+    sends: [u64; PANELS],
+    pub level_sends: [u64; PANELS],
+    /// Refused calls between those. What is made after the lists is not counted among the calls.
+    pub refused_between: u64,
     pub lists: u64,
-    /// Sends made after the lists, to see that the panel comes level. Not counted among the calls.
-    pub level_sends: u64,
 }
 
 /// What the columns of the table mean.
@@ -29,20 +34,25 @@ accepted      calls that document 01 accepts, as the model reads it
 refused       calls that it refuses: nothing is done, every lent byte stays
 by reference  accepted calls that the reference did too, for comparison; it has no send
 panicked      of these, the reference panicked, where document 01 says that it does
-by core       accepted and refused calls that the core did too; for send also those that
-              bring the panels level after the lists; - without the core
+by core       accepted and refused calls that the core did too, with those that are made
+              after the lists to bring the panels level; - without the core
 ";
 
-const REFUSALS: [&str; 9] = ["", "LENT", "STATE", "WINDOW", "VALUE", "SOURCE", "RADIUS", "GLYPH", "ENDLESS"];
+/// By their numbers.
+const REFUSALS: [&str; 10] =
+    ["", "LENT", "STATE", "WINDOW", "VALUE", "SOURCE", "RADIUS", "GLYPH", "ENDLESS", "PANEL"];
 
 impl Tally {
     pub fn answered(&mut self, call: &Call, answer: &Answer) {
         let row = &mut self.rows[call.number()];
-        if answer.accepted() {
-            row.accepted += 1;
-        } else {
+        if !answer.accepted() {
             row.refused += 1;
             self.refusals[answer.code as usize] += 1;
+            return;
+        }
+        row.accepted += 1;
+        if let Call::Send { number } = *call {
+            self.sends[number as usize] += 1;
         }
     }
 
@@ -82,15 +92,23 @@ impl Tally {
                 by_core
             );
         }
-        let refusals: Vec<String> =
-            (1..9).map(|code| format!("{} {}", REFUSALS[code], self.refusals[code])).collect();
+        let refusals: Vec<String> = (1..REFUSALS.len())
+            .map(|code| format!("{code} {} {}", REFUSALS[code], self.refusals[code]))
+            .collect();
         println!("refusals: {}", refusals.join(", "));
+        println!("sends: {}", by_panel(&self.sends));
+        println!("sends after the lists, until all are idle: {}", by_panel(&self.level_sends));
         println!(
-            "{} lists; {} of {} calls accepted; {} further sends to bring the panels level",
+            "{} lists; {} of {} calls accepted; {} refused calls between the sends after the lists",
             self.lists,
             self.accepted(),
             self.calls(),
-            self.level_sends
+            self.refused_between
         );
     }
+}
+
+fn by_panel(counts: &[u64; PANELS]) -> String {
+    let counts = counts.iter().enumerate().map(|(panel, count)| format!("panel {panel} {count}"));
+    counts.collect::<Vec<_>>().join(", ")
 }

@@ -21,7 +21,7 @@ impl Both {
     }
 
     fn call(&mut self, call: &Call) -> (Told, Answer) {
-        (self.reference.call(call), model::answer(call, self.model.lend()))
+        (self.reference.call(call), model::answer(call, self.model.lend(call)))
     }
 
     /// The reference panics, the model finishes with the same pixels and this dirty area.
@@ -63,9 +63,14 @@ fn the_port_refuses() {
         (Call::Flush { fonts: no_fonts }, 7),
     ] {
         let mut both = Both::opened();
-        model::answer(&Call::Print { text: b"a".to_vec() }, both.model.lend());
+        let print = Call::Print { text: b"a".to_vec() };
+        model::answer(&print, both.model.lend(&print));
         let before = both.model.clone();
-        assert_eq!(model::answer(&call, both.model.lend()), Answer { code, numbers: [0; 4] }, "{call:?}");
+        assert_eq!(
+            model::answer(&call, both.model.lend(&call)),
+            Answer { code, numbers: [0; 4] },
+            "{call:?}"
+        );
         assert_eq!(both.model, before);
     }
 }

@@ -1,7 +1,7 @@
 //! The stored list holds all that is needed to replay it: the model reads it back and comes to
 //! the reference's answers and checksums.
 
-use calls::layout::{ADDED, RECORD};
+use calls::layout::IN_REFERENCE;
 use calls::{Buffers, Call, FontsLent};
 use driver::replay;
 
@@ -57,7 +57,8 @@ fn call_of(stored: &[u8]) -> Call {
 
 fn checksum(state: &Buffers) -> u32 {
     let record = &state.record;
-    let parts = [&record[..ADDED.start], &record[ADDED.end..RECORD], &state.memory];
+    let [first, second] = IN_REFERENCE;
+    let parts = [&record[first], &record[second], &state.memory];
     parts.concat().iter().fold(0, |sum: u32, byte| sum.wrapping_mul(31).wrapping_add(*byte as u32))
 }
 
@@ -69,7 +70,7 @@ fn the_model_replays_the_stored_list() {
     assert_eq!(replay.stdin.len(), 16 * lines.len());
     for (stored, line) in replay.stdin.chunks(16).zip(lines) {
         let call = call_of(stored);
-        let answer = model::answer(&call, state.lend());
+        let answer = model::answer(&call, state.lend(&call));
         let [a, b, c, d] = answer.numbers;
         let said = format!("{} {a} {b} {c} {d} {}", answer.code, checksum(&state));
         assert_eq!(said, line, "{call:?}");

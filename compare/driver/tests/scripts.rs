@@ -92,3 +92,17 @@ fn idle_too_early() {
     };
     assert_found(early, "(send)\n".repeat(80).trim_end());
 }
+
+/// A program that sends to panel 0 and counts the pixels and lines of one that is sent nothing.
+#[test]
+fn another_panel_counted() {
+    let other = |trial: &Trial| {
+        let printed = String::from_utf8(run_script(&trial.script)).expect("it is ASCII");
+        let Some((lines, _)) = printed.rsplit_once("(end ") else { return Ok(printed.into_bytes()) };
+        let drawing = trial.script.split(|byte| *byte == b'\n').filter(|line| *line != b"(send)");
+        let unsent = run_script(&drawing.collect::<Vec<_>>().join(&b'\n'));
+        let end = String::from_utf8(unsent).expect("it is ASCII").lines().last().map(String::from);
+        Ok(format!("{lines}{}\n", end.expect("a last line")).into_bytes())
+    };
+    assert_found(other, "(send)");
+}

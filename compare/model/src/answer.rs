@@ -44,7 +44,7 @@ fn lengths_right(call: &Call, lent: &Lent) -> bool {
         | Call::SetColumn { .. }
         | Call::SetPrintMode { .. }
         | Call::TakeDirtyArea => record,
-        Call::Send => record && memory && lent.panel.len() == PANEL,
+        Call::Send { .. } => record && memory && lent.panel.len() == PANEL,
         Call::Flush { fonts } => record && memory && fonts.extra_list.len() % 6 == 0,
         _ => record && memory,
     }
@@ -61,13 +61,14 @@ fn open(lent: Lent, graphics_base: usize, text_base: usize, version: u8, keys: [
     Ok(NOTHING)
 }
 
-/// Reset keeps bases, version, keys, the rectangle in hand and lines sent.
+/// Reset keeps bases, version, keys, and of each panel the rectangle in hand and lines sent.
 fn reset(record: &mut Record, memory: &mut [u8]) {
-    *record = Record {
-        in_hand: record.in_hand,
-        lines_sent: record.lines_sent,
-        ..Record::fresh(record.graphics_base, record.text_base, record.version, record.keys)
-    };
+    let mut fresh = Record::fresh(record.graphics_base, record.text_base, record.version, record.keys);
+    for (pending, before) in fresh.panels.iter_mut().zip(&record.panels) {
+        pending.in_hand = before.in_hand;
+        pending.lines_sent = before.lines_sent;
+    }
+    *record = fresh;
     clear_memory(record, memory);
 }
 
@@ -118,7 +119,7 @@ fn act(call: &Call, record: &mut Record, memory: &mut [u8], panel: &mut [u8]) ->
         Call::ClearCursor => record.clear_cursor(memory),
         Call::WriteByte { address, byte } => write_byte(record, memory, address as usize, byte),
         Call::TakeDirtyArea => return Ok(take_dirty_area(record)),
-        Call::Send => return Ok(record.send(memory, panel)),
+        Call::Send { number } => return record.send(memory, panel, number),
     }
     Ok(NOTHING)
 }

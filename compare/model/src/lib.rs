@@ -1,6 +1,6 @@
-//! An independent reading of document 01: what every call answers and leaves, on any lent bytes.
-//! Written from document 01 and its readings, pixel by pixel and step by step, to be compared
-//! with the reference where that has the call, and with the core on everything.
+//! An independent reading of document 01 and of the change requests: what every call answers and
+//! leaves, on any lent bytes. Written from these and their readings, pixel by pixel and step by step,
+//! to be compared with the reference where that has the call, and with the core on everything.
 
 mod answer;
 mod bitmap;
@@ -12,6 +12,7 @@ mod flush;
 mod glyph;
 mod lines;
 mod modes;
+mod pending;
 mod record;
 mod rect;
 mod script;

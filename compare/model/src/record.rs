@@ -2,6 +2,7 @@
 
 use crate::canvas::{Canvas, Mark};
 use crate::modes::{self, Cursor, PrintMode, ScreenMode, Version};
+use crate::pending::Pending;
 use crate::rect::{Rect, WHOLE_SCREEN, join};
 use calls::layout::*;
 
@@ -16,9 +17,7 @@ pub struct Record {
     pub cursor: Cursor,
     pub version: Version,
     pub dirty: Option<Rect>,
-    pub owed: Option<Rect>,
-    pub in_hand: Option<Rect>,
-    pub lines_sent: u32,
+    pub panels: [Pending; PANELS],
     pub keys: [u32; 8],
     pub flags: [bool; CELLS],
 }
@@ -34,7 +33,7 @@ pub fn windows_fit(graphics_base: usize, text_base: usize) -> bool {
 }
 
 impl Record {
-    /// What `open` and `reset` share: everything as at the start, the whole screen owed.
+    /// What `open` and `reset` share: everything as at the start, the whole screen owed to every panel.
     pub fn fresh(graphics_base: usize, text_base: usize, version: Version, keys: [u32; 8]) -> Self {
         Self {
             graphics_base,
@@ -46,15 +45,13 @@ impl Record {
             cursor: Cursor::None,
             version,
             dirty: None,
-            owed: Some(WHOLE_SCREEN),
-            in_hand: None,
-            lines_sent: 0,
+            panels: [Pending { owed: Some(WHOLE_SCREEN), in_hand: None, lines_sent: 0 }; PANELS],
             keys,
             flags: [false; CELLS],
         }
     }
 
-    /// The record of 170 bytes, if STATE lets it pass.
+    /// The record of 230 bytes, if STATE lets it pass.
     pub fn read(bytes: &[u8]) -> Option<Self> {
         let graphics_base = word(bytes, GRAPHICS_BASE) as usize;
         let text_base = word(bytes, TEXT_BASE) as usize;
@@ -73,11 +70,9 @@ impl Record {
             cursor: modes::cursor(bytes[CURSOR])?,
             version: modes::version(bytes[VERSION])?,
             dirty: read_rect(bytes, DIRTY, DIRTY_LIMIT, DIRTY_LIMIT)?,
-            owed: read_rect(bytes, OWED, WIDTH, HEIGHT)?,
-            in_hand: read_rect(bytes, IN_HAND, WIDTH, HEIGHT)?,
-            lines_sent: read_u32(bytes, LINES_SENT),
-            keys: std::array::from_fn(|k| read_u32(bytes, KEYS + 4 * k)),
-            flags: read_flags(&bytes[FLAGS..])?,
+            panels: Pending::read_all(bytes)?,
+            keys: std::array::from_fn(|k| double_word(bytes, KEYS + 4 * k)),
+            flags: read_flags(&bytes[FLAGS..FLAGS_END])?,
         })
     }
 
@@ -91,9 +86,9 @@ impl Record {
         bytes[CURSOR] = self.cursor as u8;
         bytes[VERSION] = self.version as u8;
         write_rect(bytes, DIRTY, self.dirty);
-        write_rect(bytes, OWED, self.owed);
-        write_rect(bytes, IN_HAND, self.in_hand);
-        write_u32(bytes, LINES_SENT, self.lines_sent);
+        for (panel, pending) in self.panels.iter().enumerate() {
+            pending.write(bytes, panel);
+        }
         for (k, key) in self.keys.iter().enumerate() {
             write_u32(bytes, KEYS + 4 * k, *key);
         }
@@ -121,7 +116,14 @@ impl Record {
         let mark = drawing(&mut canvas);
         let owes = canvas.owes(mark);
         self.dirty = join(self.dirty, mark.map(|mark| mark.rect));
-        self.owed = join(self.owed, owes);
+        self.owe(owes);
+    }
+
+    /// Every mark goes to all panels.
+    fn owe(&mut self, rect: Option<Rect>) {
+        for pending in &mut self.panels {
+            pending.owed = join(pending.owed, rect);
+        }
     }
 
     pub fn mark_whole_screen(&mut self) {
@@ -130,12 +132,12 @@ impl Record {
     }
 
     pub fn owe_whole_screen(&mut self) {
-        self.owed = Some(WHOLE_SCREEN);
+        self.owe(Some(WHOLE_SCREEN));
     }
 }
 
 /// The outer `None`: the bytes are no rectangle within these limits.
-fn read_rect(bytes: &[u8], place: usize, width: usize, height: usize) -> Option<Option<Rect>> {
+pub fn read_rect(bytes: &[u8], place: usize, width: usize, height: usize) -> Option<Option<Rect>> {
     let [left, top, right, bottom] = four(bytes, place).map(|side| side as usize);
     if [left, top, right, bottom] == [0; 4] {
         Some(None)
@@ -154,19 +156,15 @@ fn read_flags(bytes: &[u8]) -> Option<[bool; CELLS]> {
     Some(flags)
 }
 
-fn read_u32(bytes: &[u8], place: usize) -> u32 {
-    u32::from_le_bytes([bytes[place], bytes[place + 1], bytes[place + 2], bytes[place + 3]])
-}
-
 fn write_word(bytes: &mut [u8], place: usize, value: usize) {
     bytes[place..place + 2].copy_from_slice(&(value as u16).to_le_bytes());
 }
 
-fn write_u32(bytes: &mut [u8], place: usize, value: u32) {
+pub fn write_u32(bytes: &mut [u8], place: usize, value: u32) {
     bytes[place..place + 4].copy_from_slice(&value.to_le_bytes());
 }
 
-fn write_rect(bytes: &mut [u8], place: usize, rect: Option<Rect>) {
+pub fn write_rect(bytes: &mut [u8], place: usize, rect: Option<Rect>) {
     let sides = rect.map_or([0; 4], |r| [r.left, r.top, r.right, r.bottom]);
     for (k, side) in sides.into_iter().enumerate() {
         write_word(bytes, place + 2 * k, side);

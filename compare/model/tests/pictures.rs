@@ -7,27 +7,35 @@ struct Screen(Buffers);
 
 const GRAPHICS: usize = 4096;
 
+/// What the script program sends.
+const SEND: Call = Call::Send { number: 0 };
+
 impl Screen {
     fn new() -> Self {
         let mut screen = Self(Buffers::zero());
         screen.call(Call::Open { graphics_base: 4096, text_base: 8192, version: 1, keys: [0; 8] });
         for _ in 0..80 {
-            screen.call(Call::Send);
+            for number in 0..PANELS as u8 {
+                screen.call(Call::Send { number });
+            }
         }
         assert_eq!(screen.owed(), [0; 4]);
         screen
     }
 
     fn call(&mut self, call: Call) -> Answer {
-        model::answer(&call, self.0.lend())
+        model::answer(&call, self.0.lend(&call))
     }
 
     fn dirty(&self) -> [u16; 4] {
         four(&self.0.record, DIRTY)
     }
 
+    /// What every panel is owed.
     fn owed(&self) -> [u16; 4] {
-        four(&self.0.record, OWED)
+        let owed = [0, 1, 2, 3].map(|panel| four(&self.0.record, owed(panel)));
+        assert_eq!(owed, [owed[0]; PANELS]);
+        owed[0]
     }
 
     /// All pixels that are set.
@@ -123,13 +131,13 @@ fn scripts() {
     let mut screen = Screen(Buffers::zero());
     screen.call(open.clone());
     screen.call(point.clone());
-    assert_eq!(screen.call(Call::Send), sent);
-    assert_eq!(screen.0.panel[0], 0x10);
+    assert_eq!(screen.call(SEND), sent);
+    assert_eq!(screen.0.panels[0][0], 0x10);
 
     let mut screen = Screen(Buffers::zero());
     screen.call(open);
-    assert_eq!(screen.call(Call::Send), sent);
+    assert_eq!(screen.call(SEND), sent);
     screen.call(point);
-    assert_eq!(screen.0.panel[0], 0);
-    assert_eq!(screen.owed(), [3, 0, 4, 1]);
+    assert_eq!(screen.0.panels[0][0], 0);
+    assert_eq!(four(&screen.0.record, owed(0)), [3, 0, 4, 1]);
 }

@@ -3,8 +3,8 @@
 
 use super::*;
 use crate::machine::EmojiVersion;
-use calls::layout::{self, COLUMN, CURSOR, DIRTY, FLAGS, GRAPHICS_BASE, KEYS, PRINT_MODE};
-use calls::layout::{RECORD, ROW, SCREEN_MODE, TEXT_BASE, VERSION};
+use calls::layout::{self, COLUMN, CURSOR, DIRTY, FLAGS, FLAGS_END, GRAPHICS_BASE, KEYS};
+use calls::layout::{PRINT_MODE, RECORD, ROW, SCREEN_MODE, TEXT_BASE, VERSION};
 
 impl DefaultDevice {
     /// `new` with these bases, this version and these key addresses.
@@ -59,7 +59,7 @@ impl DefaultDevice {
         self.column = column;
     }
 
-    /// The fields as a record; owed, in hand and lines sent, which the reference lacks, are zero.
+    /// The fields as a record; the panels' parts, which the reference lacks, are zero.
     pub(crate) fn record(&self) -> [u8; RECORD] {
         let mut record = [0; RECORD];
         put_word(&mut record, GRAPHICS_BASE, self.props.graphics_base_addr);
@@ -86,7 +86,7 @@ impl DefaultDevice {
         for (k, word) in self.key_mapping_addr_set.iter().enumerate() {
             record[KEYS + 4 * k..KEYS + 4 * k + 4].copy_from_slice(&word.to_le_bytes());
         }
-        for (byte, flag) in record[FLAGS..].iter_mut().zip(&self.inverse_text) {
+        for (byte, flag) in record[FLAGS..FLAGS_END].iter_mut().zip(&self.inverse_text) {
             *byte = *flag as u8;
         }
         record
@@ -112,7 +112,7 @@ impl DefaultDevice {
             *word = u32::from_le_bytes([four[0], four[1], four[2], four[3]]);
         }
         self.props.key_mapping_addrs = key_addresses(&self.key_mapping_addr_set);
-        for (flag, byte) in self.inverse_text.iter_mut().zip(&record[FLAGS..]) {
+        for (flag, byte) in self.inverse_text.iter_mut().zip(&record[FLAGS..FLAGS_END]) {
             *flag = *byte == 1;
         }
     }

@@ -32,7 +32,7 @@ impl Reference {
         self.device.memory()
     }
 
-    /// The fields as a record; owed, in hand and lines sent are zero.
+    /// The fields as a record; the panels' parts are zero.
     pub fn record(&self) -> [u8; RECORD] {
         self.device.record()
     }
@@ -108,7 +108,7 @@ impl Reference {
                 let area = device.take_dirty_area();
                 return area.map_or([0; 4], |r| [r.left, r.top, r.right, r.bottom].map(|side| side as u32));
             }
-            Call::Send => unreachable!("the reference has no send"),
+            Call::Send { .. } => unreachable!("the reference has no send"),
         }
         [0; 4]
     }

@@ -1,7 +1,7 @@
 //! The sides of a row: who does its work, again and again.
 
 use calls::Buffers;
-use calls::layout::PANEL;
+use calls::layout::PANELS;
 use reference::Reference;
 use std::hint::black_box;
 
@@ -12,7 +12,7 @@ pub trait Side {
     #[cfg(test)]
     fn memory(&self) -> &[u8];
     #[cfg(test)]
-    fn panel(&self) -> &[u8];
+    fn panels(&self) -> &[Vec<u8>; PANELS];
 }
 
 /// The core or a plain Rust function, on a host's bytes.
@@ -34,15 +34,15 @@ impl<Work: FnMut(&mut Buffers)> Side for OnBytes<Work> {
     }
 
     #[cfg(test)]
-    fn panel(&self) -> &[u8] {
-        &self.buffers.panel
+    fn panels(&self) -> &[Vec<u8>; PANELS] {
+        &self.buffers.panels
     }
 }
 
-/// The reference, with a panel for what it hasn't got.
+/// The reference, with panels for what it hasn't got; its work is handed the first of them.
 pub struct OnReference<Work> {
     reference: Reference,
-    panel: Vec<u8>,
+    panels: [Vec<u8>; PANELS],
     work: Work,
 }
 
@@ -51,14 +51,14 @@ impl<Work> OnReference<Work> {
     pub fn new(start: &Buffers, work: Work) -> Self {
         let mut reference = Reference::default();
         reference.load(&start.record, &start.memory);
-        Self { reference, panel: vec![0; PANEL], work }
+        Self { reference, panels: Buffers::zero().panels, work }
     }
 }
 
 impl<Work: FnMut(&mut Reference, &mut [u8])> Side for OnReference<Work> {
     fn run(&mut self, turns: u64) {
         for _ in 0..turns {
-            (self.work)(black_box(&mut self.reference), &mut self.panel);
+            (self.work)(black_box(&mut self.reference), &mut self.panels[0]);
         }
     }
 
@@ -68,7 +68,7 @@ impl<Work: FnMut(&mut Reference, &mut [u8])> Side for OnReference<Work> {
     }
 
     #[cfg(test)]
-    fn panel(&self) -> &[u8] {
-        &self.panel
+    fn panels(&self) -> &[Vec<u8>; PANELS] {
+        &self.panels
     }
 }

@@ -2,6 +2,7 @@
 
 use crate::plain;
 use crate::rows::rows;
+use calls::layout::PANELS;
 use calls::{Answer, Buffers, Call, Lent};
 use driver::random::Random;
 
@@ -17,7 +18,7 @@ fn both_sides_leave_the_same() {
             row.rust.run(turns);
             core.run(turns);
             assert!(row.rust.memory() == core.memory(), "{}: memory", row.name);
-            assert!(row.rust.panel() == core.panel(), "{}: panel", row.name);
+            assert!(row.rust.panels() == core.panels(), "{}: panels", row.name);
         }
     }
 }
@@ -26,7 +27,7 @@ fn both_sides_leave_the_same() {
 fn any_bytes(random: &mut Random) -> Buffers {
     let mut buffers = Buffers::zero();
     random.fill(&mut buffers.memory);
-    random.fill(&mut buffers.panel);
+    buffers.panels.iter_mut().for_each(|panel| random.fill(panel));
     buffers.record = random.valid_record();
     if random.one_in(4) {
         let place = random.below(buffers.record.len());
@@ -43,13 +44,16 @@ fn plain_functions_do_what_the_model_does() {
         let row = random.below(8) as u8;
         let (mut plain, mut model) = (before.clone(), before.clone());
         let code = plain::set_row(&mut plain.record, row);
-        assert_eq!(code, model::answer(&Call::SetRow { row }, model.lend()).code);
+        let set_row = Call::SetRow { row };
+        assert_eq!(code, model::answer(&set_row, model.lend(&set_row)).code);
         assert!(plain == model, "set_row {row} on {before:?}");
-        for _ in 0..3 {
-            let numbers = plain::send(&mut plain.record, &plain.memory, &mut plain.panel);
-            let answer = model::answer(&Call::Send, model.lend());
+        for number in [0, 1, 2, 3, random.panel_number(&[1; PANELS])] {
+            let send = Call::Send { number };
+            let lent = plain.lend(&send);
+            let numbers = plain::send(lent.record, lent.memory, lent.panel, number);
+            let answer = model::answer(&send, model.lend(&send));
             assert_eq!((numbers[0], &numbers[1..]), (answer.code, &answer.numbers[..]));
-            assert!(plain == model, "send on {:?}", before.record);
+            assert!(plain == model, "send to {number} on {:?}", before.record);
         }
     }
 }

@@ -103,7 +103,10 @@ fn bitmap_sources() -> impl Iterator<Item = Call> {
     })
 }
 
-/// Lists from an open, with sends between drawings over the edges.
+/// Which panel polls, in turn: each at another pace.
+const POLLS: [u8; 8] = [0, 1, 0, 2, 0, 1, 0, 3];
+
+/// Lists from an open, with sends to all panels between drawings over the edges.
 fn with_sends() -> impl Iterator<Item = List> {
     let open = Call::Open { graphics_base: 4096, text_base: 8192, version: 1, keys: [0; 8] };
     let corners = pairs(&EDGES, &EDGES);
@@ -111,7 +114,8 @@ fn with_sends() -> impl Iterator<Item = List> {
         pairs(&[0, 5, 127], &MODES).into_iter().flat_map(move |(r, mode)| {
             let line = Call::DrawLine { x1: x, y1: y, x2: y, y2: x, mode };
             let circle = Call::DrawCircle { x, y, r, fill: mode % 2, mode };
-            let sends = std::iter::repeat_n(Call::Send, (x ^ y) as usize % 90);
+            let polls = POLLS.into_iter().cycle().map(move |panel| (panel + mode) % 4);
+            let sends = polls.map(|number| Call::Send { number }).take((x ^ y) as usize % 90);
             [line, circle].into_iter().chain(sends)
         })
     });

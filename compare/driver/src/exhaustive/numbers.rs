@@ -11,7 +11,7 @@ pub fn lists() -> impl Iterator<Item = List> {
     from_record(record(1, 0, 0), told).chain(from_record(record(1, 0, 0), checked)).chain(pokes())
 }
 
-/// Every mode, version, flag, row and column, listed or not.
+/// Every mode, version, flag, row, column and panel's number, listed or not.
 fn told() -> impl Iterator<Item = Call> {
     bytes().flat_map(|number| {
         let mut calls = vec![
@@ -34,6 +34,7 @@ fn told() -> impl Iterator<Item = Call> {
             Call::PaintBitmap { address: 4096, x: 1, y: 1, width: 0, height: 3, mode: number },
             Call::PaintBitmap { address: 4096, x: 1, y: 1, width: 9, height: 3, mode: number },
             Call::PaintBitmap { address: 65_535, x: 1, y: 1, width: 9, height: 3, mode: number },
+            Call::Send { number },
             Call::Open { graphics_base: 0, text_base: 1600, version: number, keys: [7; 8] },
             Call::Open { graphics_base: 0, text_base: 1599, version: number, keys: [7; 8] },
         ];

@@ -6,16 +6,25 @@ use calls::layout::*;
 use calls::{Call, FontsLent};
 
 pub fn lists() -> impl Iterator<Item = List> {
-    let mut valid = record(1, 0, 0);
-    // A rectangle in each place, so that one changed byte can break it.
-    for (place, rect) in [(DIRTY, [1, 2, 200, 100]), (OWED, [3, 4, 150, 70]), (IN_HAND, [5, 6, 155, 75])] {
-        put_rect(&mut valid, place, rect);
-    }
+    let valid = full_record();
     from_record(valid.clone(), changed_bytes())
         .chain(from_record(valid.clone(), lengths()))
         .chain(from_record(valid.clone(), rects()))
         .chain(from_record(valid.clone(), bases()))
         .chain(from_record(valid, hands()))
+}
+
+/// A rectangle in each place, another one in each, so that one changed byte can break it.
+fn full_record() -> Vec<u8> {
+    let mut valid = record(1, 0, 0);
+    put_rect(&mut valid, DIRTY, [1, 2, 200, 100]);
+    for panel in 0..PANELS {
+        let by = panel as u16;
+        put_rect(&mut valid, owed(panel), [3 + by, 4 + by, 150 + by, 70 + by]);
+        put_rect(&mut valid, in_hand(panel), [5 + by, 6 + by, 155 - by, 75 - by]);
+        valid[lines_sent(panel)] = 9 + panel as u8;
+    }
+    valid
 }
 
 fn put_rect(record: &mut [u8], place: usize, rect: [u16; 4]) {
@@ -29,9 +38,9 @@ fn rect_bytes(place: usize, rect: [u16; 4]) -> Vec<(usize, u8)> {
     bytes.enumerate().map(|(k, byte)| (place + k, byte)).collect()
 }
 
-/// One accepted call of each kind.
+/// One accepted call of each kind, a send to each panel.
 fn each_call() -> Vec<Call> {
-    vec![
+    let mut calls = vec![
         Call::Open { graphics_base: 4096, text_base: 8192, version: 1, keys: [0; 8] },
         Call::Reset,
         Call::DrawPoint { x: 1, y: 1, mode: 1 },
@@ -55,8 +64,13 @@ fn each_call() -> Vec<Call> {
         Call::ClearCursor,
         Call::WriteByte { address: 4100, byte: 9 },
         Call::TakeDirtyArea,
-        Call::Send,
-    ]
+    ];
+    calls.extend(sends());
+    calls
+}
+
+fn sends() -> [Call; PANELS] {
+    [0, 1, 2, 3].map(|number| Call::Send { number })
 }
 
 fn lent(call: &Call, other: Other) -> Step {
@@ -79,27 +93,36 @@ fn changed_bytes() -> impl Iterator<Item = Step> {
     })
 }
 
-/// Wrong and right lengths for every call.
+/// Wrong and right lengths for every call, those of panels for sends, also for such as name none.
 fn lengths() -> impl Iterator<Item = Step> {
     let around = |right: usize| [0, 1, right - 1, right, right + 1, 2 * right];
-    each_call().into_iter().flat_map(move |call| {
+    let lents = each_call().into_iter().flat_map(move |call| {
         let records = (0..=2 * RECORD).map(|record_len| Other { record_len, ..Other::same() });
         let memories = around(MEMORY).map(|memory_len| Other { memory_len, ..Other::same() });
-        let panels = around(PANEL).map(|panel_len| Other { panel_len, ..Other::same() });
-        let others: Vec<Other> = records.chain(memories).chain(panels).collect();
+        let others: Vec<Other> = records.chain(memories).collect();
         others.into_iter().map(move |other| lent(&call, other))
-    })
+    });
+    let panels = [0, 1, 2, 3, 4, 255].into_iter().flat_map(move |number| {
+        let others = around(PANEL).map(|panel_len| Other { panel_len, ..Other::same() });
+        others.map(|other| lent(&Call::Send { number }, other))
+    });
+    lents.chain(panels)
 }
 
 /// Rectangles with every side at its edges.
 fn rects() -> impl Iterator<Item = Step> {
     let edges = [0, 1, 79, 80, 81, 160, 161, 256, 257];
     let corners = pairs(&edges, &edges);
-    [DIRTY, OWED, IN_HAND].into_iter().flat_map(move |place| {
+    rect_places().into_iter().flat_map(move |place| {
         pairs(&corners, &corners).into_iter().map(move |((left, top), (right, bottom))| {
             changed(&Call::GetRow, rect_bytes(place, [left, top, right, bottom]))
         })
     })
+}
+
+fn rect_places() -> Vec<usize> {
+    let pending = (0..PANELS).flat_map(|panel| [owed(panel), in_hand(panel)]);
+    [DIRTY].into_iter().chain(pending).collect()
 }
 
 /// Bases at the ends of memory and windows that just touch or just share a byte, in the record
@@ -119,9 +142,12 @@ fn bases() -> impl Iterator<Item = Step> {
     })
 }
 
-/// Every left and right of a line in hand, sent; and every top and bottom.
+/// Every left and right of a line in hand, sent to each panel; and every top and bottom.
 fn hands() -> impl Iterator<Item = Step> {
     let across = (0..160).flat_map(|left| (left + 1..=160).map(move |right| [left, left % 80, right, 80]));
     let down = (0..80).flat_map(|top| (top + 1..=80).map(move |bottom| [7, top, 130, bottom]));
-    across.chain(down).map(|rect| changed(&Call::Send, rect_bytes(IN_HAND, rect)))
+    across.chain(down).flat_map(|rect| {
+        let steps = sends().into_iter().enumerate();
+        steps.map(move |(panel, send)| changed(&send, rect_bytes(in_hand(panel), rect)))
+    })
 }

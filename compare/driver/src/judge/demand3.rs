@@ -1,62 +1,140 @@
-//! Demand 3 by brute force, after a list that starts with an accepted open.
+//! Demand 3 by brute force, after a list that starts with an accepted open, for each of the panels.
 
+use super::area::Area;
 use super::{Difference, Judge, Judged};
+use crate::list::{List, Other};
+use crate::random::Random;
 use crate::tally::Tally;
 use calls::layout::*;
 use calls::{Answer, Call};
 
-/// The most lines that can be owing.
+/// The most lines that can be owing to a panel.
 const MOST_LINES: u32 = 159;
 
+/// A refused call comes before one in so many sends.
+const REFUSED: usize = 48;
+
 impl Judge {
-    /// L is at most 159; every differing pixel lies in owed or in hand; the first send is idle
-    /// exactly when L is 0; after L sends no pixel differs.
-    pub(super) fn demand3(&mut self, tally: &mut Tally) -> Judged<()> {
-        let places = [four(&self.own.model.record, OWED), four(&self.own.model.record, IN_HAND)];
-        let lines: u32 = places.iter().map(|[_, top, _, bottom]| (bottom - top) as u32).sum();
-        if lines > MOST_LINES {
-            return Err(Difference::new(format!("L is {lines}")));
-        }
-        for (x, y) in self.differing_pixels() {
-            if !places.iter().any(|place| lies_in(*place, x, y)) {
-                return Err(Difference::new(format!("pixel ({x}, {y}) differs and is not owed: {places:?}")));
+    /// For each panel: L is at most 159 and every differing pixel lies in owed or in hand. Then all
+    /// four are polled, each at its own pace, with refused calls between: the first send that names a
+    /// panel is idle exactly when its L is 0, each lowers the L of its panel by one and leaves the
+    /// others', and after L of them no pixel of the panel differs.
+    pub(super) fn demand3(&mut self, list: &List, tally: &mut Tally) -> Judged<()> {
+        let left = self.lines();
+        for (panel, lines) in left.into_iter().enumerate() {
+            if lines > MOST_LINES {
+                return Err(Difference::new(format!("L of panel {panel} is {lines}")));
             }
+            self.check_places(panel)?;
         }
-        self.come_level(lines, tally)
+        self.come_level(left, &mut self.order_of(list), tally)
     }
 
-    fn come_level(&mut self, lines: u32, tally: &mut Tally) -> Judged<()> {
-        if lines == 0 {
-            let answer = self.own_step(&Call::Send, tally)?;
-            if answer != Answer::done([0; 4]) {
-                return Err(Difference::new(format!("L is 0 and a send answers {answer:?}")));
+    /// The lines in hand and owed of each panel.
+    fn lines(&self) -> [u32; PANELS] {
+        let height = |area: Area| area.down.last + 1 - area.down.first;
+        [0, 1, 2, 3].map(|panel| self.places(panel).into_iter().flatten().map(height).sum())
+    }
+
+    /// In hand and owed.
+    fn places(&self, panel: usize) -> [Option<Area>; 2] {
+        [in_hand(panel), owed(panel)].map(|place| Area::at(&self.own.model.record, place))
+    }
+
+    /// Every differing pixel lies in the rectangle in hand or in the one owed.
+    fn check_places(&self, panel: usize) -> Judged<()> {
+        let places: Vec<Area> = self.places(panel).into_iter().flatten().collect();
+        for y in 0..HEIGHT {
+            let here = places.iter().filter(|area| (area.down.first..=area.down.last).contains(&(y as u32)));
+            let covered = here.fold([0; LINE], |line, area| {
+                let bits = area.across.bits();
+                std::array::from_fn(|byte| line[byte] | bits[byte])
+            });
+            for (byte, covered) in covered.into_iter().enumerate() {
+                if self.differing(panel, y * LINE + byte) & !covered != 0 {
+                    return Err(Difference::new(format!(
+                        "a pixel of panel {panel} in byte {byte} of line {y} differs and is not owed: {places:?}"
+                    )));
+                }
             }
         }
-        for left in (1..=lines).rev() {
-            let answer = self.own_step(&Call::Send, tally)?;
-            tally.level_sends += 1;
-            if answer.numbers[0] != 1 {
-                return Err(Difference::new(format!("idle with {left} lines owing")));
+        Ok(())
+    }
+
+    /// An order of polls that differs from list to list, and is the same each time for one.
+    fn order_of(&self, list: &List) -> Random {
+        let record = self.own.model.record.iter();
+        Random::new(record.fold(list.start.seed, |sum, byte| sum.wrapping_mul(31).wrapping_add(*byte as u64)))
+    }
+
+    /// Poll until every panel was idle once; so many lines are `left` for each.
+    fn come_level(&mut self, mut left: [u32; PANELS], order: &mut Random, tally: &mut Tally) -> Judged<()> {
+        let mut paces = order.paces();
+        while paces != [0; PANELS] {
+            let panel = order.weighted(&paces);
+            if order.one_in(REFUSED) {
+                self.refuse_between(order, tally)?;
+            }
+            if self.poll(panel, &mut left, tally)? {
+                paces[panel] = 0;
             }
         }
-        match self.differing_pixels().first() {
-            None => Ok(()),
-            Some((x, y)) => Err(Difference::new(format!("pixel ({x}, {y}) differs after {lines} sends"))),
+        (0..PANELS).try_for_each(|panel| self.check_level(panel))
+    }
+
+    /// One send to this panel; whether it was idle.
+    fn poll(&mut self, panel: usize, left: &mut [u32; PANELS], tally: &mut Tally) -> Judged<bool> {
+        let answer = self.own_step(&Call::Send { number: panel as u8 }, tally)?;
+        tally.level_sends[panel] += 1;
+        let idle_due = left[panel] == 0;
+        let idle = answer == Answer::done([0; 4]);
+        if idle != idle_due || !answer.accepted() {
+            let lines = left[panel];
+            return Err(Difference::new(format!("L of panel {panel} is {lines}, a send answers {answer:?}")));
+        }
+        left[panel] -= !idle as u32;
+        if self.lines() != *left {
+            return Err(Difference::new(format!(
+                "after a send to panel {panel} L of each is {:?}, due is {left:?}",
+                self.lines()
+            )));
+        }
+        if left[panel] == 0 {
+            self.check_level(panel)?;
+        }
+        Ok(idle)
+    }
+
+    /// A call that is refused: for its numbers, or as it is lent a short panel or a broken record.
+    fn refuse_between(&mut self, order: &mut Random, tally: &mut Tally) -> Judged<()> {
+        let short = Other { panel_len: PANEL - 1, ..Other::same() };
+        let broken = Other { record_bytes: vec![(ROW, ROWS as u8)], ..Other::same() };
+        let send = Call::Send { number: order.below(PANELS) as u8 };
+        let answer = match order.below(16) {
+            0 => self.other_step(&send, &short, tally)?,
+            1 => self.other_step(&send, &broken, tally)?,
+            2..5 => self.own_step(&Call::SetRow { row: ROWS as u8 }, tally)?,
+            5..8 => self.own_step(&Call::DrawPoint { x: 1, y: 1, mode: 4 }, tally)?,
+            _ => self.own_step(&Call::Send { number: 4 + order.below(252) as u8 }, tally)?,
+        };
+        tally.refused_between += 1;
+        if answer.accepted() {
+            Err(Difference::new("a call that is to be refused is accepted"))
+        } else {
+            Ok(())
         }
     }
 
-    fn differing_pixels(&self) -> Vec<(usize, usize)> {
-        let (screen, panel) = (self.screen(), &self.own.model.panel);
-        let mut pixels = vec![];
-        for place in (0..SCREEN).filter(|place| screen[*place] != panel[*place]) {
-            let differing = screen[place] ^ panel[place];
-            let bits = (0..8).filter(|bit| differing & 0x80 >> bit != 0);
-            pixels.extend(bits.map(|bit| (place % LINE * 8 + bit, place / LINE)));
+    fn check_level(&self, panel: usize) -> Judged<()> {
+        if self.screen() == self.own.model.panels[panel] {
+            return Ok(());
         }
-        pixels
+        let count: u32 = (0..SCREEN).map(|place| self.differing(panel, place).count_ones()).sum();
+        Err(Difference::new(format!("{count} pixels of panel {panel} differ, and its L is 0")))
     }
-}
 
-fn lies_in([left, top, right, bottom]: [u16; 4], x: usize, y: usize) -> bool {
-    (left as usize..right as usize).contains(&x) && (top as usize..bottom as usize).contains(&y)
+    /// The differing pixels of a byte, as its bits.
+    fn differing(&self, panel: usize, place: usize) -> u8 {
+        self.screen()[place] ^ self.own.model.panels[panel][place]
+    }
 }

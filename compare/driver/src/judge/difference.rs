@@ -1,7 +1,7 @@
 //! A difference between two sides, in words.
 
-use calls::Answer;
-use calls::layout::field;
+use calls::layout::{PANELS, field};
+use calls::{Answer, Buffers};
 use std::fmt;
 
 #[derive(Debug, Clone)]
@@ -79,4 +79,26 @@ pub fn compare_bytes(
         ),
         None => format!("{what}: lengths {} and {}", a.len(), b.len()),
     }))
+}
+
+pub fn compare_buffers(one: &str, a: &Buffers, other: &str, b: &Buffers) -> Result<(), Difference> {
+    compare_bytes("lent record", 0, one, &a.record, other, &b.record)?;
+    compare_bytes("lent memory", 0, one, &a.memory, other, &b.memory)?;
+    compare_panels("lent panel", one, a, other, b)
+}
+
+pub fn compare_panels(
+    what: &str,
+    one: &str,
+    a: &Buffers,
+    other: &str,
+    b: &Buffers,
+) -> Result<(), Difference> {
+    if a.panels == b.panels {
+        return Ok(());
+    }
+    (0..PANELS).try_for_each(|panel| {
+        let what = format!("{what} {panel}");
+        compare_bytes(&what, 0, one, &a.panels[panel], other, &b.panels[panel])
+    })
 }

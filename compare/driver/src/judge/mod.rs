@@ -1,5 +1,6 @@
 //! The judge: gives a list to reference, model and core, and says where they differ.
 
+mod area;
 mod demand3;
 mod difference;
 pub mod panics;
@@ -12,8 +13,8 @@ use crate::core_side::Answering;
 use crate::list::{Lending, List, Other, Step};
 use crate::tally::Tally;
 use calls::layout::*;
-use calls::{Answer, Buffers, Call, Refusal};
-use difference::{compare_answers, compare_bytes, compare_records};
+use calls::{Answer, Buffers, Call, Lent, Refusal};
+use difference::{compare_answers, compare_buffers, compare_bytes, compare_panels, compare_records};
 use reckon::Reckoner;
 use reference::{Reference, Told};
 
@@ -26,8 +27,11 @@ pub struct Judge {
     own: Sides,
     /// Copies for calls that are lent other buffers.
     other: Sides,
+    model: Modelling,
     core: Option<Answering>,
     reckoner: Reckoner,
+    /// What each panel is due to show.
+    shown: [Vec<u8>; PANELS],
     /// Compare memory whole after every call.
     thorough: bool,
     since_whole: u32,
@@ -47,14 +51,23 @@ impl Sides {
 
 type Judged<T> = Result<T, Difference>;
 
+/// The model, or another one in its place.
+pub type Modelling = fn(&Call, Lent) -> Answer;
+
 impl Judge {
     pub fn new(core: Option<Answering>, thorough: bool) -> Self {
+        Self::with_model(model::answer, core, thorough)
+    }
+
+    pub fn with_model(model: Modelling, core: Option<Answering>, thorough: bool) -> Self {
         Self {
             reference: Reference::default(),
             own: Sides::new(),
             other: Sides::new(),
+            model,
             core,
             reckoner: Reckoner::default(),
+            shown: Buffers::zero().panels,
             thorough,
             since_whole: 0,
         }
@@ -73,6 +86,7 @@ impl Judge {
     fn start(&mut self, list: &List) {
         list.start.fill(&mut self.own.model);
         self.own.core.follow(&self.own.model);
+        self.shown.clone_from(&self.own.model.panels);
         self.reckoner = Reckoner::default();
         if let Some(record) = &list.start.record {
             self.reference.load(record, &self.own.model.memory);
@@ -83,7 +97,7 @@ impl Judge {
     fn end(&mut self, list: &List, tally: &mut Tally) -> Judged<()> {
         self.compare_memory_whole()?;
         if list.start.record.is_none() && !list.steps.is_empty() {
-            self.demand3(tally)?;
+            self.demand3(list, tally)?;
         }
         Ok(())
     }
@@ -103,7 +117,9 @@ impl Judge {
 
     fn empty_marks(&mut self) {
         for side in [&mut self.own.model, &mut self.own.core] {
-            side.record[DIRTY..IN_HAND].fill(0);
+            for place in [DIRTY].into_iter().chain((0..PANELS).map(owed)) {
+                side.record[place..place + 8].fill(0);
+            }
         }
         self.reference.set_dirty([0; 4]);
         self.reckoner.empty_owed();
@@ -111,24 +127,45 @@ impl Judge {
 
     /// A call lent what the last accepted one left.
     fn own_step(&mut self, call: &Call, tally: &mut Tally) -> Judged<Answer> {
-        let before = Before::of(&self.own.model);
-        let answer = model::answer(call, self.own.model.lend());
+        let mut before = [0; RECORD];
+        before.copy_from_slice(&self.own.model.record);
+        let answer = (self.model)(call, self.own.model.lend(call));
         if answer.accepted() {
-            let next = self.reckoner.next_line();
-            self.reckoner.take(call, &before.record, &self.own.model.memory);
-            self.reckoner.compare(&self.own.model.record)?;
-            if *call == Call::Send {
-                self.check_send(next, &answer, &before)?;
-            } else {
-                self.reference_step(call, &answer, &before, tally)?;
-            }
+            self.accepted_step(call, &answer, &before, tally)?;
         } else {
-            before.compare(&self.own.model)?;
+            compare_records("before", &before, "model", &self.own.model.record)?;
             self.reference_on_refusal(call, &answer)?;
         }
+        self.compare_shown()?;
         self.core_step(call, &answer, tally)?;
         self.compare_memory(call, &answer)?;
         Ok(answer)
+    }
+
+    /// An accepted call is held to the reckoning; a send to document 01, others to the reference.
+    fn accepted_step(
+        &mut self,
+        call: &Call,
+        answer: &Answer,
+        before: &[u8; RECORD],
+        tally: &mut Tally,
+    ) -> Judged<()> {
+        let Call::Send { number } = *call else {
+            self.reckon(call, before)?;
+            return self.reference_step(call, answer, before, tally);
+        };
+        let panel = number as usize;
+        if panel >= PANELS {
+            return Err(Difference::new(format!("a send to panel {number} is accepted")));
+        }
+        let next = self.reckoner.next_line(panel);
+        self.reckon(call, before)?;
+        self.check_send(panel, next, answer, before)
+    }
+
+    fn reckon(&mut self, call: &Call, before: &[u8; RECORD]) -> Judged<()> {
+        self.reckoner.take(call, before, &self.own.model.memory);
+        self.reckoner.compare(&self.own.model.record)
     }
 
     /// The reference does an accepted call and stands as the model does.
@@ -136,7 +173,7 @@ impl Judge {
         &mut self,
         call: &Call,
         answer: &Answer,
-        before: &Before,
+        before: &[u8; RECORD],
         tally: &mut Tally,
     ) -> Judged<()> {
         if !self.reference.can_follow(call) {
@@ -148,7 +185,7 @@ impl Judge {
             Told::Panicked if panic_due => {
                 // Document 01 lets the port finish: it marks what the reference hadn't marked yet.
                 let dirty = four(&self.reference.record(), DIRTY);
-                difference::compare_dirty(dirty, four(&before.record, DIRTY))?;
+                difference::compare_dirty(dirty, four(before, DIRTY))?;
                 self.reference.set_dirty(four(&self.own.model.record, DIRTY));
             }
             Told::Panicked => return Err(Difference::new("the reference panicked")),
@@ -159,7 +196,9 @@ impl Judge {
         }
         tally.reference_compared(call, panic_due);
         let mut record = self.reference.record();
-        record[ADDED].copy_from_slice(&self.own.model.record[ADDED]);
+        for added in ADDED {
+            record[added.clone()].copy_from_slice(&self.own.model.record[added]);
+        }
         compare_records("reference", &record, "model", &self.own.model.record)
     }
 
@@ -173,13 +212,13 @@ impl Judge {
 
     fn core_step(&mut self, call: &Call, answer: &Answer, tally: &mut Tally) -> Judged<()> {
         let Some(core) = self.core else { return Ok(()) };
-        match core(call, self.own.core.lend()) {
+        match core(call, self.own.core.lend(call)) {
             None => self.own.core.follow(&self.own.model),
             Some(given) => {
                 tally.core_compared(call);
                 compare_answers("model", answer, "core", &given)?;
                 compare_records("model", &self.own.model.record, "core", &self.own.core.record)?;
-                compare_bytes("panel", 0, "model", &self.own.model.panel, "core", &self.own.core.panel)?;
+                compare_panels("panel", "model", &self.own.model, "core", &self.own.core)?;
             }
         }
         Ok(())
@@ -188,10 +227,10 @@ impl Judge {
     /// A call lent a copy with other lengths or other record bytes.
     fn other_step(&mut self, call: &Call, other: &Other, tally: &mut Tally) -> Judged<Answer> {
         other.copy(&self.own.model, &mut self.other.model);
-        let answer = model::answer(call, self.other.model.lend());
+        let answer = (self.model)(call, self.other.model.lend(call));
         if let Some(core) = self.core {
             other.copy(&self.own.model, &mut self.other.core);
-            if let Some(given) = core(call, self.other.core.lend()) {
+            if let Some(given) = core(call, self.other.core.lend(call)) {
                 tally.core_compared(call);
                 compare_answers("model", &answer, "core", &given)?;
                 compare_buffers("model", &self.other.model, "core", &self.other.core)?;
@@ -235,32 +274,5 @@ impl Judge {
             compare_bytes("memory", start, "model", model, "core", &self.own.core.memory[part])?;
         }
         Ok(())
-    }
-}
-
-fn compare_buffers(one: &str, a: &Buffers, other: &str, b: &Buffers) -> Judged<()> {
-    compare_bytes("lent record", 0, one, &a.record, other, &b.record)?;
-    compare_bytes("lent memory", 0, one, &a.memory, other, &b.memory)?;
-    compare_bytes("lent panel", 0, one, &a.panel, other, &b.panel)
-}
-
-/// Record and panel before a call. A refused call leaves memory as the reference has it, which is
-/// not called then.
-struct Before {
-    record: [u8; RECORD],
-    panel: [u8; PANEL],
-}
-
-impl Before {
-    fn of(buffers: &Buffers) -> Self {
-        let mut before = Self { record: [0; RECORD], panel: [0; PANEL] };
-        before.record.copy_from_slice(&buffers.record);
-        before.panel.copy_from_slice(&buffers.panel);
-        before
-    }
-
-    fn compare(&self, after: &Buffers) -> Judged<()> {
-        compare_records("before", &self.record, "model", &after.record)?;
-        compare_bytes("panel", 0, "before", &self.panel, "model", &after.panel)
     }
 }

@@ -1,76 +1,86 @@
-//! Owed and in hand reckoned from the list of accepted calls alone, never read from a record:
-//! a second reading of document 01's sections "Marks" and "Sends", apart from the model.
+//! Owed, in hand and lines sent of each panel, reckoned from the list of accepted calls alone, never
+//! read from a record: a second reading of document 01's sections "Marks" and "Sends" and of change
+//! request 1, apart from the model.
 
 use super::Difference;
+use super::area::{Area, LAST_X, LAST_Y, Span, byte_span, span};
 use calls::Call;
 use calls::layout::*;
 
-/// First and last pixel, both included.
-#[derive(Debug, Clone, Copy, PartialEq, Eq)]
-struct Span {
-    first: u32,
-    last: u32,
-}
-
-#[derive(Debug, Clone, Copy, PartialEq, Eq)]
-struct Area {
-    across: Span,
-    down: Span,
+/// What is kept for one panel.
+#[derive(Debug, Default, Clone, Copy, PartialEq, Eq)]
+struct Panel {
+    owed: Option<Area>,
+    in_hand: Option<Area>,
+    sent: u32,
 }
 
 #[derive(Debug, Default)]
 pub struct Reckoner {
-    owed: Option<Area>,
-    in_hand: Option<Area>,
+    panels: [Panel; PANELS],
 }
 
 const UNKNOWN: u8 = 3;
 const GRAPH: u8 = 1;
-const LAST_X: u32 = WIDTH as u32 - 1;
-const LAST_Y: u32 = HEIGHT as u32 - 1;
 
-fn span(a: u32, b: u32) -> Span {
-    Span { first: a.min(b), last: a.max(b) }
-}
-
-impl Span {
-    fn lowered(self, limit: u32) -> Self {
-        Span { first: self.first.min(limit), ..self }
+impl Panel {
+    /// That of a valid record.
+    fn of_record(record: &[u8], panel: usize) -> Self {
+        Self {
+            owed: Area::at(record, owed(panel)),
+            in_hand: Area::at(record, in_hand(panel)),
+            sent: double_word(record, lines_sent(panel)),
+        }
     }
 
-    fn cut(self, limit: u32) -> Option<Self> {
-        (self.first <= limit).then(|| Span { last: self.last.min(limit), ..self })
+    /// Its part of the record.
+    fn bytes(&self) -> [u8; PART] {
+        let mut bytes = [0; PART];
+        Area::write(self.owed, &mut bytes[..8]);
+        Area::write(self.in_hand, &mut bytes[8..16]);
+        bytes[16..].copy_from_slice(&self.sent.to_le_bytes());
+        bytes
     }
 
-    fn around(self, other: Span) -> Self {
-        Span { first: self.first.min(other.first), last: self.last.max(other.last) }
+    fn send(&mut self) {
+        if self.in_hand.is_none() {
+            self.in_hand = self.owed.take();
+        }
+        if let Some(area) = self.in_hand {
+            self.in_hand = area.below_first_line();
+            self.sent = self.sent.saturating_add(1);
+        }
     }
 }
 
 impl Reckoner {
-    /// For a list that starts from a record: its two rectangles.
+    /// For a list that starts from a valid record: what that says.
     pub fn of_record(record: &[u8]) -> Self {
-        Self { owed: area_at(record, OWED), in_hand: area_at(record, IN_HAND) }
+        Self { panels: [0, 1, 2, 3].map(|panel| Panel::of_record(record, panel)) }
     }
 
     pub fn empty_owed(&mut self) {
-        self.owed = None;
+        for panel in &mut self.panels {
+            panel.owed = None;
+        }
     }
 
     pub fn compare(&self, record: &[u8]) -> Result<(), Difference> {
-        let found = (area_at(record, OWED), area_at(record, IN_HAND));
-        if found == (self.owed, self.in_hand) {
-            return Ok(());
+        for (number, panel) in self.panels.iter().enumerate() {
+            let (due, found) = (panel.bytes(), &record[part(number)]);
+            if due != found {
+                return Err(Difference::new(format!(
+                    "owed, in hand and lines sent of panel {number}: reckoned {due:?}, in the record {found:?}"
+                )));
+            }
         }
-        Err(Difference::new(format!(
-            "owed and in hand: reckoned {:?} and {:?}, in the record {:?} and {:?}",
-            self.owed, self.in_hand, found.0, found.1
-        )))
+        Ok(())
     }
 
-    /// What the next send is due to answer: line, first and last pixel; `None` for idle.
-    pub fn next_line(&self) -> Option<[u32; 3]> {
-        let area = self.in_hand.or(self.owed)?;
+    /// What the next send to the panel is due to answer: line, first and last pixel; `None` for idle.
+    pub fn next_line(&self, panel: usize) -> Option<[u32; 3]> {
+        let panel = self.panels[panel];
+        let area = panel.in_hand.or(panel.owed)?;
         Some([area.down.first, area.across.first, area.across.last])
     }
 
@@ -78,7 +88,7 @@ impl Reckoner {
     pub fn take(&mut self, call: &Call, before: &[u8], memory: &[u8]) {
         match *call {
             Call::Open { .. } => {
-                self.in_hand = None;
+                self.panels = Default::default();
                 self.whole();
             }
             Call::Reset | Call::Cls | Call::Flush { .. } | Call::SetScreenMode { .. } => self.whole(),
@@ -111,7 +121,7 @@ impl Reckoner {
                 }
             }
             Call::WriteByte { address, .. } => self.poke(before, address),
-            Call::Send => self.send(),
+            Call::Send { number } => self.panels[number as usize].send(),
             Call::CheckPoint { .. }
             | Call::GetRow
             | Call::GetColumn
@@ -123,15 +133,20 @@ impl Reckoner {
     }
 
     fn whole(&mut self) {
-        self.owed = Some(Area { across: span(0, LAST_X), down: span(0, LAST_Y) });
+        self.mark(Area::whole());
+    }
+
+    /// A mark goes to every panel.
+    fn mark(&mut self, area: Area) {
+        for panel in &mut self.panels {
+            panel.owed = Some(panel.owed.map_or(area, |owed| owed.around(area)));
+        }
     }
 
     fn add(&mut self, across: Span, down: Span) {
-        let (Some(across), Some(down)) = (across.cut(LAST_X), down.cut(LAST_Y)) else { return };
-        self.owed = Some(match self.owed {
-            None => Area { across, down },
-            Some(owed) => Area { across: owed.across.around(across), down: owed.down.around(down) },
-        });
+        if let (Some(across), Some(down)) = (across.cut(LAST_X), down.cut(LAST_Y)) {
+            self.mark(Area { across, down });
+        }
     }
 
     fn add_lowered(&mut self, across: Span, down: Span) {
@@ -179,26 +194,6 @@ impl Reckoner {
             self.add(span(x, x + 7), span(y, y));
         }
     }
-
-    fn send(&mut self) {
-        if self.in_hand.is_none() {
-            self.in_hand = self.owed.take();
-        }
-        if let Some(area) = self.in_hand {
-            let below = area.down.first + 1;
-            let down = Span { first: below, ..area.down };
-            self.in_hand = (below <= area.down.last).then_some(Area { down, ..area });
-        }
-    }
-}
-
-fn byte_span(a: u8, b: u8) -> Span {
-    span(a as u32, b as u32)
-}
-
-fn area_at(record: &[u8], place: usize) -> Option<Area> {
-    let [left, top, right, bottom] = four(record, place).map(u32::from);
-    (left < right).then(|| Area { across: span(left, right - 1), down: span(top, bottom - 1) })
 }
 
 /// Whether printing from this row and column moves past the last row.

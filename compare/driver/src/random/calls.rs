@@ -3,7 +3,7 @@
 use super::Random;
 use super::numbers::Windows;
 use calls::Call;
-use calls::layout::MEMORY;
+use calls::layout::{MEMORY, PANELS};
 
 impl Random {
     /// A call by its number among `Call::NAMES`.
@@ -47,7 +47,7 @@ impl Random {
             "clear_cursor" => Call::ClearCursor,
             "write_byte" => Call::WriteByte { address: self.poke_address(windows), byte: self.poked() },
             "take_dirty_area" => Call::TakeDirtyArea,
-            "send" => Call::Send,
+            "send" => Call::Send { number: self.panel_number(&[1; PANELS]) },
             name => unreachable!("no call {name}"),
         }
     }

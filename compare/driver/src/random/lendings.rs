@@ -9,13 +9,18 @@ impl Random {
         let mut other = Other::same();
         for _ in 0..1 + self.below(2) {
             match self.below(8) {
-                0 => other.record_len = self.length(RECORD, 40),
+                0 => other.record_len = self.record_length(),
                 1 => other.memory_len = self.length(MEMORY, 300),
                 2 => other.panel_len = self.length(PANEL, 40),
                 _ => self.change_record(&mut other.record_bytes),
             }
         }
         other
+    }
+
+    /// Also a record that ends before the part of a panel: 170 bytes hold panel 0's alone.
+    fn record_length(&mut self) -> usize {
+        if self.one_in(3) { part(self.below(PANELS)).start } else { self.length(RECORD, 70) }
     }
 
     fn length(&mut self, right: usize, around: usize) -> usize {
@@ -35,14 +40,16 @@ impl Random {
             3 => bytes.push((SCREEN_MODE + self.below(4), self.pick(&[0, 1, 2, 3, 4, 128, 255]))),
             4..7 => self.change_rect(bytes),
             7 => bytes.push((FLAGS + self.below(CELLS), self.pick(&[0, 1, 2, 3, 128, 255]))),
-            8 => bytes.push((LINES_SENT + self.below(36), self.byte())),
+            8 if self.one_in(2) => bytes.push((KEYS + self.below(32), self.byte())),
+            8 => bytes.push((lines_sent(self.below(PANELS)) + self.below(4), self.byte())),
             _ => bytes.push((self.below(RECORD), self.byte())),
         }
     }
 
     /// Sides at and just past their limits, in any order.
     fn change_rect(&mut self, bytes: &mut Vec<(usize, u8)>) {
-        let place = self.pick(&[DIRTY, OWED, IN_HAND]);
+        let panel = self.below(PANELS);
+        let place = self.pick(&[DIRTY, owed(panel), owed(panel), in_hand(panel), in_hand(panel)]);
         let sides: [u16; 4] = match self.below(4) {
             0 => std::array::from_fn(|_| self.pick(&[0, 1, 79, 80, 81, 159, 160, 161, 255, 256, 257])),
             1 => {

@@ -1,7 +1,7 @@
 //! Random lists: a start, a theme that says which calls come how often, and the calls.
 
 use super::Random;
-use super::numbers::Windows;
+use super::numbers::{Paces, Windows};
 use crate::list::{Lending, List, Start, Step};
 use calls::Call;
 use calls::layout::{GRAPHICS_BASE, TEXT_BASE, word};
@@ -9,24 +9,27 @@ use calls::layout::{GRAPHICS_BASE, TEXT_BASE, word};
 /// How often each call comes, by theme, in the order of `Call::NAMES`.
 type Weights = [u8; Call::NAMES.len()];
 
-const EVEN: Weights = [1, 1, 4, 4, 2, 2, 2, 4, 3, 4, 4, 1, 2, 3, 3, 4, 4, 1, 3, 4, 3, 6, 4, 12];
-const DRAWING: Weights = [0, 0, 6, 12, 4, 4, 4, 4, 4, 0, 1, 0, 0, 0, 0, 0, 0, 0, 0, 1, 1, 3, 3, 8];
-const TEXT: Weights = [0, 0, 0, 1, 0, 0, 0, 0, 1, 10, 5, 1, 4, 2, 2, 6, 6, 1, 4, 5, 3, 6, 2, 8];
-const SMALL: Weights = [1, 1, 8, 0, 0, 0, 0, 8, 0, 0, 3, 1, 0, 6, 6, 6, 6, 1, 6, 4, 4, 10, 6, 30];
-const CLEARING: Weights = [5, 8, 4, 4, 2, 2, 2, 2, 2, 4, 2, 8, 4, 0, 0, 2, 2, 8, 3, 3, 6, 4, 2, 12];
+const EVEN: Weights = [1, 1, 4, 4, 2, 2, 2, 4, 3, 4, 4, 1, 2, 3, 3, 4, 4, 1, 3, 4, 3, 6, 4, 20];
+const DRAWING: Weights = [0, 0, 6, 12, 4, 4, 4, 4, 4, 0, 1, 0, 0, 0, 0, 0, 0, 0, 0, 1, 1, 3, 3, 16];
+const TEXT: Weights = [0, 0, 0, 1, 0, 0, 0, 0, 1, 10, 5, 1, 4, 2, 2, 6, 6, 1, 4, 5, 3, 6, 2, 16];
+const SMALL: Weights = [1, 1, 8, 0, 0, 0, 0, 8, 0, 0, 3, 1, 0, 6, 6, 6, 6, 1, 6, 4, 4, 10, 6, 50];
+const CLEARING: Weights = [5, 8, 4, 4, 2, 2, 2, 2, 2, 4, 2, 8, 4, 0, 0, 2, 2, 8, 3, 3, 6, 4, 2, 20];
+/// Mostly sends, so that panels come level within the list.
+const POLLING: Weights = [0, 1, 6, 2, 1, 0, 0, 0, 1, 0, 1, 0, 0, 0, 0, 0, 0, 0, 0, 2, 0, 4, 1, 180];
 
 /// The list of this seed.
 pub fn list(seed: u64) -> List {
     let mut random = Random::new(seed);
     let (start, mut windows, mut steps) = start(&mut random);
-    let theme = random.pick(&[EVEN, DRAWING, TEXT, SMALL, CLEARING]);
+    let theme = random.pick(&[EVEN, DRAWING, TEXT, SMALL, CLEARING, POLLING]);
+    let paces = random.paces();
     let len = match random.below(4) {
         0 => random.below(8),
-        1 | 2 => random.below(60),
-        _ => random.below(200),
+        1 => random.below(60),
+        _ => random.below(300),
     };
     for _ in 0..len {
-        let call = random.weighted_call(&theme, windows);
+        let call = random.weighted_call(&theme, windows, &paces);
         let lending = random.lending(start.record.is_some());
         if let Call::Open { graphics_base, text_base, .. } = call {
             windows = Windows { graphics_base, text_base };
@@ -59,14 +62,11 @@ impl Random {
         }
     }
 
-    fn weighted_call(&mut self, weights: &Weights, windows: Windows) -> Call {
-        let total: usize = weights.iter().map(|weight| *weight as usize).sum();
-        let mut left = self.below(total);
-        let mut number = 0;
-        while left >= weights[number] as usize {
-            left -= weights[number] as usize;
-            number += 1;
+    fn weighted_call(&mut self, weights: &Weights, windows: Windows, paces: &Paces) -> Call {
+        let number = self.weighted(weights);
+        match Call::NAMES[number] {
+            "send" => Call::Send { number: self.panel_number(paces) },
+            _ => self.call(number, windows),
         }
-        self.call(number, windows)
     }
 }

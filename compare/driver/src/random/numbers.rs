@@ -1,7 +1,7 @@
 //! Numbers near the edges that matter.
 
 use super::Random;
-use calls::layout::{CELLS, MEMORY, SCREEN};
+use calls::layout::{CELLS, MEMORY, PANELS, SCREEN};
 
 /// Coordinates around bytes, the glass, and the ends of 7 and 8 bits.
 const EDGES: [u8; 26] = [
@@ -16,7 +16,23 @@ pub struct Windows {
     pub text_base: u16,
 }
 
+/// How often each panel polls, compared with the others.
+pub type Paces = [u8; PANELS];
+
 impl Random {
+    pub fn paces(&mut self) -> Paces {
+        std::array::from_fn(|_| self.pick(&[1, 1, 4, 16, 64]))
+    }
+
+    /// One of the panels, now and then a number that names none.
+    pub fn panel_number(&mut self, paces: &Paces) -> u8 {
+        match self.below(32) {
+            0 => self.pick(&[4, 5, 6, 7, 8, 16, 127, 128, 252, 255]),
+            1 => self.byte(),
+            _ => self.weighted(paces) as u8,
+        }
+    }
+
     pub fn x(&mut self) -> u8 {
         match self.below(8) {
             0..4 => self.pick(&EDGES),

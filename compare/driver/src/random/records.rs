@@ -16,15 +16,17 @@ impl Random {
         record[CURSOR] = self.below(3) as u8;
         record[VERSION] = self.below(2) as u8;
         self.put_rect(&mut record, DIRTY, 256, 256);
-        self.put_rect(&mut record, OWED, WIDTH, HEIGHT);
-        self.put_rect(&mut record, IN_HAND, WIDTH, HEIGHT);
-        let sent = self.pick(&[0, 1, u32::MAX - 2, u32::MAX - 1, u32::MAX, 1 << 16, 255]);
-        record[LINES_SENT..][..4].copy_from_slice(&sent.to_le_bytes());
+        for panel in 0..PANELS {
+            self.put_rect(&mut record, owed(panel), WIDTH, HEIGHT);
+            self.put_rect(&mut record, in_hand(panel), WIDTH, HEIGHT);
+            let sent = self.pick(&[0, 1, u32::MAX - 2, u32::MAX - 1, u32::MAX, 1 << 16, 255]);
+            record[lines_sent(panel)..][..4].copy_from_slice(&sent.to_le_bytes());
+        }
         for (place, key) in self.key_words().into_iter().enumerate() {
             record[KEYS + 4 * place..][..4].copy_from_slice(&key.to_le_bytes());
         }
         let flags = self.below(4);
-        for flag in &mut record[FLAGS..] {
+        for flag in &mut record[FLAGS..FLAGS_END] {
             *flag = match flags {
                 0 => 0,
                 1 => 1,

@@ -33,6 +33,18 @@ impl Random {
         list[self.below(list.len())]
     }
 
+    /// A place among these weights, as often as each says.
+    pub fn weighted(&mut self, weights: &[u8]) -> usize {
+        let total: usize = weights.iter().map(|weight| *weight as usize).sum();
+        let mut left = self.below(total);
+        let mut place = 0;
+        while left >= weights[place] as usize {
+            left -= weights[place] as usize;
+            place += 1;
+        }
+        place
+    }
+
     pub fn fill(&mut self, bytes: &mut [u8]) {
         for part in bytes.chunks_mut(8) {
             part.copy_from_slice(&self.number().to_le_bytes()[..part.len()]);

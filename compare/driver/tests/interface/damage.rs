@@ -13,7 +13,7 @@ const NAMES: Text = |texts| &mut texts.names;
 /// A text, what stands there, what is put in its first place, and what the complaint names.
 type Damage = (Text, &'static str, &'static str, &'static str);
 
-const DAMAGES: [Damage; 35] = [
+const DAMAGES: [Damage; 42] = [
     // A parameter left out, or one too many.
     (SOURCES, "x : u8 , ", "", "caption_draw_"),
     (HEADER, "uint8_t x , ", "", "caption_draw_point"),
@@ -22,6 +22,10 @@ const DAMAGES: [Damage; 35] = [
     (TABLE, "keys0-7", "keys0-6", "caption_open"),
     (TABLE, "record, memory, const text", "record, memory", "caption_print"),
     (DECLARATIONS, "x : u8 , ", "", "caption_draw_point"),
+    (SOURCES, ", number : u8", "", "caption_send"),
+    (HEADER, ", uint8_t number", "", "caption_send"),
+    (TABLE, "| record, const memory, panel | number |", "| record, const memory, panel | |", "caption_send"),
+    (DECLARATIONS, "number : u8 , ", "", "caption_send"),
     // A length left out, or of another kind.
     (HEADER, "size_t record_len , ", "", "record_len"),
     (HEADER, "size_t record_len", "uint32_t record_len", "record_len"),
@@ -34,6 +38,9 @@ const DAMAGES: [Damage; 35] = [
     (TABLE, "y (i32)", "y", "caption_check_point"),
     (TABLE, "address (u16)", "address (u64)", "caption_paint_bitmap"),
     (DECLARATIONS, "x : i32", "x : u32", "caption_check_point"),
+    (SOURCES, "number : u8", "number : u32", "caption_send"),
+    (HEADER, "uint8_t number", "uint32_t number", "caption_send"),
+    (DECLARATIONS, "number : u8", "number : u32", "caption_send"),
     // Two parameters in each other's place.
     (HEADER, "uint8_t x , uint8_t y", "uint8_t y , uint8_t x", "caption_draw_point"),
     (TABLE, "| x, y, mode |", "| y, x, mode |", "caption_draw_point"),

@@ -98,8 +98,8 @@ fn comments_and_line_ends_stand_anywhere() {
             caption_none(a); caption_none(a)
         typedef struct { uint32_t code; /* 0: done; */ uint32_t value; } caption_value;
         caption_value /* its code, and the value */
-        caption_one(const uint8_t *record, // 170 bytes; (all of it)
-                    size_t record_len /* 170, */,
+        caption_one(const uint8_t *record, // 230 bytes; (all of it)
+                    size_t record_len /* 230, */,
                     int32_t
                     x);";
     let record = Parameter::new("record", Kind::ConstSlice);

@@ -11,13 +11,16 @@ use calls::{Buffers, Call};
 const LONGEST: usize = 4_096;
 const OPEN: Call = Call::Open { graphics_base: 4_096, text_base: 8_192, version: 1, keys: [0; 8] };
 
+/// The panel that the program sends to, and whose pixels and lines it counts.
+pub const SENT_TO: u8 = 0;
+
 /// All that the program prints for this standard input.
 pub fn run_script(script: &[u8]) -> Vec<u8> {
     if script.len() > LONGEST {
         return b"(long)\n".to_vec();
     }
     let mut screen = Buffers::zero();
-    answer(&OPEN, screen.lend());
+    answer(&OPEN, screen.lend(&OPEN));
     let mut printed = String::new();
     for (before, line) in read::lines(script).into_iter().enumerate() {
         printed += &match read::form(line) {
@@ -31,11 +34,11 @@ pub fn run_script(script: &[u8]) -> Vec<u8> {
 
 /// Make the call and say what it answers.
 fn told(call: &Call, screen: &mut Buffers) -> String {
-    let answer = answer(call, screen.lend());
+    let answer = answer(call, screen.lend(call));
     assert!(answer.accepted(), "{call:?} is refused");
     match (call, answer.numbers) {
-        (Call::Send, [0, ..]) => "(idle)\n".into(),
-        (Call::Send, [_, line, left, right]) => format!("(sent {line} {left} {right})\n"),
+        (Call::Send { .. }, [0, ..]) => "(idle)\n".into(),
+        (Call::Send { .. }, [_, line, left, right]) => format!("(sent {line} {left} {right})\n"),
         _ => "(done)\n".into(),
     }
 }
@@ -43,10 +46,9 @@ fn told(call: &Call, screen: &mut Buffers) -> String {
 /// Differing pixels, then L.
 fn end(screen: &mut Buffers) -> String {
     let record = Record::read(&screen.record).expect("calls leave a record that STATE lets pass");
-    let height = |rect: Option<crate::rect::Rect>| rect.map_or(0, |rect| rect.bottom - rect.top);
-    let lines = height(record.owed) + height(record.in_hand);
+    let lines = record.panels[SENT_TO as usize].lines();
     let shown = record.screen(&mut screen.memory);
-    let differing = differing(shown, &screen.panel);
+    let differing = differing(shown, &screen.panels[SENT_TO as usize]);
     format!("(end {differing} {lines})\n")
 }
 

@@ -1,5 +1,6 @@
 //! The grammar of scripts: lines, and the form that a line holds.
 
+use super::SENT_TO;
 use calls::Call;
 
 /// The modes in the order of their numbers.
@@ -20,7 +21,7 @@ pub fn form(line: &[u8]) -> Option<Call> {
     let inner = bracketed(line)?;
     let words: Vec<&[u8]> = inner.split(|byte| *byte == b' ').collect();
     match words[..] {
-        [b"send"] => Some(Call::Send),
+        [b"send"] => Some(Call::Send { number: SENT_TO }),
         [b"poke", address, byte] => {
             Some(Call::WriteByte { address: number(address, 65_535)? as u16, byte: byte_number(byte)? })
         }

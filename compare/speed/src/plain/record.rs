@@ -26,9 +26,12 @@ pub fn valid(record: &[u8]) -> bool {
         && record[CURSOR] <= 2
         && record[VERSION] <= 1
         && rect_valid(record, DIRTY, 256, 256)
-        && rect_valid(record, OWED, 160, 80)
-        && rect_valid(record, IN_HAND, 160, 80)
-        && record[FLAGS..].iter().all(|flag| *flag <= 1)
+        && (0..PANELS).all(|panel| panel_valid(record, panel))
+        && record[FLAGS..FLAGS_END].iter().all(|flag| *flag <= 1)
+}
+
+fn panel_valid(record: &[u8], panel: usize) -> bool {
+    rect_valid(record, owed(panel), 160, 80) && rect_valid(record, in_hand(panel), 160, 80)
 }
 
 fn rect_valid(record: &[u8], place: usize, width: u16, height: u16) -> bool {

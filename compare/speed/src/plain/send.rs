@@ -3,35 +3,39 @@
 use super::record::{store_rect, valid};
 use calls::layout::*;
 
-/// All tests, the next line taken, copied and counted; code, sent, line, left, right.
-pub fn send(record: &mut [u8], memory: &[u8], panel: &mut [u8]) -> [u32; 5] {
-    if record.len() != RECORD || memory.len() != MEMORY || panel.len() != PANEL {
+/// All tests, the next line of the named panel taken, copied and counted; code, sent, line, left,
+/// right.
+pub fn send(record: &mut [u8], memory: &[u8], shown: &mut [u8], number: u8) -> [u32; 5] {
+    if record.len() != RECORD || memory.len() != MEMORY || shown.len() != PANEL {
         return [1, 0, 0, 0, 0];
     }
     if !valid(record) {
         return [2, 0, 0, 0, 0];
     }
-    let mut in_hand = four(record, IN_HAND);
-    if in_hand == [0; 4] {
-        in_hand = four(record, OWED);
-        store_rect(record, OWED, [0; 4]);
+    let panel = number as usize;
+    if panel >= PANELS {
+        return [9, 0, 0, 0, 0];
     }
-    if in_hand == [0; 4] {
+    let mut rect = four(record, in_hand(panel));
+    if rect == [0; 4] {
+        rect = four(record, owed(panel));
+        store_rect(record, owed(panel), [0; 4]);
+    }
+    if rect == [0; 4] {
         return [0; 5];
     }
-    let [left, top, right, bottom] = in_hand;
+    let [left, top, right, bottom] = rect;
     let screen = &memory[word(record, GRAPHICS_BASE) as usize..][..SCREEN];
-    copy_line(screen, panel, top as usize, left as usize, right as usize);
+    copy_line(screen, shown, top as usize, left as usize, right as usize);
     let rest = if top + 1 < bottom { [left, top + 1, right, bottom] } else { [0; 4] };
-    store_rect(record, IN_HAND, rest);
-    count_line(record);
+    store_rect(record, in_hand(panel), rest);
+    count_line(record, panel);
     [0, 1, top as u32, left as u32, right as u32]
 }
 
-fn count_line(record: &mut [u8]) {
-    let sent: &mut [u8] = &mut record[LINES_SENT..][..4];
-    let count = u32::from_le_bytes([sent[0], sent[1], sent[2], sent[3]]);
-    sent.copy_from_slice(&count.saturating_add(1).to_le_bytes());
+fn count_line(record: &mut [u8], panel: usize) {
+    let count = double_word(record, lines_sent(panel)).saturating_add(1);
+    record[lines_sent(panel)..][..4].copy_from_slice(&count.to_le_bytes());
 }
 
 /// The pixels from left to right of a line, from the screen to the panel.

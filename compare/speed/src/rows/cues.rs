@@ -1,4 +1,4 @@
-//! A whole cue: the screen cleared, two lines of text, shown, and brought to the panel. On the Rust
+//! A whole cue: the screen cleared, two lines of text, shown, and brought to one panel. On the Rust
 //! side the reference shows it, and the lines of its dirty area are copied, without any test.
 
 use super::text::{bytes, pairs};
@@ -32,7 +32,7 @@ fn cue(name: &str, text: Vec<u8>, core: Option<Answering>) -> Row {
     let flush = Call::Flush { fonts: FontsLent::whole(vec![]) };
     Row::new(name, rust).with_core(core, opened(), move |core, buffers| {
         for call in black_box(&shown_by_core).iter().chain([&flush]) {
-            core(call, buffers.lend());
+            core(call, buffers.lend(call));
         }
         send_all(core, buffers);
     })
@@ -46,6 +46,8 @@ fn copy_dirty(reference: &mut Reference, panel: &mut [u8]) {
     }
 }
 
+/// To panel 0 alone; the others' sends would cost the same again.
 fn send_all(core: Answering, buffers: &mut Buffers) {
-    while core(&Call::Send, buffers.lend()).is_some_and(|answer| answer.numbers[0] == 1) {}
+    let send = Call::Send { number: 0 };
+    while core(&send, buffers.lend(&send)).is_some_and(|answer| answer.numbers[0] == 1) {}
 }

@@ -67,7 +67,7 @@ fn flush(name: &str, text: &[u8], extra_list: Vec<u8>, core: Option<Answering>) 
         reference.flush_alone();
     });
     Row::new(name, rust).with_core(core, start, move |core, buffers| {
-        black_box(core(black_box(&call_of_core), buffers.lend()));
+        black_box(core(black_box(&call_of_core), buffers.lend(&call_of_core)));
     })
 }
 

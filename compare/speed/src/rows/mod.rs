@@ -24,7 +24,10 @@ pub struct Row {
 
 /// All of them; without a core only the Rust sides.
 pub fn rows(core: Option<Answering>) -> Vec<Row> {
-    let mut rows = vec![set_row(core)];
+    let mut rows = vec![
+        set_row("set_row, plain Rust with its tests", opened(), core),
+        set_row("set_row, all owed, plain Rust with its tests", all_owed(), core),
+    ];
     rows.extend(drawings::rows(core));
     rows.extend(text::rows(core));
     rows.extend(flushes::rows(core));
@@ -76,7 +79,7 @@ impl Row {
         });
         Self::new(name, rust).with_core(core, start, move |core, buffers| {
             on_bytes(buffers);
-            black_box(core(black_box(&call_of_core), buffers.lend()));
+            black_box(core(black_box(&call_of_core), buffers.lend(&call_of_core)));
         })
     }
 }
@@ -93,11 +96,23 @@ fn opened() -> Buffers {
 const SCREEN_BASE: usize = 4096;
 const TEXT_START: usize = 8192;
 
-/// What the tests of a 170-byte record cost: the reference's `set_row` has none.
-fn set_row(core: Option<Answering>) -> Row {
+/// The same with something marked, owed and in hand everywhere, which takes other ways through the
+/// tests.
+fn all_owed() -> Buffers {
+    let mut buffers = opened();
+    plain::store_rect(&mut buffers.record, DIRTY, [1, 2, 200, 100]);
+    for panel in 0..PANELS {
+        plain::store_rect(&mut buffers.record, owed(panel), [0, 0, 160, 80]);
+        plain::store_rect(&mut buffers.record, in_hand(panel), [3, 4, 150, 70]);
+    }
+    buffers
+}
+
+/// What the tests of a record cost: the reference's `set_row` has none.
+fn set_row(name: &str, start: Buffers, core: Option<Answering>) -> Row {
     let mut rows = (0..5).cycle();
     let rust = OnBytes {
-        buffers: opened(),
+        buffers: start.clone(),
         work: move |buffers: &mut Buffers| {
             let row = rows.next().unwrap_or(0);
             black_box(plain::set_row(&mut buffers.record, black_box(row)));
@@ -105,9 +120,10 @@ fn set_row(core: Option<Answering>) -> Row {
     };
     let calls: Vec<Call> = (0..5).map(|row| Call::SetRow { row }).collect();
     let turn = std::cell::Cell::new(0);
-    let row = Row::new("set_row, plain Rust with its tests", rust).limit(limits::ENTRY);
-    row.with_core(core, opened(), move |core, buffers| {
+    let row = Row::new(name, rust).limit(limits::ENTRY);
+    row.with_core(core, start, move |core, buffers| {
         turn.set((turn.get() + 1) % calls.len());
-        black_box(core(black_box(&calls[turn.get()]), buffers.lend()));
+        let call = &calls[turn.get()];
+        black_box(core(black_box(call), buffers.lend(call)));
     })
 }

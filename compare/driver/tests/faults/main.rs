@@ -1,0 +1,137 @@
+//! The judge finds faulty cores, and shows each with a short list. A faulty core here is the
+//! model with something spoiled. The same spoiled model in the place of the model itself, with no
+//! core beside it, is found by what the judge reckons from the list alone.
+
+mod panels;
+
+use calls::layout::*;
+use calls::{Answer, Call, Lent};
+use driver::core_side::Answering;
+use driver::judge::{Judge, Modelling};
+use driver::list::List;
+use driver::random;
+use driver::shrink::shrink;
+use driver::tally::Tally;
+
+/// The first random list that shows a difference, shrunk. A thorough judge compares memory whole
+/// after every call.
+fn found(judge: impl Fn(bool) -> Judge) -> Option<List> {
+    let mut quick = judge(false);
+    let differing =
+        (0..2000).map(random::list).find(|list| quick.judge(list, &mut Tally::default()).is_err())?;
+    shrink(&differing, &mut judge(true)).map(|(list, _)| list)
+}
+
+fn assert_short(list: Option<List>, most_steps: usize) {
+    let list = list.expect("the fault is found");
+    assert!(list.steps.len() <= most_steps, "too long:\n{list}");
+}
+
+/// A core with this fault is found.
+fn assert_found(core: Answering, most_steps: usize) {
+    assert_short(found(|thorough| Judge::new(Some(core), thorough)), most_steps);
+}
+
+/// A model with this fault is found, without a core.
+fn assert_model_found(model: Modelling, most_steps: usize) {
+    assert_short(found(|thorough| Judge::with_model(model, None, thorough)), most_steps);
+}
+
+/// The same bytes, lent on.
+fn again<'a>(lent: &'a mut Lent) -> Lent<'a> {
+    Lent { record: &mut *lent.record, memory: &mut *lent.memory, panel: &mut *lent.panel }
+}
+
+/// The model on the lent bytes, with its answer and what it leaves then spoiled.
+fn spoiled(call: &Call, mut lent: Lent, spoil: impl FnOnce(&mut Answer, Lent)) -> Answer {
+    let mut answer = model::answer(call, again(&mut lent));
+    spoil(&mut answer, lent);
+    answer
+}
+
+fn is_send(call: &Call) -> bool {
+    matches!(call, Call::Send { .. })
+}
+
+#[test]
+fn the_model_itself_is_no_fault() {
+    let honest: Answering = |call, lent| Some(model::answer(call, lent));
+    assert!(found(|thorough| Judge::new(Some(honest), thorough)).is_none());
+}
+
+#[test]
+fn a_send_that_copies_nothing() {
+    fn answer(call: &Call, lent: Lent) -> Answer {
+        let panel = lent.panel.to_vec();
+        spoiled(call, lent, |_, lent| lent.panel.copy_from_slice(&panel))
+    }
+    assert_found(|call, lent| Some(answer(call, lent)), 3);
+    assert_model_found(answer, 3);
+}
+
+#[test]
+fn idle_with_lines_owing() {
+    fn answer(call: &Call, lent: Lent) -> Answer {
+        if is_send(call) { Answer::done([0; 4]) } else { model::answer(call, lent) }
+    }
+    assert_found(|call, lent| Some(answer(call, lent)), 2);
+    assert_model_found(answer, 2);
+}
+
+#[test]
+fn a_made_up_lines_sent_count() {
+    fn answer(call: &Call, lent: Lent) -> Answer {
+        spoiled(call, lent, |answer, lent| {
+            if is_send(call) && answer.accepted() {
+                lent.record[lines_sent(0)] = 7;
+            }
+        })
+    }
+    assert_found(|call, lent| Some(answer(call, lent)), 2);
+    assert_model_found(answer, 2);
+}
+
+#[test]
+fn owed_always_the_whole_screen() {
+    fn answer(call: &Call, lent: Lent) -> Answer {
+        spoiled(call, lent, |answer, lent| {
+            let owed = &mut lent.record[owed(0)..in_hand(0)];
+            if answer.accepted() && *owed != [0; 8] {
+                owed.copy_from_slice(&[0, 0, 0, 0, 160, 0, 80, 0]);
+            }
+        })
+    }
+    assert_found(|call, lent| Some(answer(call, lent)), 82);
+    assert_model_found(answer, 82);
+}
+
+#[test]
+fn a_core_that_refuses_all() {
+    assert_found(|_, _| Some(Answer { code: 2, numbers: [0; 4] }), 1);
+}
+
+#[test]
+fn a_stray_byte_outside_the_windows() {
+    fn answer(call: &Call, lent: Lent) -> Answer {
+        spoiled(call, lent, |answer, lent| {
+            if answer.accepted() && *call == Call::Newline {
+                lent.memory[30_000] ^= 1;
+            }
+        })
+    }
+    assert_found(|call, lent| Some(answer(call, lent)), 2);
+    assert_model_found(answer, 2);
+}
+
+#[test]
+fn a_refusal_that_changes_a_byte() {
+    fn answer(call: &Call, lent: Lent) -> Answer {
+        spoiled(call, lent, |answer, lent| {
+            if answer.code == 4 {
+                lent.record[ROW] ^= 1;
+            }
+        })
+    }
+    assert_found(|call, lent| Some(answer(call, lent)), 2);
+    assert_model_found(answer, 2);
+}
