@@ -1,19 +1,19 @@
 /* A small host: links libcaption.a and shows that the calls of the header are there and do what it says. main goes through a life of the screen: open, a point and
-   its line on the panel, every refusal of every call, a bitmap, a flush, sends until idle, text, cursor and modes.
+   its line on a panel, every refusal of every call, a bitmap, a flush, sends until idle, four panels at paces of their own, text, cursor and modes.
    Prints what it sees and ends with "ok"; the exit status is 0 only then. What it tries is a sample: the proofs and compare/ cover the rest. */
 #include "caption.h"
 #include <stdio.h>
 #include <string.h>
 
-/* the three buffers that a host owns, and copies of them to see what a call changed */
-static uint8_t rec[CAPTION_RECORD_BYTES], memory[CAPTION_MEMORY_BYTES], panel[CAPTION_PANEL_BYTES];
-static uint8_t rec_was[CAPTION_RECORD_BYTES], memory_was[CAPTION_MEMORY_BYTES], panel_was[CAPTION_PANEL_BYTES];
+/* the buffers that a host owns, and copies of them to see what a call changed */
+static uint8_t rec[CAPTION_RECORD_BYTES], memory[CAPTION_MEMORY_BYTES], panels[CAPTION_PANELS][CAPTION_PANEL_BYTES];
+static uint8_t rec_was[CAPTION_RECORD_BYTES], memory_was[CAPTION_MEMORY_BYTES], panels_were[CAPTION_PANELS][CAPTION_PANEL_BYTES];
 static int failures;
 
 static void keep(void) {
     memcpy(rec_was, rec, sizeof rec);
     memcpy(memory_was, memory, sizeof memory);
-    memcpy(panel_was, panel, sizeof panel);
+    memcpy(panels_were, panels, sizeof panels);
 }
 
 static void expect(const char *what, int right) {
@@ -23,16 +23,16 @@ static void expect(const char *what, int right) {
     }
 }
 
-/* code is n, and no byte of the three buffers changed since keep() */
+/* code is n, and no byte of the buffers changed since keep() */
 static void refused(const char *what, uint32_t code, uint32_t n) {
     expect(what, code == n && !memcmp(rec_was, rec, sizeof rec) && !memcmp(memory_was, memory, sizeof memory) &&
-                     !memcmp(panel_was, panel, sizeof panel));
+                     !memcmp(panels_were, panels, sizeof panels));
 }
 
 /* buffers as the calls take them, pointer and length; LESS_..: a byte too few. A pointer is never null, also at length 0 */
 #define R rec, sizeof rec
 #define M memory, sizeof memory
-#define P panel, sizeof panel
+#define P(k) panels[k], sizeof panels[k]
 #define OPEN(r, m, g, t, v) caption_open(r, m, g, t, v, 0, 0, 0, 0, 0, 0, 0, 0)
 #define LESS_RECORD rec, sizeof rec - 1
 #define LESS_MEMORY memory, sizeof memory - 1
@@ -87,10 +87,14 @@ static void refusals(void) {
     refused("blink 1", caption_blink_cursor(R, LESS_MEMORY), 1);
     refused("clear cursor 1", caption_clear_cursor(LESS_RECORD, M), 1);
     refused("dirty 1", caption_take_dirty_area(LESS_RECORD).code, 1);
-    refused("send 1", caption_send(R, M, panel, sizeof panel - 1).code, 1);
+    refused("send 1", caption_send(R, M, panels[3], sizeof panels[3] - 1, 9).code, 1);
+    refused("send 1", caption_send(rec, 170, M, P(0), 9).code, 1);
+    refused("send 9", caption_send(R, M, P(3), 4).code, 9);
+    refused("send 9", caption_send(R, M, P(3), 255).code, 9);
 }
 
-/* STATE, by a row that no screen has: every call but open, which does not read the old record, refuses it, before it looks at the numbers that it is told. */
+/* STATE, by a row that no screen has: every call but open, which does not read the old record, refuses it, before it looks at the numbers that it is told. So does a
+   send, to whatever panel, with a rectangle of panel 3 that ends left of its beginning. */
 static void broken_record(void) {
     rec[CAPTION_AT_ROW] = 5;
     keep();
@@ -116,8 +120,12 @@ static void broken_record(void) {
     refused("blink 2", caption_blink_cursor(R, M), 2);
     refused("clear cursor 2", caption_clear_cursor(R, M), 2);
     refused("dirty 2", caption_take_dirty_area(R).code, 2);
-    refused("send 2", caption_send(R, M, P).code, 2);
+    refused("send 2", caption_send(R, M, P(0), 9).code, 2);
     rec[CAPTION_AT_ROW] = 0;
+    rec[CAPTION_AT_PANEL_3] = 161;
+    keep();
+    refused("send 2, panel 3", caption_send(R, M, P(0), 0).code, 2);
+    rec[CAPTION_AT_PANEL_3] = 0;
 }
 
 /* Byte 0x81 copied at (-1, 0) over a whole byte: pixel 6 set, 0-5 cleared, 7 as it was. A bitmap that lies off the screen or has zero size changes nothing, and a
@@ -153,8 +161,33 @@ static void flush(void) {
 /* What a host must not do: it writes a screen byte itself. Nothing is owed for it, so the sends are idle while the panel differs. */
 static void written_behind(void) {
     memory[4096] ^= 0xff;
-    expect("idle, and not level", !caption_send(R, M, P).sent && panel[0] != memory[4096]);
+    expect("idle, and not level", !caption_send(R, M, P(0), 0).sent && panels[0][0] != memory[4096]);
     memory[4096] ^= 0xff;
+}
+
+static int level(int k) {
+    return !memcmp(panels[k], memory + 4096, sizeof panels[k]);
+}
+
+/* Panel 0 is level, and nothing has been sent to the others. A pixel is owed to each of the four: panel 0 has one line to come, the others all 80. Panel 1 is then
+   sent to twice as often as panels 0 and 3, and panel 2 not at all; each comes level after as many sends as it has lines, whatever the others get between. */
+static void four_panels(void) {
+    static const int round[] = {1, 3, 1, 0};
+    int sent[CAPTION_PANELS] = {0};
+    expect("the last pixel", caption_draw_point(R, M, 159, 79, CAPTION_DRAW_OR) == 0);
+    keep();
+    for (int i = 0; i < 160; i++) {
+        int k = round[i % 4];
+        sent[k] += caption_send(R, M, P(k), (uint8_t)k).sent;
+    }
+    printf("lines sent to the four panels: %d %d %d %d\n", sent[0], sent[1], sent[2], sent[3]);
+    expect("each at its own pace", sent[0] == 1 && sent[1] == 80 && sent[2] == 0 && sent[3] == 40);
+    expect("two are level", level(0) && level(1) && !level(2) && !level(3));
+    expect("panel 2 as it was", !memcmp(rec + CAPTION_AT_PANEL_2, rec_was + CAPTION_AT_PANEL_2, 20) && !memcmp(panels[2], panels_were[2], sizeof panels[2]));
+    for (int k = 2; k < CAPTION_PANELS; k++)
+        while (caption_send(R, M, P(k), (uint8_t)k).sent)
+            sent[k]++;
+    expect("and the others in the end", sent[2] == 80 && sent[3] == 80 && level(2) && level(3));
 }
 
 int main(void) {
@@ -167,21 +200,22 @@ int main(void) {
     expect("dirty", dirty.left == 3 && dirty.top == 0 && dirty.right == 4 && dirty.bottom == 1);
     expect("check", caption_check_point(R, M, 3, 0).value == 1 && caption_check_point(R, M, -1, 0).value == 0);
     /* open owes the whole screen: line 0 comes first, from edge to edge, and has the point */
-    caption_sent s = caption_send(R, M, P);
+    caption_sent s = caption_send(R, M, P(0), 0);
     printf("sent %u %u %u\n", s.line, s.left, s.right);
-    expect("first line", s.sent == 1 && s.line == 0 && s.left == 0 && s.right == 160 && panel[0] == 0x10);
+    expect("first line", s.sent == 1 && s.line == 0 && s.left == 0 && s.right == 160 && panels[0][0] == 0x10);
     refusals();
     broken_record();
     bitmap();
     flush();
-    /* 79 lines of the opening are in hand, and the whole screen is owed for the flush: sends until idle, and the panel is level */
+    /* 79 lines of the opening are in hand of panel 0, and the whole screen is owed for the flush: sends until idle, and the panel is level */
     int more = 0;
-    while ((s = caption_send(R, M, P)).sent)
+    while ((s = caption_send(R, M, P(0), 0)).sent)
         more++;
     printf("%d more lines, then idle\n", more);
     expect("79 more, and the flushed screen", more == 79 + 80 && s.code == 0);
-    expect("level", !memcmp(panel, memory + 4096, sizeof panel));
+    expect("level", level(0));
     written_behind();
+    four_panels();
     /* text, cursor and modes: bytes go into cells, the cursor inverts the next cell and back, a newline moves on, a screen mode clears */
     expect("print", caption_print(R, M, (const uint8_t *)"caption", 7) == 0 && !memcmp(memory + 8192, "caption", 7) && caption_get_column(R).value == 7);
     expect("blink", caption_blink_cursor(R, M) == 0 && memory[4096 + 7] == 0xff && rec[CAPTION_AT_CURSOR] == CAPTION_CURSOR_HALF);

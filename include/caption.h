@@ -1,27 +1,31 @@
 /* The 160 by 80 caption screen: the exported calls of libcaption.a (`rt staticlib caption`).
 
-   A host owns three buffers and lends them to every call that takes them:
+   A host owns these buffers and lends them to every call that takes them:
 
-       record   CAPTION_RECORD_BYTES   the state of one screen; caption_open writes it
+       record   CAPTION_RECORD_BYTES   the state of one screen and of its panels; caption_open writes it
        memory   CAPTION_MEMORY_BYTES   holds the screen, 1,600 bytes from the graphics base, and the text, 100 bytes from the text base
-       panel    CAPTION_PANEL_BYTES    what the glass shows; only caption_send writes it
+       panels   CAPTION_PANEL_BYTES    up to CAPTION_PANELS of them, one for each glass: what it shows; only caption_send writes it
 
    A whole caption:
 
        caption_open(record, sizeof record, memory, sizeof memory, 4096, 8192, CAPTION_V2, 0, 0, 0, 0, 0, 0, 0, 0);
        caption_print(record, sizeof record, memory, sizeof memory, text, text_len);
        caption_flush(record, sizeof record, memory, sizeof memory, .. the fonts ..);
-       while ((s = caption_send(record, sizeof record, memory, sizeof memory, panel, sizeof panel)).sent)
-           .. hand line s.line, pixels s.left to s.right - 1, of panel to the glass ..
+       while ((s = caption_send(record, sizeof record, memory, sizeof memory, panel, sizeof panel, 0)).sent)
+           .. hand line s.line, pixels s.left to s.right - 1, of panel to glass 0 ..
+
+   Panels. One screen is shown on up to four, numbered 0 to 3, and each is polled at its own pace: it has an owed area, a rectangle in hand and a count of lines
+   sent of its own in the record. Every mark goes to all four; a send goes to one and leaves the other three as they are. A panel's buffer belongs to its number from
+   caption_open on. A number that is never sent to costs nothing but its part of the record, where it stays owed; its buffer need not be there.
 
    Pixels. x runs 0-159 to the right, y 0-79 downwards. Pixel (x, y) is bit 0x80 >> x % 8 of byte 20 * y + x / 8, on screen and panel alike.
    Rectangles. left and top are the first column and line, right and bottom the ones after the last: they are not included. Four zeros are the empty rectangle.
-   Marks. A call that draws marks a rectangle: it is joined to the dirty area, which caption_take_dirty_area hands out, and to what the panel is owed, which the
-   sends work off. Dirty has the coordinates as they were told, up to 256, also where a clamped line was drawn at the screen's edge instead. What is owed is brought
+   Marks. A call that draws marks a rectangle: it is joined to the dirty area, which caption_take_dirty_area hands out, and to what each panel is owed, which the
+   sends to it work off. Dirty has the coordinates as they were told, up to 256, also where a clamped line was drawn at the screen's edge instead. What is owed is brought
    to that edge and cut to the screen: it holds every pixel that has changed.
 
-   Nobody but these calls may write the record, the panel, or the screen's bytes in memory. Of a screen byte that the host writes itself nothing is owed, and the
-   sends are idle while the panel differs; caption_write_byte is the way to set one. No send reads the other bytes of memory: the host may put bitmaps there.
+   Nobody but these calls may write the record, the panels, or the screen's bytes in memory. Of a screen byte that the host writes itself nothing is owed, and the
+   sends are idle while the panels differ; caption_write_byte is the way to set one. No send reads the other bytes of memory: the host may put bitmaps there.
 
    Refusals. Every call tests what it is lent and told, and answers CAPTION_DONE or the first refusal that is due, of those named at the call in that order. With
    a refusal no lent byte has changed and all other numbers of the result are 0. A number whose range is not named may be any of its type.
@@ -39,20 +43,22 @@
 #include <stddef.h>
 #include <stdint.h>
 
-#define CAPTION_RECORD_BYTES 170
+#define CAPTION_RECORD_BYTES 230
 #define CAPTION_MEMORY_BYTES 65536
 #define CAPTION_PANEL_BYTES 1600
+#define CAPTION_PANELS 4
 
 /* the code that every call answers. 8 is kept for an ellipse of over 512 steps, and never given: none within the radii takes so many */
 enum caption_code {
     CAPTION_DONE = 0,
-    CAPTION_LENT = 1,   /* the record has not 170 bytes, memory not 65,536, the panel not 1,600, or the extra list no multiple of 6 */
+    CAPTION_LENT = 1,   /* the record has not 230 bytes, memory not 65,536, the panel not 1,600, or the extra list no multiple of 6 */
     CAPTION_STATE = 2,  /* a field of the record is out of its range (enum caption_at) */
     CAPTION_WINDOW = 3, /* graphics base above 63,935, text base above 65,435, or the 1,600 and the 100 bytes from there share a byte */
     CAPTION_VALUE = 4,  /* a row above 4, a column above 19, or a mode, version or fill flag that is not listed */
     CAPTION_SOURCE = 5, /* a bitmap of nonzero size whose source runs past the end of memory */
     CAPTION_RADIUS = 6, /* a radius above 127 */
-    CAPTION_GLYPH = 7   /* a flush would paint a byte past the end of its font */
+    CAPTION_GLYPH = 7,  /* a flush would paint a byte past the end of its font */
+    CAPTION_PANEL = 9   /* a panel's number above 3 */
 };
 
 enum caption_version { CAPTION_V1 = 0, CAPTION_V2 = 1 };
@@ -75,11 +81,14 @@ enum caption_at {
     CAPTION_AT_CURSOR = 8,        /* enum caption_cursor: the one that is shown */
     CAPTION_AT_VERSION = 9,       /* enum caption_version */
     CAPTION_AT_DIRTY = 10,        /* a rectangle, right and bottom up to 256; this and the next two empty, or left < right and top < bottom */
-    CAPTION_AT_OWED = 18,         /* a rectangle, right up to 160, bottom up to 80 */
-    CAPTION_AT_IN_HAND = 26,      /* a rectangle, likewise; its top is the next line to be sent */
-    CAPTION_AT_LINES_SENT = 34,   /* four bytes; stays at 4,294,967,295 once there */
+    CAPTION_AT_OWED = 18,         /* panel 0: a rectangle, right up to 160, bottom up to 80 */
+    CAPTION_AT_IN_HAND = 26,      /* panel 0: a rectangle, likewise; its top is the next line to be sent */
+    CAPTION_AT_LINES_SENT = 34,   /* panel 0: four bytes; stays at 4,294,967,295 once there */
     CAPTION_AT_KEYS = 38,         /* eight words of four bytes: bit a % 32 of word a / 32 makes address a, 0-255, a key address */
-    CAPTION_AT_FLAGS = 70         /* a byte for each text cell, row by row: 1 where it is printed inverse, else 0 */
+    CAPTION_AT_FLAGS = 70,        /* a byte for each text cell, row by row: 1 where it is printed inverse, else 0 */
+    CAPTION_AT_PANEL_1 = 170,     /* panels 1, 2 and 3, twenty bytes each: owed, in hand and lines sent, as panel 0 has them */
+    CAPTION_AT_PANEL_2 = 190,
+    CAPTION_AT_PANEL_3 = 210
 };
 
 typedef struct {
@@ -102,13 +111,13 @@ extern "C" {
 /* ---- begin */
 
 /* Clears memory: 0, but 0x40 in the last byte and 0xff at each key address (keys0 to keys7 are the words of CAPTION_AT_KEYS). Writes the whole record: row and
-   column 0, Text, Normal, no cursor, dirty empty, flags 0, the whole screen owed, nothing in hand, no line sent. The record is not read before, and the panel may
-   hold anything. Refusals: LENT, WINDOW, VALUE (version). */
+   column 0, Text, Normal, no cursor, dirty empty, flags 0; to each panel the whole screen owed, nothing in hand, no line sent. The record is not read before, and
+   the panels may hold anything. Refusals: LENT, WINDOW, VALUE (version). */
 uint32_t caption_open(uint8_t *record, size_t record_len, uint8_t *memory, size_t memory_len, uint16_t graphics_base, uint16_t text_base,
                       uint8_t version, uint32_t keys0, uint32_t keys1, uint32_t keys2, uint32_t keys3, uint32_t keys4, uint32_t keys5,
                       uint32_t keys6, uint32_t keys7);
 
-/* The same with the bases, version and keys of the record; keeps the rectangle in hand and the lines sent. Refusals: LENT, STATE. */
+/* The same with the bases, version and keys of the record; keeps each panel's rectangle in hand and lines sent. Refusals: LENT, STATE. */
 uint32_t caption_reset(uint8_t *record, size_t record_len, uint8_t *memory, size_t memory_len);
 
 /* ---- drawing: Clear, Or and Xor clear, set and invert a pixel; Unknown leaves it, but inverts wherever a horizontal line is drawn */
@@ -210,14 +219,17 @@ uint32_t caption_clear_cursor(uint8_t *record, size_t record_len, uint8_t *memor
 
 /* ---- what changed */
 
-/* The dirty area, up to 256 by 256; it is empty afterwards. What the panel is owed stays. Refusals: LENT, STATE. */
+/* The dirty area, up to 256 by 256; it is empty afterwards. What the panels are owed stays. Refusals: LENT, STATE. */
 caption_area caption_take_dirty_area(uint8_t *record, size_t record_len);
 
-/* One line. With nothing in hand, what is owed is taken in hand, and nothing is owed. With still nothing in hand the answer is idle, four zeros, and nothing
-   changes. Else the pixels left to right - 1 of the top line in hand are copied from the screen as it is now to the panel; other bits of the panel stay. That line
-   is answered and counted, and leaves the rectangle. What is marked meanwhile is owed, and its turn comes when nothing is in hand. So, with no mark between, as many
-   sends as there are lines in hand and owed, 159 at most, make panel and screen equal, and the next one is idle. Refusals: LENT, STATE. */
-caption_sent caption_send(uint8_t *record, size_t record_len, const uint8_t *memory, size_t memory_len, uint8_t *panel, size_t panel_len);
+/* One line to the panel of that number, 0 to 3, whose buffer is lent. Owed, in hand and lines sent are that panel's, and those of the others stay, however often
+   and in whatever order they are sent to. With nothing in hand, what is owed is taken in hand, and nothing is owed. With still nothing in hand the answer is idle,
+   four zeros, and nothing changes. Else the pixels left to right - 1 of the top line in hand are copied from the screen as it is now to the panel; other bits of the
+   panel stay. That line is answered and counted, and leaves the rectangle. What is marked meanwhile is owed, and its turn comes when nothing is in hand. So, with no
+   mark between, as many sends to a panel as it has lines in hand and owed, 159 at most, make it equal to the screen, and the next one is idle.
+   Refusals: LENT, STATE, PANEL. */
+caption_sent caption_send(uint8_t *record, size_t record_len, const uint8_t *memory, size_t memory_len, uint8_t *panel, size_t panel_len,
+                          uint8_t number);
 
 #ifdef __cplusplus
 }

@@ -9,10 +9,10 @@ use Rattle.replay.proofs.checksum.add_record.Statement.{statement}
 use Rattle.replay.proofs.checksum.add_record.Tie as tie
 
 abbrev Inv-loop : tie.InvT-loop
-Inv-loop rec start end sum₀ i₀ sum i = sum < 4294967296
+Inv-loop rec start end others sum₀ i₀ sum i = sum < 4294967296
 
 abbrev μ-loop : tie.MeasureT-loop
-μ-loop rec start end sum₀ i₀ sum i = length rec - i
+μ-loop rec start end others sum₀ i₀ sum i = length rec - i
 
 glass-of-requires : tie.Need-glass-of-requires Inv-loop μ-loop
 glass-of-requires c κs = search needs
