@@ -88,8 +88,8 @@ pub record Fitting (v : Glass) (r : List ℕ) (panels k : ℕ) : Type 0 where
   pub some : k ≤ panels
   pub same : panelsFit (geometry v) r k (panels - k) ≡ panelsFit (geometry v) r 0 (v .panels)
 
-pub fit-starts : (v : Glass) (r : List ℕ) → Fitting v r (v .panels) 0
-fit-starts v r = record { counted = refl; some = omega arith; same = let e : v .panels - 0 ≡ v .panels = omega arith in ap (panelsFit (geometry v) r 0) e }
+pub fit-starts : (v : Glass) (r : List ℕ) (panels : ℕ) → panels ≡ v .panels → Fitting v r panels 0
+fit-starts v r panels c = record { counted = c; some = omega arith; same = let e : panels - 0 ≡ v .panels = omega arith in ap (panelsFit (geometry v) r 0) e }
 
 module _ {v : Glass} {r : List ℕ} {panels k : ℕ} {t : Bool} (i : Fitting v r panels k) (h : k < panels)
     (e : t ≡ pendingFits (geometry v) (pendingOf (geometry v) r (at (geometry v) (panel k)))) where

@@ -1,17 +1,21 @@
-// Document 01's last known picture, run on the core: graphics base 63,935 and radius 127 are accepted, 63,936 and 128 refused.
+// Numbers at their limits, run on the core. Document 01's last known picture: graphics base 63,935 and radius 127 are accepted, 63,936 and 128 refused; and the panels:
+// 3 is accepted, 4 and 255 refused.
 // A line of output is a call, then its answer, 1 if it left all bytes as they were, else 0, and four bytes of memory. The file stdout beside src/ was written by hand, from
 // document 01 and the steps of the source.
 use caption::ellipses;
 use caption::open;
 use caption::points;
+use caption::sends;
 use model::glass::MEMORY_BYTES;
 use model::glass::RECORD_BYTES;
+use model::glass::SCREEN_BYTES;
 
-// Open's graphics base; a circle's radius or an ellipse's two, then the fill flag.
+// Open's graphics base; a circle's radius or an ellipse's two, then the fill flag; a send's panel.
 enum Call {
     Open(u16),
     Circle(u8, u8),
     Ellipse(u8, u8, u8),
+    Send(u8),
 }
 
 fn print_number(n: u64) {
@@ -40,6 +44,10 @@ fn print_call(call: Call) {
             print_byte(ry);
             print_byte(fill);
         }
+        Call::Send(number) => {
+            io::write_all(1, b"send");
+            print_byte(number);
+        }
     }
 }
 
@@ -65,12 +73,16 @@ fn open_at(rec: &mut [u8], memory: &mut [u8], graphics: u16) -> u32 {
 }
 
 // Shapes have their centre at (127, 40).
-fn make_call(rec: &mut [u8], memory: &mut [u8], call: Call) -> u32 {
+fn make_call(rec: &mut [u8], memory: &mut [u8], panel: &mut [u8], call: Call) -> u32 {
     match call {
         Call::Open(graphics) => open_at(rec, memory, graphics),
         Call::Circle(r, fill) => ellipses::caption_draw_circle(rec, memory, 127, 40, r, fill, 1),
         Call::Ellipse(rx, ry, fill) => {
             ellipses::caption_draw_ellipse(rec, memory, 127, 40, rx, ry, fill, 1)
+        }
+        Call::Send(number) => {
+            let s = sends::caption_send(rec, memory, panel, number);
+            s.code
         }
     }
 }
@@ -79,11 +91,15 @@ fn make_call(rec: &mut [u8], memory: &mut [u8], call: Call) -> u32 {
 fn run(call: Call) {
     let mut rec = [0u8; RECORD_BYTES];
     let mut memory = [0u8; MEMORY_BYTES];
+    let mut panel = [255u8; SCREEN_BYTES];
     open_at(&mut rec, &mut memory, 4096);
     let kept_rec = rec;
     let kept_memory = memory;
-    let code = make_call(&mut rec, &mut memory, call);
-    let stays = check::same(&rec, &kept_rec) & check::same(&memory, &kept_memory);
+    let kept_panel = panel;
+    let code = make_call(&mut rec, &mut memory, &mut panel, call);
+    let stays = check::same(&rec, &kept_rec)
+        & check::same(&memory, &kept_memory)
+        & check::same(&panel, &kept_panel);
     print_call(call);
     print_result(code, stays, &memory);
 }
@@ -102,4 +118,7 @@ fn main() {
     run(Call::Open(63936));
     run_radii(0);
     run_radii(1);
+    run(Call::Send(3));
+    run(Call::Send(4));
+    run(Call::Send(255));
 }

@@ -12,7 +12,7 @@ abbrev μ-loop : tie.MeasureT-loop
 μ-loop rec glass panels k₀ k = panels - k
 
 loop-holds : tie.Need-loop-holds Inv-loop μ-loop
-loop-holds c = fit-starts (c .before .args .glass) (c .before .args .rec .now)
+loop-holds c = fit-starts (c .before .args .glass) (c .before .args .rec .now) _ (omega arith)
 
 pending-fits-requires : tie.Need-pending-fits-requires Inv-loop μ-loop
 pending-fits-requires c κs = let s = c .before .before .before in (s .pre .0, (s .pre .1, omega (arith, c .before .loop .inv)))

@@ -13,13 +13,13 @@ glass-of-requires : tie.Need-glass-of-requires
 glass-of-requires c κs = search needs
 
 sub-clear-flags : tie.Need-sub-clear-flags
-sub-clear-flags c = search needs
+sub-clear-flags c = let k = known-glass (c .glass-of .ensures) (c .before .before .pre) in omega (arith, flags-room _ (k .suits), k .suits .is-bytes)
 
 part-clear-flags-start : tie.Need-part-clear-flags-start
-part-clear-flags-start c = search needs
+part-clear-flags-start c = let k = known-glass (c .glass-of .ensures) (c .before .before .pre) in omega (arith, flags-room _ (k .suits), k .suits .is-bytes)
 
 part-clear-flags-end : tie.Need-part-clear-flags-end
-part-clear-flags-end c = let k = known-glass (c .glass-of .ensures) (c .before .before .pre) in omega (arith, flags-room _ (k .suits), k .passing .sized)
+part-clear-flags-end c = let k = known-glass (c .glass-of .ensures) (c .before .before .pre) in omega (arith, flags-room _ (k .suits), k .passing .sized, k .suits .is-bytes)
 
 clear-flags-requires : tie.Need-clear-flags-requires
 clear-flags-requires c κs = search needs
