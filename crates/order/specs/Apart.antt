@@ -13,7 +13,7 @@ use Rattle.model.specs.Geometry.{Geometry}
 use Rattle.model.specs.Glass.{IsGlass}
 use Rattle.model.specs.Memory.{window, withWindow}
 use Rattle.model.specs.Bytes.{rectBytes, rectsBytes, fourBytes, Bytes}
-use Rattle.model.specs.Record.{Pending, panel, at, pendingBytes, bytesOfPending, panelOf, decode, encode, withPanel}
+use Rattle.model.specs.Record.{Pending, panel, at, partIn, pendingBytes, bytesOfPending, nothingPending, partBytes, panelOf, decode, encode, withPanel}
 use Rattle.model.specs.Refusals.{PANEL, refusal}
 use Rattle.model.specs.Marks.{owing}
 use Rattle.model.specs.Sends.{sendPending}
@@ -21,7 +21,7 @@ use Rattle.model.specs.Calls.{Call, send, Lent, takes, refusals, answered, done
 use Rattle.model.specs.Lists.{accepted, Typed, Buffers, panelBuffer, lentToSend, lentTo, givenBack, leaves, marks, effect, affected}
 use Rattle.laws.specs.Memory.{window-other}
 use Rattle.laws.specs.Layout.{length-rects}
-use Rattle.laws.specs.Record.{Passing, has-panel, part-in, put-panel, encode-decode, sized-decode, count-decode}
+use Rattle.laws.specs.Record.{Passing, has-panel, part-in, part-encode, put-panel, sized-panel, encode-decode, sized-decode, count-decode}
 use Rattle.laws.specs.States.{well-formed}
 use Rattle.laws.specs.Bands.{well-send}
 use Rattle.laws.specs.Calls.{Tested, accepted-call, own-decide}
@@ -31,9 +31,11 @@ use Rattle.order.specs.EachCall.{call-step}
 
 -- ---- a send
 
--- what stands after a send to panel j: every window of the record that lies outside panel j's part, all of memory, and the buffer of every other panel are as before
+-- what a send to panel j leaves as it was: every window of the record that lies outside panel j's part, so the part of every other panel; all of memory; the buffer of
+-- every other panel
 pub record SentApart (g : Geometry) (j : ℕ) (b b′ : Buffers) : Type 0 where
   pub outside : (c n : ℕ) → (c + n ≤ at g (panel j)) ⊎ (at g (panel j) + pendingBytes g ≤ c) → window c n (b′ .rec) ≡ window c n (b .rec)
+  pub parts : (k : ℕ) → k < g .panels → k ≢ j → partIn g (panel k) (b′ .rec) ≡ partIn g (panel k) (b .rec)
   pub memory : b′ .memory ≡ b .memory
   pub others : (k : ℕ) → k ≢ j → panelBuffer k b′ ≡ panelBuffer k b
 
@@ -41,7 +43,7 @@ length-pending : (g : Geometry) (p : Pending) → length (p .owed) ≡ g .bands 
 length-pending g p e = omega (arith, length-append (rectsBytes (p .owed)) (rectBytes (p .hand) ++ fourBytes (p .sent)), length-rects (p .owed))
 
 pub send-apart : (g : Geometry) → IsGlass g → (j : ℕ) (b : Buffers) → Bytes (b .rec) → accepted g (send j) (lentToSend j b) → SentApart g j b (leaves g (send j) b)
-unfolding lentTo givenBack done answered
+unfolding lentTo givenBack done answered partBytes
 send-apart g z j b bytes a =
     let l = lentToSend j b in
     let r = b .rec in
@@ -52,12 +54,17 @@ send-apart g z j b bytes a =
     let p = sendPending (panelOf g s j) in
     let w = well-send g (panelOf g s j) (well-formed g r passing .panels j there) in
     let room = part-in g (panel j) (has-panel g j there) in
+    let sized = sized-decode g r (tested .0 .sized) in
+    let sent = sized-panel g j p s sized (omega (arith, count-decode g r)) (w .bands) in
     let put : encode g (withPanel j p s) ≡ withWindow (at g (panel j)) (bytesOfPending p) r =
-    sym (put-panel g j p s z (sized-decode g r (tested .0 .sized)) there (count-decode g r) (w .bands)) ∙ ap (withWindow (at g (panel j)) (bytesOfPending p)) (encode-decode g r passing) in
+    sym (put-panel g j p s z sized there (count-decode g r) (w .bands)) ∙ ap (withWindow (at g (panel j)) (bytesOfPending p)) (encode-decode g r passing) in
     let long = length-pending g p (w .bands) in
     rw (leaves-done g (send j) b a)
     (record {
       outside = λ c n o. ap (window c n) put ∙ window-other (at g (panel j)) (bytesOfPending p) r c n (rw long (omega arith)) (rw long o);
+      parts = λ k h n.
+          part-encode g (withPanel j p s) sent (panel k) (has-panel g k h) ∙ ap bytesOfPending (getD-set-other (s .panels) j k p (nothingPending g) n)
+          ∙ sym (part-encode g s sized (panel k) (has-panel g k h)) ∙ ap (partIn g (panel k)) (encode-decode g r passing);
       memory = refl;
       others = λ k n. getD-set-other (b .panels) j k _ [] n;
     })

@@ -28,7 +28,7 @@ linesIn k b = linesLeft (pendingIn k b)
 abbrev pub screenIn : Buffers → List ℕ
 screenIn b = screenOf base (decode base (b .rec) .head .graphics) (b .memory)
 
--- what is promised of panel k and the bytes b that stand after a list of items, the first of which was lent of the bytes start
+-- what is promised of panel k and the bytes b that stand after a list of items, the first of which was lent what it takes of the bytes start
 pub record Promised (k : ℕ) (start : Buffers) (items : List (Item base)) (b : Buffers) : Type 0 where
   -- the bytes have the lengths that LENT asks for
   pub record-length : length (b .rec) ≡ 230
