@@ -33,12 +33,10 @@ impl Buffers {
         Lent { record: &mut self.record, memory: &mut self.memory, panel }
     }
 
-    /// Become equal to other buffers of the same lengths.
+    /// Become equal to other buffers, whose record and memory have the same lengths.
     pub fn follow(&mut self, other: &Buffers) {
         self.record.copy_from_slice(&other.record);
         self.memory.copy_from_slice(&other.memory);
-        for (panel, same) in self.panels.iter_mut().zip(&other.panels) {
-            panel.copy_from_slice(same);
-        }
+        self.panels.clone_from(&other.panels);
     }
 }

@@ -1,7 +1,7 @@
 //! A list of calls: where it starts, and each call with what it is lent.
 
 use crate::random::Random;
-use calls::layout::{MEMORY, PANEL, RECORD, field};
+use calls::layout::{MEMORY, PANEL, PANELS, RECORD, field};
 use calls::{Buffers, Call};
 use std::fmt;
 
@@ -19,6 +19,8 @@ pub struct Start {
     /// is due.
     pub record: Option<Vec<u8>>,
     pub seed: u64,
+    /// How many panels the unit has: the buffers of the others are empty.
+    pub panels: usize,
 }
 
 #[derive(Debug, Clone, PartialEq, Eq)]
@@ -58,12 +60,15 @@ impl From<Call> for Step {
 impl Start {
     /// A start for a list whose first call is an open.
     pub fn unopened(seed: u64) -> Self {
-        Self { record: None, seed }
+        Self { record: None, seed, panels: PANELS }
     }
 
     pub fn fill(&self, buffers: &mut Buffers) {
         let mut random = Random::new(self.seed);
         let Buffers { record, memory, panels } = buffers;
+        for (number, panel) in panels.iter_mut().enumerate() {
+            panel.resize(if number < self.panels { PANEL } else { 0 }, 0);
+        }
         for bytes in panels.iter_mut().chain([memory, record]) {
             if self.seed == 0 {
                 bytes.fill(0);
@@ -124,6 +129,9 @@ impl fmt::Display for List {
                 write!(f, "  start: bytes of seed {}, a record with", self.start.seed)?;
                 writeln!(f, "{}", fields(record))?;
             }
+        }
+        if self.start.panels < PANELS {
+            writeln!(f, "  a unit with {} panels", self.start.panels)?;
         }
         for (place, step) in self.steps.iter().enumerate() {
             write!(f, "  {place}: {:?}", step.call)?;

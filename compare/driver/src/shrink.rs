@@ -67,9 +67,9 @@ fn simpler(list: &List) -> Vec<List> {
     lists
 }
 
-/// Zeros for bytes of a seed; `panelrun`'s windows and zeros in the fields of a record.
+/// Zeros for bytes of a seed; all panels; `panelrun`'s windows and zeros in the fields of a record.
 fn simpler_starts(start: &Start) -> Vec<Start> {
-    let mut starts = vec![Start { seed: 0, ..start.clone() }];
+    let mut starts = vec![Start { seed: 0, ..start.clone() }, Start { panels: PANELS, ..start.clone() }];
     if let Some(record) = &start.record {
         let mut plain = [0; RECORD];
         plain[GRAPHICS_BASE..ROW].copy_from_slice(&[0, 16, 0, 32]);

@@ -26,6 +26,8 @@ pub struct Tally {
     /// Refused calls between those. What is made after the lists is not counted among the calls.
     pub refused_between: u64,
     pub lists: u64,
+    /// Of these, such of units with fewer than four panels.
+    pub fewer_panels: u64,
 }
 
 /// What the columns of the table mean.
@@ -99,8 +101,9 @@ impl Tally {
         println!("sends: {}", by_panel(&self.sends));
         println!("sends after the lists, until all are idle: {}", by_panel(&self.level_sends));
         println!(
-            "{} lists; {} of {} calls accepted; {} refused calls between the sends after the lists",
+            "{} lists, {} of units with fewer than {PANELS} panels; {} of {} calls accepted; {} refused calls between the sends after the lists",
             self.lists,
+            self.fewer_panels,
             self.accepted(),
             self.calls(),
             self.refused_between

@@ -8,7 +8,6 @@ use native.Mathlib.Omega.{arith}
 use lib.ListN.{length, length-append}
 use lib.Seq.{getD-set-other}
 use borrow.Author.Tests.{ltb-true, le-ltb}
-use Rattle.model.specs.declared.Rect.{Rect}
 use Rattle.model.specs.Geometry.{Geometry}
 use Rattle.model.specs.Glass.{IsGlass}
 use Rattle.model.specs.Memory.{window, withWindow}
@@ -18,7 +17,7 @@ use Rattle.model.specs.Refusals.{PANEL, refusal}
 use Rattle.model.specs.Marks.{owing}
 use Rattle.model.specs.Sends.{sendPending}
 use Rattle.model.specs.Calls.{Call, send, Lent, takes, refusals, answered, done}
-use Rattle.model.specs.Lists.{accepted, Typed, Buffers, panelBuffer, lentToSend, lentTo, givenBack, leaves, marks, effect, affected}
+use Rattle.model.specs.Lists.{accepted, Typed, Buffers, panelBuffer, lentToSend, lentTo, givenBack, leaves, Effect, nothing, marks, opens, sends, effect, affected}
 use Rattle.laws.specs.Memory.{window-other}
 use Rattle.laws.specs.Layout.{length-rects}
 use Rattle.laws.specs.Record.{Passing, has-panel, part-in, part-encode, put-panel, sized-panel, encode-decode, sized-decode, count-decode}
@@ -71,14 +70,22 @@ send-apart g z j b bytes a =
 
 -- ---- a mark
 
--- an accepted call that marks, reset too, leaves the rectangle in hand and the lines sent of every panel
-pub hand-stays : (g : Geometry) (k : ℕ) → k < g .panels → (b : Buffers) → Lendable g (lentToSend k b) → (c : Call) → Typed c → accepted g c (lentTo (takes c) b)
-    → (m : Rect) → effect g k c (lentTo (takes c) b) ≡ marks m
-    → let p = panelOf g (decode g (b .rec)) k in let p′ = panelOf g (decode g (doneOn g c b .rec)) k in (p′ .hand ≡ p .hand) × (p′ .sent ≡ p .sent)
+-- what neither opens nor sends leaves the rectangle in hand and the lines sent
+kept : (g : Geometry) (p : Pending) (e : Effect) → e ≢ opens → e ≢ sends → (affected g p e .hand ≡ p .hand) × (affected g p e .sent ≡ p .sent)
 unfolding affected owing
-hand-stays g k there b q c t a m e =
-    let f = call-step g k there b q c t a .follows .pending ∙ ap (affected g (panelOf g (decode g (b .rec)) k)) e in
-    (ap (λ (p : Pending). p .hand) f, ap (λ (p : Pending). p .sent) f)
+kept g p nothing o s = (refl, refl)
+kept g p (marks m) o s = (refl, refl)
+kept g p opens o s = absurd (o refl)
+kept g p sends o s = absurd (s refl)
+
+-- so every accepted call but open and a send to panel k: every mark, that of reset too, and a send to another panel
+pub hand-stays : (g : Geometry) (k : ℕ) → k < g .panels → (b : Buffers) → Lendable g (lentToSend k b) → (c : Call) → Typed c → accepted g c (lentTo (takes c) b)
+    → effect g k c (lentTo (takes c) b) ≢ opens → effect g k c (lentTo (takes c) b) ≢ sends
+    → let p = panelOf g (decode g (b .rec)) k in let p′ = panelOf g (decode g (doneOn g c b .rec)) k in (p′ .hand ≡ p .hand) × (p′ .sent ≡ p .sent)
+hand-stays g k there b q c t a o s =
+    let f = call-step g k there b q c t a .follows .pending in
+    let e = kept g (panelOf g (decode g (b .rec)) k) (effect g k c (lentTo (takes c) b)) o s in
+    (ap (λ (p : Pending). p .hand) f ∙ e .0, ap (λ (p : Pending). p .sent) f ∙ e .1)
 
 -- ---- a number that names no panel
 

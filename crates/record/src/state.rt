@@ -68,7 +68,7 @@ fn panels_fit(rec: &[u8], glass: Glass) -> bool
     true
 }
 
-// Whether the record, whose head is h, passes STATE.
+// Whether the record, whose head is h, passes STATE. It returns at the first part that fails: tests joined by `&` would keep all their answers at once.
 pub fn is_valid(rec: &[u8], glass: Glass, h: Head) -> bool
     requires { ⌜ Suits glass ⌝ }
     requires { ⌜ (length (now rec) ≡ recordBytes (geometry glass)) × (h ≡ headOf (now rec)) ⌝ }

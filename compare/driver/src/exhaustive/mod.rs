@@ -38,7 +38,8 @@ fn from_record(record: Vec<u8>, steps: impl Iterator<Item = Step>) -> impl Itera
     std::iter::from_fn(move || {
         let part: Vec<Step> = steps.by_ref().take(CALLS).collect();
         seed += 1;
-        (!part.is_empty()).then(|| List { start: Start { record: Some(record.clone()), seed }, steps: part })
+        let start = Start { record: Some(record.clone()), seed, panels: PANELS };
+        (!part.is_empty()).then_some(List { start, steps: part })
     })
 }
 

@@ -15,9 +15,9 @@ const MOST_LINES: u32 = 159;
 const REFUSED: usize = 48;
 
 impl Judge {
-    /// For each panel: L is at most 159 and every differing pixel lies in owed or in hand. Then all
-    /// four are polled, each at its own pace, with refused calls between: the first send that names a
-    /// panel is idle exactly when its L is 0, each lowers the L of its panel by one and leaves the
+    /// For each panel of the unit: L is at most 159 and every differing pixel lies in owed or in hand.
+    /// Then all are polled, each at its own pace, with refused calls between: the first send that names
+    /// a panel is idle exactly when its L is 0, each lowers the L of its panel by one and leaves the
     /// others', and after L of them no pixel of the panel differs.
     pub(super) fn demand3(&mut self, list: &List, tally: &mut Tally) -> Judged<()> {
         let left = self.lines();
@@ -25,9 +25,10 @@ impl Judge {
             if lines > MOST_LINES {
                 return Err(Difference::new(format!("L of panel {panel} is {lines}")));
             }
-            self.check_places(panel)?;
         }
-        self.come_level(left, &mut self.order_of(list), tally)
+        let panels = list.start.panels;
+        (0..panels).try_for_each(|panel| self.check_places(panel))?;
+        self.come_level(panels, left, &mut self.order_of(list), tally)
     }
 
     /// The lines in hand and owed of each panel.
@@ -67,9 +68,16 @@ impl Judge {
         Random::new(record.fold(list.start.seed, |sum, byte| sum.wrapping_mul(31).wrapping_add(*byte as u64)))
     }
 
-    /// Poll until every panel was idle once; so many lines are `left` for each.
-    fn come_level(&mut self, mut left: [u32; PANELS], order: &mut Random, tally: &mut Tally) -> Judged<()> {
+    /// Poll until every one of the panels was idle once; so many lines are `left` for each.
+    fn come_level(
+        &mut self,
+        panels: usize,
+        mut left: [u32; PANELS],
+        order: &mut Random,
+        tally: &mut Tally,
+    ) -> Judged<()> {
         let mut paces = order.paces();
+        paces[panels..].fill(0);
         while paces != [0; PANELS] {
             let panel = order.weighted(&paces);
             if order.one_in(REFUSED) {
@@ -79,7 +87,7 @@ impl Judge {
                 paces[panel] = 0;
             }
         }
-        (0..PANELS).try_for_each(|panel| self.check_level(panel))
+        (0..panels).try_for_each(|panel| self.check_level(panel))
     }
 
     /// One send to this panel; whether it was idle.

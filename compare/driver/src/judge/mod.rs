@@ -80,6 +80,7 @@ impl Judge {
             self.step(step, tally).map_err(|difference| difference.at(place))?;
         }
         tally.lists += 1;
+        tally.fewer_panels += (list.start.panels < PANELS) as u64;
         self.end(list, tally).map_err(|difference| difference.at(list.steps.len()))
     }
 

@@ -4,7 +4,7 @@ use super::Random;
 use super::numbers::{Paces, Windows};
 use crate::list::{Lending, List, Start, Step};
 use calls::Call;
-use calls::layout::{GRAPHICS_BASE, TEXT_BASE, word};
+use calls::layout::{GRAPHICS_BASE, PANELS, TEXT_BASE, word};
 
 /// How often each call comes, by theme, in the order of `Call::NAMES`.
 type Weights = [u8; Call::NAMES.len()];
@@ -20,7 +20,7 @@ const POLLING: Weights = [0, 1, 6, 2, 1, 0, 0, 0, 1, 0, 1, 0, 0, 0, 0, 0, 0, 0, 
 /// The list of this seed.
 pub fn list(seed: u64) -> List {
     let mut random = Random::new(seed);
-    let (start, mut windows, mut steps) = start(&mut random);
+    let (mut start, mut windows, mut steps) = start(&mut random);
     let theme = random.pick(&[EVEN, DRAWING, TEXT, SMALL, CLEARING, POLLING]);
     let paces = random.paces();
     let len = match random.below(4) {
@@ -36,6 +36,9 @@ pub fn list(seed: u64) -> List {
         }
         steps.push(Step { call, lending });
     }
+    if random.one_in(8) {
+        start.panels = random.below(PANELS);
+    }
     List { start, steps }
 }
 
@@ -46,7 +49,7 @@ fn start(random: &mut Random) -> (Start, Windows, Vec<Step>) {
         let record = random.valid_record();
         let windows =
             Windows { graphics_base: word(&record, GRAPHICS_BASE), text_base: word(&record, TEXT_BASE) };
-        return (Start { record: Some(record), seed }, windows, vec![]);
+        return (Start { record: Some(record), seed, panels: PANELS }, windows, vec![]);
     }
     let open = random.accepted_open();
     let Call::Open { graphics_base, text_base, .. } = open else { unreachable!() };
