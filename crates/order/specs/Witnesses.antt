@@ -16,7 +16,7 @@ use Rattle.model.specs.Marks.{owing, joinOwed}
 use Rattle.model.specs.Open.{isKey, withKeys, clearMemory, openPending, openState}
 use Rattle.model.specs.Sends.{sendPending, takeOwed, firstOwed, restOwed, lineSent, nextLine}
 use Rattle.model.specs.Calls.{Call, opening, cls, send, lent, answered, done}
-use Rattle.model.specs.Lists.{accepted, Typed, Item, here, Buffers, buffers, panelBuffer, lentTo, givenBack, after, run, effect, affected, effectAt, itemEffect, reckoned, owedLines, linesLeft, differs, sum, differing}
+use Rattle.model.specs.Lists.{accepted, Typed, Item, here, Buffers, buffers, panelBuffer, lentTo, givenBack, leaves, after, run, effect, affected, effectAt, itemEffect, reckoned, owedLines, linesLeft, differs, sum, differing}
 use Rattle.model.specs.Script.Output.{noKeys}
 use Rattle.laws.specs.Glasses.{base-glass}
 use Rattle.laws.specs.Loops.{length-zeros}
@@ -25,6 +25,7 @@ use Rattle.laws.specs.Record.{decode-encode}
 use Rattle.laws.specs.Counts.{byteDiffers, bytesDiffer, differing-bytes}
 use Rattle.order.specs.Accepted.{acceptedCall, acceptedCalls, named, leaves-done}
 use Rattle.order.specs.Opens.{open-formed}
+use Rattle.order.specs.Apart.{SentApart, send-apart}
 use Rattle.order.specs.Order.{Standing, standing-item, standing-opened, sendable}
 use Rattle.order.specs.Theorem.{linesIn, screenIn, Promised, calls-in-any-order}
 
@@ -102,6 +103,17 @@ module _ (graphics text version : ℕ) (keys : List ℕ) (t : Typed (opening gra
     pub opened-lines : (k : ℕ) → k < 4 → linesIn k opened ≡ 80
     unfolding run lentTo reckoned itemEffect effectAt effect affected openPending nothingPending owing joinOwed join cut isEmpty linesLeft owedLines
     opened-lines k there = ap linesLeft (calls-in-any-order k there graphics text version keys t r m ps a (all k there) [] .pending) ∙ rw a refl
+
+    -- a send to panel 1 takes one of its lines, and touches nothing of the others
+    pub one-sent : let b = leaves base (send 1) opened in (linesIn 1 b ≡ 79) × SentApart base 1 opened b
+    unfolding run after sendsTo named
+    one-sent =
+        let h : Panels (1 ∷ []) = (omega arith, tt) in
+        let s = standing-opened base 1 (omega arith) base-glass graphics text version keys t start a (all 1 (omega arith)) [] in (
+          calls-in-any-order 1 (omega arith) graphics text version keys t r m ps a (all 1 (omega arith)) [] .lines (sendsTo (1 ∷ []) h) (1 ∷ []) (any-sends (1 ∷ []) h)
+              ∙ omega (arith, opened-lines 1 (omega arith)),
+          send-apart base base-glass 1 opened (s .lendable .passing .bytes) (sendable base 1 (omega arith) opened s),
+        )
 
     -- eighty rounds of sends to panels 3, 0 and 1: panel 0 is level, panel 2, which none of them names, has its 80 lines still to come
     pub polled-between : let b = run base opened (sendsTo (rounds 80) (round-panels 80)) in (differing base (screenIn b) (panelBuffer 0 b) ≡ 0) × (linesIn 2 b ≡ 80)

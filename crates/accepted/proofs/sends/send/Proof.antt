@@ -1,3 +1,4 @@
+-- What the record gives is idle or a line; that line lies on the screen, so it can be copied.
 use native.Mathlib.Omega.{arith}
 use Rattle.record.proofs.Drawing.{screen-room}
 use Rattle.accepted.proofs.Sending.{idles, may-copy, sends-line}

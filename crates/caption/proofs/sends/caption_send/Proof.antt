@@ -1,3 +1,4 @@
+-- Three ends: refused at the entry, no such panel, and what a send to that panel does.
 use mathlib.Core.Path.{refl, ap}
 use mathlib.Core.List.{[]}
 use native.Mathlib.Omega.{arith}

@@ -1,3 +1,4 @@
+-- The bands before have passed, so what is left decides the whole; one that fails decides it at once.
 use Rattle.laws.specs.Owed.{Testing, test-starts, test-goes, test-fails, test-ends, band-in}
 use native.Mathlib.Omega.{arith}
 use borrow.Author.Needs.{needs}

@@ -1,3 +1,4 @@
+-- Head, panels, flags: the first that fails decides, and where head and panels pass the flags do.
 use native.Mathlib.Omega.{arith}
 use Rattle.laws.specs.StateTest.{flags-room, flags-sized, head-fails, panel-fails, flags-decide}
 use borrow.Author.Needs.{needs}

@@ -1,3 +1,4 @@
+-- The panels before k have passed, so what is left decides the whole; one that fails decides it at once.
 use borrow.Author.Needs.{needs}
 use Prim.Native.Nat.{_-_}
 use native.Mathlib.Omega.{arith}

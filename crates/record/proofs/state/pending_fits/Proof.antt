@@ -1,3 +1,4 @@
+-- What is owed fails, or what is in hand decides.
 use native.Mathlib.Omega.{arith}
 use Rattle.laws.specs.Panels.{join-room, hand-room}
 use Rattle.laws.specs.StateTest.{pending-fails, pending-is}

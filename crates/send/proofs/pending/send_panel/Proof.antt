@@ -1,3 +1,4 @@
+-- The panel's part has its room in the record; what is taken in hand is then empty, and the record stays, or a line of it is counted.
 use native.Mathlib.Omega.{arith}
 use Prim.Native.Nat.{ℕ, _+_, min}
 use mathlib.Core.Path.{ap, _∙_}
