@@ -16,7 +16,7 @@
 
    Panels. One screen is shown on up to four, numbered 0 to 3, and each is polled at its own pace: it has an owed area, a rectangle in hand and a count of lines
    sent of its own in the record. Every mark goes to all four; a send goes to one and leaves the other three as they are. A panel's buffer belongs to its number from
-   caption_open on. A number that is never sent to costs nothing but its part of the record, where it stays owed; its buffer need not be there.
+   caption_open on. A number that is never sent to stays owed in its part of the record; its buffer need not be there.
 
    Pixels. x runs 0-159 to the right, y 0-79 downwards. Pixel (x, y) is bit 0x80 >> x % 8 of byte 20 * y + x / 8, on screen and panel alike.
    Rectangles. left and top are the first column and line, right and bottom the ones after the last: they are not included. Four zeros are the empty rectangle.
@@ -34,7 +34,7 @@
    with any other buffer of the same call (a text or a font inside memory does). Buffers lent as `const` may share bytes with each other.
 
    Threads. There is no global data, no heap, no lock and no system call: calls on different buffers may run at the same time. Calls that share a buffer may not,
-   unless it is `const` in all of them.
+   unless it is `const` in all of them; so sends to two panels of one screen, which share its record, may not either.
    Stack. caption_paint_bitmap takes 8.5 KB, any other call less than 600 bytes (measured over random calls; docs/CALLS.md). No proof covers the stack.
    Target. x86-64 Linux, position independent; of the C library memcpy and memset. */
 #ifndef CAPTION_H

@@ -9,7 +9,7 @@ use lib.Dec.{eqb, ltb}
 use lib.ListN.{length}
 use Rattle.model.specs.declared.Head.{Head}
 use Rattle.model.specs.declared.glass.Glass.{Glass}
-use Rattle.model.specs.Geometry.{Geometry, rows, columns, screenBytes}
+use Rattle.model.specs.Geometry.{Geometry, screenBytes}
 use Rattle.model.specs.Glass.{geometry, glassOf}
 use Rattle.model.specs.Record.{decode, encode, withHead}
 use Rattle.model.specs.Refusals.{Test, test, refusal, ruled}
@@ -129,35 +129,17 @@ stores-head f {r = r} {m} {p} i z q t =
     let g = glassOf (length r) in
     λ j. lent ((t ∙ ap (λ (x : Head). encode g (withHead x (decode g r))) (q ∙ ap f (i .head z))) j) m p
 
--- ---- a place beyond the rows or columns of the glass, or on it; a panel beyond its panels, or one of them
+-- ---- a number against a limit of the glass: its rows, its columns, its panels
 
-module _ {n : ℕ} {v : Glass} (k : Chosen n v) where
-  row-of : v .rows ≡ rows (glassOf n)
-  row-of = k .suits .is-rows ∙ ap rows (k .glass)
+module _ {n : ℕ} {v : Glass} (k : Chosen n v) (f : Geometry → ℕ) {limit : ℕ} (e : limit ≡ f (geometry v)) where
+  limit-of : limit ≡ f (glassOf n)
+  limit-of = e ∙ ap f (k .glass)
 
-  column-of : v .columns ≡ columns (glassOf n)
-  column-of = k .suits .is-columns ∙ ap columns (k .glass)
+  pub beyond : (i : ℕ) → limit ≤ i → ltb i (f (glassOf n)) ≡ false
+  beyond i h = le-ltb i (f (glassOf n)) (rw (← limit-of) h)
 
-  pub no-row : (i : ℕ) → v .rows ≤ i → ltb i (rows (glassOf n)) ≡ false
-  no-row i h = le-ltb i (rows (glassOf n)) (rw (← row-of) h)
-
-  pub a-row : (i : ℕ) → i < v .rows → ltb i (rows (glassOf n)) ≡ true
-  a-row i h = lt-ltb i (rows (glassOf n)) (rw (← row-of) h)
-
-  pub no-column : (i : ℕ) → v .columns ≤ i → ltb i (columns (glassOf n)) ≡ false
-  no-column i h = le-ltb i (columns (glassOf n)) (rw (← column-of) h)
-
-  pub a-column : (i : ℕ) → i < v .columns → ltb i (columns (glassOf n)) ≡ true
-  a-column i h = lt-ltb i (columns (glassOf n)) (rw (← column-of) h)
-
-  panels-of : v .panels ≡ glassOf n .panels
-  panels-of = ap (λ (g : Geometry). g .panels) (k .glass)
-
-  pub no-panel : (i : ℕ) → v .panels ≤ i → ltb i (glassOf n .panels) ≡ false
-  no-panel i h = le-ltb i (glassOf n .panels) (rw (← panels-of) h)
-
-  pub a-panel : (i : ℕ) → i < v .panels → ltb i (glassOf n .panels) ≡ true
-  a-panel i h = lt-ltb i (glassOf n .panels) (rw (← panels-of) h)
+  pub below : (i : ℕ) → i < limit → ltb i (f (glassOf n)) ≡ true
+  below i h = lt-ltb i (f (glassOf n)) (rw (← limit-of) h)
 
 -- ---- a send: the panel's length is the glass's
 

@@ -1,5 +1,5 @@
--- Accepted speaks of the accepted calls of a list; Held of one panel and of effects on it, over any geometry; Step to EachCall of the calls; Order of
--- lists. Theorem is what a reader wants; Witnesses shows that it is not about nothing.
+-- Accepted speaks of the accepted calls of a list; Held of one panel and of effects on it, over any geometry; Step to EachCall of the calls; Apart of
+-- what belongs to one panel alone; Order of lists. Theorem is what a reader wants; Witnesses shows that it is not about nothing.
 pub mod Accepted
 pub mod Held
 pub mod Step

@@ -36,10 +36,12 @@ accepted-open r m hr hm = own-decide base (opening 4096 8192 1 noKeys) (lent r m
 
 -- ---- sends to any panels that there are
 
+-- each is the number of a panel
 abbrev pub Panels : List ℕ → Type 0
 Panels [] = Unit {0}
 Panels (j ∷ js) = (j < 4) × Panels js
 
+-- a send to each of them, in this order
 unfoldable pub sendsTo : (js : List ℕ) → Panels js → List (Item base)
 sendsTo [] h = []
 sendsTo (j ∷ js) h = here (send j) (omega (arith, h .0)) ∷ sendsTo js (h .1)

@@ -9,12 +9,13 @@ use Rattle.model.specs.declared.Rect.{Rect}
 use Rattle.model.specs.Geometry.{base}
 use Rattle.model.specs.Pixels.{PixelWrite, bit}
 use Rattle.model.specs.Rects.{none}
-use Rattle.model.specs.Memory.{screenOf, withScreen}
+use Rattle.model.specs.Memory.{withScreen}
 use Rattle.model.specs.Bytes.{Bytes}
 use Rattle.model.specs.Record.{Pending, State, panelOf, decode, encode, valid, withHead, withPanels}
 use Rattle.model.specs.Marks.{withDirty}
 use Rattle.model.specs.Calls.{Call, Lent, Outcome, outcome}
 use Rattle.laws.specs.Pixels.{Each}
+use Rattle.order.specs.Step.{screenHeld}
 
 abbrev pub rect : ℕ → ℕ → ℕ → ℕ → Rect
 rect left top right bottom = record { left = left; top = top; right = right; bottom = bottom }
@@ -49,7 +50,7 @@ abbrev pub graphicsIn : Lent → ℕ
 graphicsIn l = decode base (l .rec) .head .graphics
 
 abbrev pub screenIn : Lent → List ℕ
-screenIn l = screenOf base (graphicsIn l) (l .memory)
+screenIn l = screenHeld base l
 
 -- the record passes STATE, its dirty and each panel's owed are empty, and the memory has its length
 pub record Unmarked (l : Lent) : Type 0 where

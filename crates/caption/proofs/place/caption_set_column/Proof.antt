@@ -1,10 +1,11 @@
 use native.Mathlib.Omega.{arith}
 use mathlib.Core.Path.{refl, ap}
 use mathlib.Core.List.{[]}
+use Rattle.model.specs.Geometry.{columns}
 use Rattle.model.specs.Refusals.{VALUE}
 use Rattle.model.specs.Text.{withColumn}
 use Rattle.model.specs.Calls.{answered, done}
-use Rattle.caption.proofs.Calls.{fails, passes, none-left, stops, stops-later, finishes, stores-head, no-column, a-column}
+use Rattle.caption.proofs.Calls.{fails, passes, none-left, stops, stops-later, finishes, stores-head, beyond, below}
 use borrow.Author.Needs.{needs}
 use Rattle.caption.proofs.place.caption_set_column.Statement.{statement}
 use Rattle.caption.proofs.place.caption_set_column.Tie as tie
@@ -25,7 +26,7 @@ same-length-2 : tie.Need-same-length-2
 same-length-2 c = search needs
 
 returns-2 : tie.Need-returns-2
-returns-2 c = stops-later _ _ refl (c .before .before .before .before .enter .ensures) (c .before .before .before .if1 .left) VALUE (fails [] (no-column (c .before .before .glass-of .ensures) _ (c .if2 .taken))) (λ z. omega arith)
+returns-2 c = stops-later _ _ refl (c .before .before .before .before .enter .ensures) (c .before .before .before .if1 .left) VALUE (fails [] (beyond (c .before .before .glass-of .ensures) columns (c .before .before .glass-of .ensures .suits .is-columns) _ (c .if2 .taken))) (λ z. omega arith)
 
 with-column-requires : tie.Need-with-column-requires
 with-column-requires c κs = search needs
@@ -38,7 +39,7 @@ same-length-3 c = search needs
 
 returns-3 : tie.Need-returns-3
 unfolding done
-returns-3 c = finishes _ _ refl (c .before .before .before .before .before .before .before .before .before .enter .ensures) (c .before .before .before .before .before .before .before .before .if1 .left) (passes VALUE [] (a-column (c .before .before .before .before .before .before .before .glass-of .ensures) _ (c .before .before .before .before .before .if2 .left)) none-left) (ap (answered 0 []) (stores-head (withColumn (c .before .before .before .before .before .before .before .before .before .before .before .before .args .column)) (c .before .before .before .before .before .before .before .before .before .enter .ensures) (c .before .before .before .before .before .before .before .before .if1 .left) (c .before .before .before .with-column .ensures) (c .before .before .set-head .ensures)))
+returns-3 c = finishes _ _ refl (c .before .before .before .before .before .before .before .before .before .enter .ensures) (c .before .before .before .before .before .before .before .before .if1 .left) (passes VALUE [] (below (c .before .before .before .before .before .before .before .glass-of .ensures) columns (c .before .before .before .before .before .before .before .glass-of .ensures .suits .is-columns) _ (c .before .before .before .before .before .if2 .left)) none-left) (ap (answered 0 []) (stores-head (withColumn (c .before .before .before .before .before .before .before .before .before .before .before .before .args .column)) (c .before .before .before .before .before .before .before .before .before .enter .ensures) (c .before .before .before .before .before .before .before .before .if1 .left) (c .before .before .before .with-column .ensures) (c .before .before .set-head .ensures)))
 
 pub caption-set-column-spec : {M : Type 1} → statement M
 caption-set-column-spec =

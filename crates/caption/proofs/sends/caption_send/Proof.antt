@@ -5,7 +5,7 @@ use native.Mathlib.Omega.{arith}
 use Rattle.model.specs.declared.Sent.{Sent}
 use Rattle.model.specs.Refusals.{PANEL}
 use Rattle.model.specs.Calls.{sentNumbers}
-use Rattle.caption.proofs.Calls.{as-answered, fails, passes, none-left, stops, stops-later, ends, no-panel, a-panel, entered-panel, given-panel}
+use Rattle.caption.proofs.Calls.{as-answered, fails, passes, none-left, stops, stops-later, ends, beyond, below, entered-panel, given-panel}
 use borrow.Author.Needs.{needs}
 use Rattle.caption.proofs.sends.caption_send.Statement.{statement}
 use Rattle.caption.proofs.sends.caption_send.Tie as tie
@@ -43,7 +43,7 @@ returns-2 c =
     let g = c .before .before .before .before .before .before .before .glass-of .ensures in
     let n = entered-panel (a .memory .now) (a .panel .now) g (c .before .before .before .before .enter .ensures) in
     as-answered _ (ap (λ (s : Sent). s .code) (c .no-line2 .ensures)) (ap sentNumbers (c .no-line2 .ensures))
-    (stops-later _ _ refl n (c .before .before .before .if1 .left) PANEL (fails [] (no-panel g (a .number) (omega (arith, c .before .if2 .taken)))) (λ z. omega arith))
+    (stops-later _ _ refl n (c .before .before .before .if1 .left) PANEL (fails [] (beyond g (λ x. x .panels) refl (a .number) (omega (arith, c .before .if2 .taken)))) (λ z. omega arith))
 
 send-requires : tie.Need-send-requires
 send-requires c κs =
@@ -63,7 +63,7 @@ returns-3 c =
     let a = c .before .before .before .before .before .before .before .before .before .before .before .before .before .before .before .before .before .args in
     let g = c .before .before .before .before .before .before .before .before .before .before .before .before .before .glass-of .ensures in
     let n = entered-panel (a .memory .now) (a .panel .now) g (c .before .before .before .before .before .before .before .before .before .before .enter .ensures) in
-    ends _ _ refl n (c .before .before .before .before .before .before .before .before .before .if1 .left) g (passes PANEL [] (a-panel g (a .number) (omega (arith, c .before .before .before .before .before .before .before .if2 .left))) none-left) (c .before .before .before .before .send .ensures)
+    ends _ _ refl n (c .before .before .before .before .before .before .before .before .before .if1 .left) g (passes PANEL [] (below g (λ x. x .panels) refl (a .number) (omega (arith, c .before .before .before .before .before .before .before .if2 .left))) none-left) (c .before .before .before .before .send .ensures)
 
 pub caption-send-spec : {M : Type 1} → statement M
 caption-send-spec =
