@@ -18,9 +18,10 @@ use Rattle.model.specs.declared.CellKind.{CellKind}
 use Rattle.model.specs.declared.Shown.{Shown}
 use Rattle.model.specs.Rects.{every}
 use Rattle.model.specs.Bytes.{two, four}
-use Rattle.model.specs.Codes.{CodeRow, emojiRows, inRow, indexIn, emojiIndex, gbRow, gbIndex, extraFrom, extraOffset}
+use Rattle.model.specs.Codes.{CodeRow, emojiRows, inRow, indexIn, emojiIndex, gbLead, gbRow, gbIndex, extraFrom, extraOffset}
 use Rattle.model.specs.Glyphs.{Fonts, digit, glyphOr, glyphOf}
 use Rattle.model.specs.Flush.{isLast, kindOf, shownAt, nextSpot, spot, walk}
+use Rattle.laws.specs.Glyphs.{gb-lead-range}
 use Rattle.laws.specs.Tests.{tests, all-true, and-true, if-cases}
 use Rattle.flush.specs.Fits.{codeFits, glyphFits, kindFits, walkFits, textFits, entriesFitFrom, entriesFit, wholeFonts}
 
@@ -52,8 +53,9 @@ emoji-below (suc n) lead trail = index-below (emojiRows 1) 0 lead trail 527 (ome
 pub gb-below : (lead trail : ℕ) → below (gbIndex lead trail) 7614
 unfolding gbIndex
 gb-below lead trail =
-    if-cases (λ (x : Found). below x 7614) (every (leb 161 lead ∷ leb lead 247 ∷ leb 161 trail ∷ leb trail 254 ∷ []))
-    (λ e. let a = all-true (leb 161 lead ∷ leb lead 247 ∷ leb 161 trail ∷ leb trail 254 ∷ []) e in
+    if-cases (λ (x : Found). below x 7614) (every (gbLead lead ∷ leb 161 trail ∷ leb trail 254 ∷ []))
+    (λ e. let a = all-true (gbLead lead ∷ leb 161 trail ∷ leb trail 254 ∷ []) e in
+    let h = gb-lead-range lead (a .0) in
     let r : gbRow (lead - 161) ≤ 80 = if-cases (λ (k : ℕ). k ≤ 80) (ltb 8 (lead - 161)) (λ t. omega (arith, tests)) (λ t. omega (arith, tests)) in
     omega (arith, tests))
     (λ e. tt)

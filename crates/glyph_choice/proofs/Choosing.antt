@@ -1,6 +1,6 @@
 -- The choice of a glyph: rows of emoji, the test of a GB code, the extra list, one source after another.
 use mathlib.Core.Path.{_≡_, refl, sym, ap, _∙_}
-use mathlib.Core.Bool.{true, false, _&&_}
+use mathlib.Core.Bool.{Bool, true, false, _&&_}
 use mathlib.Core.List.{List, [], _∷_}
 use Prim.Native.Nat.{ℕ, zero, suc, _+_, _-_, _*_, _/_, _≤_, _<_}
 use native.Mathlib.Omega.{arith}
@@ -9,11 +9,11 @@ use lib.Dec.{leb}
 use lib.ListN.{length}
 use Rattle.model.specs.declared.Found.{Found}
 use Rattle.model.specs.declared.Found.the-variants.{At, Nothing}
-use Rattle.model.specs.Codes.{CodeRow, emojiRows, inRow, indexIn, emojiIndex, gbRow, gbIndex, extraFrom, extraOffset}
+use Rattle.model.specs.Codes.{CodeRow, emojiRows, inRow, indexIn, emojiIndex, gbLead, gbRow, gbIndex, extraFrom, extraOffset}
 use Rattle.model.specs.declared.Glyph.{Glyph}
 use Rattle.model.specs.declared.Glyph.the-variants.{Emoji, Gb, Extra, Hexadecimal}
 use Rattle.model.specs.Glyphs.{glyphOr, glyphOf}
-use Rattle.laws.specs.Glyphs.{found-at, found-nothing}
+use Rattle.laws.specs.Glyphs.{gb-lead-range, found-at, found-nothing}
 use Rattle.glyph_choice.specs.Choice.{extraGlyph, otherGlyph}
 use Rattle.laws.specs.Tests.{tests, all-true}
 
@@ -37,17 +37,18 @@ unfolding emojiIndex
 no-emoji zero lead trail h = above-none (emojiRows 0) 0 lead trail (omega arith)
 no-emoji (suc n) lead trail h = above-none (emojiRows 1) 0 lead trail (omega arith)
 
-pub gb-from : (lead trail : ℕ) → (((leb 161 lead && leb lead 247) && leb 161 trail) && leb trail 254) ≡ true → (161 ≤ lead) × (161 ≤ trail)
-gb-from lead trail e = let a = all-true (leb 161 lead ∷ leb lead 247 ∷ leb 161 trail ∷ leb trail 254 ∷ []) e in (omega (arith, tests), omega (arith, tests))
+-- b is the test of the lead
+module _ {b : Bool} (lead trail : ℕ) (e : b ≡ gbLead lead) where
+  pub gb-from : ((b && leb 161 trail) && leb trail 254) ≡ true → (161 ≤ lead) × (161 ≤ trail)
+  gb-from t = let a = all-true (b ∷ leb 161 trail ∷ leb trail 254 ∷ []) t in (gb-lead-range lead (sym e ∙ a .0) .0, omega (arith, tests))
 
-pub gb-here : {f : Found} (lead trail : ℕ) → (((leb 161 lead && leb lead 247) && leb 161 trail) && leb trail 254) ≡ true
-    → f ≡ At (94 * gbRow (lead - 161) + (trail - 161)) → f ≡ gbIndex lead trail
-unfolding gbIndex
-gb-here lead trail e h = rw e h
+  pub gb-here : {f : Found} → ((b && leb 161 trail) && leb trail 254) ≡ true → f ≡ At (94 * gbRow (lead - 161) + (trail - 161)) → f ≡ gbIndex lead trail
+  unfolding gbIndex
+  gb-here t h = rw (← e, t) h
 
-pub gb-none : (lead trail : ℕ) → (((leb 161 lead && leb lead 247) && leb 161 trail) && leb trail 254) ≡ false → Nothing ≡ gbIndex lead trail
-unfolding gbIndex
-gb-none lead trail e = rw e
+  pub gb-none : ((b && leb 161 trail) && leb trail 254) ≡ false → Nothing ≡ gbIndex lead trail
+  unfolding gbIndex
+  gb-none t = rw (← e, t)
 
 -- ---- the extra list: the first match, or none
 

@@ -3,7 +3,7 @@ use model::Found;
 use model::Glyph;
 ghost use mathlib.Core.Path.{_≡_};
 ghost use Prim.Native.Nat.{_+_, _-_, _*_, _≤_};
-ghost use Rattle.model.specs.Codes.{codes, emojiRows, inRow, indexIn, emojiIndex, gbRow, gbIndex, extraOffset};
+ghost use Rattle.model.specs.Codes.{codes, emojiRows, inRow, indexIn, emojiIndex, gbLead, gbRow, gbIndex, extraOffset};
 ghost use Rattle.model.specs.Glyphs.{glyphOf};
 ghost use Rattle.glyph_choice.specs.Choice.{extraGlyph, otherGlyph};
 
@@ -87,7 +87,14 @@ fn emoji_index(version: u8, lead: u8, trail: u8) -> Found
     index_v2(lead, trail)
 }
 
-// Rows 10-15 have the glyphs of rows 4-9.
+// A lead of GB's rows 1-9 and 16-87.
+fn gb_lead(lead: u8) -> bool
+    ensures { λ r. ⌜ r ≡ gbLead lead ⌝ }
+{
+    ((161 <= lead) & (lead <= 169)) | ((176 <= lead) & (lead <= 247))
+}
+
+// Row 16 follows row 9 in the font.
 fn gb_row(s: usize) -> usize
     ensures { λ r. ⌜ (r ≡ gbRow s) × (r ≤ s) ⌝ }
 {
@@ -105,7 +112,7 @@ fn gb_place(lead: u8, trail: u8) -> Found
 fn gb_index(lead: u8, trail: u8) -> Found
     ensures { λ r. ⌜ r ≡ gbIndex lead trail ⌝ }
 {
-    if (((161 <= lead) & (lead <= 247)) & (161 <= trail)) & (trail <= 254) {
+    if (gb_lead(lead) & (161 <= trail)) & (trail <= 254) {
         return gb_place(lead, trail);
     }
     Found::Nothing

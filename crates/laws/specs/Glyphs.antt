@@ -1,6 +1,6 @@
 -- Glyphs: where a code's glyph stands, and how its bytes are stored on the screen.
 use mathlib.Core.Path.{_≡_, refl, sym, ap, _∙_}
-use mathlib.Core.Bool.{Bool, true, false, _&&_, and-assoc, and-true}
+use mathlib.Core.Bool.{Bool, true, false, _&&_, _||_, and-assoc, and-true}
 use mathlib.Core.List.{List, [], _∷_, _++_}
 use Prim.Native.Nat.{ℕ, zero, suc, _+_, _-_, _≤_, _<_, _*_}
 use native.Mathlib.Omega.{arith}
@@ -14,9 +14,9 @@ use Rattle.model.specs.declared.Found.{Found}
 use Rattle.model.specs.declared.Found.the-variants.{At, Nothing}
 use Rattle.model.specs.declared.Glyph.{Glyph}
 use Rattle.model.specs.Bytes.{two, four}
-use Rattle.model.specs.Codes.{CodeRow, codes, emojiRows, inRow, indexIn, emojiIndex, extraFrom}
+use Rattle.model.specs.Codes.{CodeRow, codes, emojiRows, inRow, indexIn, emojiIndex, gbLead, extraFrom}
 use Rattle.model.specs.Glyphs.{glyphOr, Store, flipped, value, paint, fontsFit, columnStores, lineStores}
-use Rattle.laws.specs.Tests.{all-true, by-lt, tests}
+use Rattle.laws.specs.Tests.{all-true, by-lt, either, tests, and-true as and-both, or-cases}
 
 -- Codes: a table of rows searched from the first on.
 
@@ -49,6 +49,15 @@ pub index-v2 : {f : Found} (version lead trail : ℕ) → (version ≡ 0 → ⊥
 unfolding emojiIndex
 index-v2 zero lead trail e h = absurd (e refl)
 index-v2 (suc n) lead trail e h = h
+
+-- ---- GB
+
+-- a lead of its rows
+pub gb-lead-range : (lead : ℕ) → gbLead lead ≡ true → (161 ≤ lead) × (lead ≤ 247)
+gb-lead-range lead e =
+    either (or-cases (leb 161 lead && leb lead 169) (leb 176 lead && leb lead 247) e)
+    (λ h. let a = and-both (leb 161 lead) (leb lead 169) h in omega (arith, tests))
+    (λ h. let a = and-both (leb 176 lead) (leb lead 247) h in omega (arith, tests))
 
 -- ---- the extra list
 

@@ -1,5 +1,5 @@
 -- Codes of two bytes, lead and trail: the index of an emoji, that of a GB character, and the offset that the extra list gives.
-use mathlib.Core.Bool.{Bool, cond}
+use mathlib.Core.Bool.{Bool, cond, _&&_, _||_}
 use mathlib.Core.List.{List, [], _∷_}
 use Prim.Native.Nat.{ℕ, zero, suc, _+_, _-_, _*_, _/_}
 use lib.Dec.{ltb, leb, eqb}
@@ -40,14 +40,18 @@ indexIn (r ∷ rs) before lead trail =
 unfoldable pub emojiIndex : ℕ → ℕ → ℕ → Found
 emojiIndex version lead trail = indexIn (emojiRows version) 0 lead trail
 
--- ---- GB: rows 10-15, which the standard leaves empty, have the glyphs of rows 4-9
+-- ---- GB 2312-80: rows 1-9 and 16-87, one after another in the font. Rows 10-15, which the standard leaves empty, have no index
 
+-- a lead of these rows
+abbrev pub gbLead : ℕ → Bool
+gbLead lead = (leb 161 lead && leb lead 169) || (leb 176 lead && leb lead 247)
+
+-- the place of a row in the font, s rows after the first
 abbrev pub gbRow : ℕ → ℕ
 gbRow s = cond (ltb 8 s) (s - 6) s
 
 unfoldable pub gbIndex : ℕ → ℕ → Found
-gbIndex lead trail =
-    cond (every (leb 161 lead ∷ leb lead 247 ∷ leb 161 trail ∷ leb trail 254 ∷ [])) (At (94 * gbRow (lead - 161) + (trail - 161))) Nothing
+gbIndex lead trail = cond (every (gbLead lead ∷ leb 161 trail ∷ leb trail 254 ∷ [])) (At (94 * gbRow (lead - 161) + (trail - 161))) Nothing
 
 -- ---- the extra list: entries of 6 bytes, a code (2) and an offset (4); the first match counts
 
