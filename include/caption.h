@@ -179,7 +179,7 @@ uint32_t caption_newline(uint8_t *record, size_t record_len, uint8_t *memory, si
        byte from 128    with the next cell, a pair: 32 bytes, 16 lines of two, from the first of these that has it
                           emoji   at 32 * index. V1: FA46-FA7E FAA1-FAFE FB40-FB7E FBA1-FBFE FC40-FC7E FCA1-FCFE FD40-FD7D;
                                   V2: F8A1-F8FE, so F9, FA, FB, FC, and FDA1-FDD9; index 0-526 in this order
-                          gb      at 32 * index. Lead 161-247, trail 161-254; index 94 * s + trail - 161 with s = lead - 161, less 6 if s > 8
+                          gb      at 32 * index. Lead 161-169 or 176-247, trail 161-254; index 94 * s + trail - 161 with s = lead - 161, less 6 if s > 8
                           extra   extra_list has entries of 6 bytes, least byte first: code (2, lead * 256 + trail), offset (4) in extra_font; the first counts
                         else both bytes in hexadecimal, two digits one above the other, never inverted: 8 bytes of ascii8 each, at 8 * character
    A pair at column 19 has its right half in column 0 below (a hexadecimal one in column 0 of its own row, one line lower), and from there on cells are read one

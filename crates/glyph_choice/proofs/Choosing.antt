@@ -1,15 +1,15 @@
 -- The choice of a glyph: rows of emoji, the test of a GB code, the extra list, one source after another.
 use mathlib.Core.Path.{_≡_, refl, sym, ap, _∙_}
-use mathlib.Core.Bool.{Bool, true, false, _&&_}
+use mathlib.Core.Bool.{Bool, true, false, _&&_, and-true, or-false}
 use mathlib.Core.List.{List, [], _∷_}
-use Prim.Native.Nat.{ℕ, zero, suc, _+_, _-_, _*_, _/_, _≤_, _<_}
+use Prim.Native.Nat.{ℕ, _+_, _-_, _*_, _/_, _≤_, _<_}
 use native.Mathlib.Omega.{arith}
-use borrow.Author.Tests.{ne-eqb}
+use borrow.Author.Tests.{le-leb, lt-leb}
 use lib.Dec.{leb}
 use lib.ListN.{length}
 use Rattle.model.specs.declared.Found.{Found}
 use Rattle.model.specs.declared.Found.the-variants.{At, Nothing}
-use Rattle.model.specs.Codes.{CodeRow, emojiRows, inRow, indexIn, emojiIndex, gbLead, gbRow, gbIndex, extraFrom, extraOffset}
+use Rattle.model.specs.Codes.{indexIn, emojiIndex, gbLead, gbRow, gbIndex, extraFrom, extraOffset}
 use Rattle.model.specs.declared.Glyph.{Glyph}
 use Rattle.model.specs.declared.Glyph.the-variants.{Emoji, Gb, Extra, Hexadecimal}
 use Rattle.model.specs.Glyphs.{glyphOr, glyphOf}
@@ -21,21 +21,13 @@ pub no-row : (before lead trail : ℕ) → Nothing ≡ indexIn [] before lead tr
 unfolding indexIn
 no-row before lead trail = refl
 
--- every row has a greater lead
-abbrev Above : ℕ → List CodeRow → Type 0
-Above lead [] = Unit {0}
-Above lead (r ∷ rs) = (lead < r .lead) × Above lead rs
+-- ---- GB: a lead below the empty rows, or above them
 
-above-none : (rs : List CodeRow) (before lead trail : ℕ) → Above lead rs → Nothing ≡ indexIn rs before lead trail
-unfolding indexIn inRow
-above-none [] before lead trail h = refl
-above-none (r ∷ rs) before lead trail h =
-    rw (ne-eqb lead (r .lead) (λ e. absurd (omega arith))) (above-none rs (before + (r .last + 1 - r .first)) lead trail (h .1))
+pub lead-below : (lead : ℕ) → lead < 170 → leb 161 lead ≡ gbLead lead
+lead-below lead h = rw (le-leb lead 169 (omega arith), lt-leb 176 lead (omega arith), and-true (leb 161 lead), or-false (leb 161 lead)) refl
 
-pub no-emoji : (version lead trail : ℕ) → lead < 248 → Nothing ≡ emojiIndex version lead trail
-unfolding emojiIndex
-no-emoji zero lead trail h = above-none (emojiRows 0) 0 lead trail (omega arith)
-no-emoji (suc n) lead trail h = above-none (emojiRows 1) 0 lead trail (omega arith)
+pub lead-above : (lead : ℕ) → 170 ≤ lead → (leb 176 lead && leb lead 247) ≡ gbLead lead
+lead-above lead h = rw (le-leb 161 lead (omega arith), lt-leb lead 169 (omega arith)) refl
 
 -- b is the test of the lead
 module _ {b : Bool} (lead trail : ℕ) (e : b ≡ gbLead lead) where

@@ -87,11 +87,14 @@ fn emoji_index(version: u8, lead: u8, trail: u8) -> Found
     index_v2(lead, trail)
 }
 
-// A lead of GB's rows 1-9 and 16-87.
+// A lead of GB's rows 1-9 or, above the empty rows 10-15, of its rows 16-87.
 fn gb_lead(lead: u8) -> bool
     ensures { λ r. ⌜ r ≡ gbLead lead ⌝ }
 {
-    ((161 <= lead) & (lead <= 169)) | ((176 <= lead) & (lead <= 247))
+    if lead < 170 {
+        return 161 <= lead;
+    }
+    (176 <= lead) & (lead <= 247)
 }
 
 // Row 16 follows row 9 in the font.

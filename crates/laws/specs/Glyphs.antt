@@ -9,13 +9,14 @@ use native.Mathlib.Numerals.{add-one}
 use lib.Dec.{leb, eqb, ltb}
 use lib.ListN.{length, getD, set, take, drop, length-set}
 use lib.Seq.{getD-take, getD-drop, drop-cons}
-use borrow.Author.Tests.{eq-eqb, ne-eqb, lt-ltb, le-ltb, lt-leb}
+use borrow.Author.Tests.{eq-eqb, ne-eqb, lt-ltb, le-ltb, le-leb, lt-leb}
 use Rattle.model.specs.declared.Found.{Found}
 use Rattle.model.specs.declared.Found.the-variants.{At, Nothing}
 use Rattle.model.specs.declared.Glyph.{Glyph}
+use Rattle.model.specs.declared.Glyph.the-variants.{Extra, Hexadecimal}
 use Rattle.model.specs.Bytes.{two, four}
-use Rattle.model.specs.Codes.{CodeRow, codes, emojiRows, inRow, indexIn, emojiIndex, gbLead, extraFrom}
-use Rattle.model.specs.Glyphs.{glyphOr, Store, flipped, value, paint, fontsFit, columnStores, lineStores}
+use Rattle.model.specs.Codes.{CodeRow, codes, emojiRows, inRow, indexIn, emojiIndex, gbLead, gbIndex, extraFrom, extraOffset}
+use Rattle.model.specs.Glyphs.{glyphOr, glyphOf, Store, flipped, value, paint, fontsFit, columnStores, lineStores}
 use Rattle.laws.specs.Tests.{all-true, by-lt, either, tests, and-true as and-both, or-cases}
 
 -- Codes: a table of rows searched from the first on.
@@ -50,6 +51,23 @@ unfolding emojiIndex
 index-v2 zero lead trail e h = absurd (e refl)
 index-v2 (suc n) lead trail e h = h
 
+-- every row has a greater lead
+abbrev Above : ℕ → List CodeRow → Type 0
+Above lead [] = Unit {0}
+Above lead (r ∷ rs) = (lead < r .lead) × Above lead rs
+
+above-none : (rs : List CodeRow) (before lead trail : ℕ) → Above lead rs → Nothing ≡ indexIn rs before lead trail
+unfolding indexIn inRow
+above-none [] before lead trail h = refl
+above-none (r ∷ rs) before lead trail h =
+    rw (ne-eqb lead (r .lead) (λ e. absurd (omega arith))) (above-none rs (before + (r .last + 1 - r .first)) lead trail (h .1))
+
+-- no emoji has a lead below 248
+pub no-emoji : (version lead trail : ℕ) → lead < 248 → Nothing ≡ emojiIndex version lead trail
+unfolding emojiIndex
+no-emoji zero lead trail h = above-none (emojiRows 0) 0 lead trail (omega arith)
+no-emoji (suc n) lead trail h = above-none (emojiRows 1) 0 lead trail (omega arith)
+
 -- ---- GB
 
 -- a lead of its rows
@@ -58,6 +76,17 @@ gb-lead-range lead e =
     either (or-cases (leb 161 lead && leb lead 169) (leb 176 lead && leb lead 247) e)
     (λ h. let a = and-both (leb 161 lead) (leb lead 169) h in omega (arith, tests))
     (λ h. let a = and-both (leb 176 lead) (leb lead 247) h in omega (arith, tests))
+
+-- ---- rows 10-15: neither emoji nor GB, so the extra list decides
+
+gb-empty : (lead trail : ℕ) → 170 ≤ lead → lead ≤ 175 → gbIndex lead trail ≡ Nothing
+unfolding gbIndex
+gb-empty lead trail a b = rw (le-leb 161 lead (omega arith), lt-leb lead 169 (omega arith), lt-leb 176 lead (omega arith))
+
+pub empty-row : (version : ℕ) (list : List ℕ) (lead trail : ℕ) → 170 ≤ lead → lead ≤ 175
+    → glyphOf version list lead trail ≡ glyphOr (extraOffset list (256 * lead + trail)) Extra Hexadecimal
+unfolding glyphOf glyphOr
+empty-row version list lead trail a b = rw (← no-emoji version lead trail (omega arith), gb-empty lead trail a b)
 
 -- ---- the extra list
 

@@ -11,7 +11,7 @@ use Rattle.model.specs.declared.Rect.{Rect}
 use Rattle.model.specs.Geometry.{base}
 use Rattle.model.specs.Pixels.{PixelWrite, draw, seen}
 use Rattle.model.specs.Rects.{isEmpty, join, cut}
-use Rattle.model.specs.Memory.{zeros, screenOf, withScreen}
+use Rattle.model.specs.Memory.{screenOf, withScreen}
 use Rattle.model.specs.Record.{Pending, State, nothingPending, panelOf, windows, total, decode, encode, withHead, withPanels, WellFormed}
 use Rattle.model.specs.Marks.{withDirty, updateDirty, joinOwed, owing, owes, marked, Drawing, drawnOn}
 use Rattle.model.specs.Open.{openState}
@@ -22,36 +22,43 @@ use Rattle.laws.specs.Calls.{AllPass, pass-accepted, Tested, own-decide, outcom
 use Rattle.laws.specs.ListLaws.{getD-map, map-agree}
 use Rattle.laws.specs.Memory.{window-same}
 use Rattle.laws.specs.Pixels.{length-draw}
-use Rattle.laws.specs.Loops.{length-zeros}
 use Rattle.laws.specs.Record.{Passing, decode-encode}
 use Rattle.laws.specs.Glasses.{base-glass}
 use Rattle.laws.specs.States.{well-formed, encode-passing}
 use Rattle.laws.specs.Bands.{well-nothing}
 use Rattle.order.specs.Step.{panels-formed, marked-formed, screen-in, screen-long}
 use Rattle.order.specs.Opens.{open-formed}
-use Rattle.pictures.specs.Picture.{screenIn, graphicsIn, Unmarked, withOwed, withMarks, Drew}
+use Rattle.pictures.specs.Picture.{screenIn, graphicsIn, Unmarked, withOwed, withMarks, Changed, Leaves, Drew}
 use Rattle.pictures.specs.Writes.{pictured, pictured-changed}
 
--- ---- bytes to start from: a record as it is opened, but with nothing owed, and a memory of zeros
+-- ---- bytes to start from: a record as it is opened, but with nothing owed, and a memory
 
 abbrev clearState : State
 clearState = withPanels (replicate 4 (nothingPending base)) (openState base 4096 8192 1 noKeys)
 
-unfoldable pub clearBytes : Lent
-clearBytes = lent (encode base clearState) (zeros 65536) []
+unfoldable pub clearBytes : List ℕ → Lent
+clearBytes m = lent (encode base clearState) m []
 
-pub clear-unmarked : Unmarked clearBytes
-unfolding clearBytes openState nothingPending total windows
-clear-unmarked =
-    let w = panels-formed base _ (open-formed base base-glass 4096 8192 1 noKeys refl refl refl (omega arith)) (replicate 4 (nothingPending base)) refl
-    (λ k h. rw (getD-replicate 4 k (nothingPending base) (nothingPending base) h) (well-nothing base)) in
-    let p = encode-passing base base-glass clearState w in
-    let e = decode-encode base clearState base-glass w in
+clear-formed : WellFormed base clearState
+unfolding openState nothingPending windows
+clear-formed =
+    panels-formed base _ (open-formed base base-glass 4096 8192 1 noKeys refl refl refl (omega arith)) (replicate 4 (nothingPending base)) refl
+    (λ k h. rw (getD-replicate 4 k (nothingPending base) (nothingPending base) h) (well-nothing base))
+
+pub clear-state : (m : List ℕ) → decode base (clearBytes m .rec) ≡ clearState
+unfolding clearBytes
+clear-state m = decode-encode base clearState base-glass clear-formed
+
+pub clear-unmarked : (m : List ℕ) → length m ≡ 65536 → Unmarked (clearBytes m)
+unfolding clearBytes openState nothingPending total
+clear-unmarked m n =
+    let p = encode-passing base base-glass clearState clear-formed in
+    let e = clear-state m in
     record {
       sized = p .sized;
       bytes = p .bytes;
       passes = p .passes;
-      memory = length-zeros 65536;
+      memory = n;
       dirty = ap (λ (s : State). s .head .dirty) e;
       owed = λ k h. ap (λ (s : State). panelOf base s k .owed) e ∙ ap (λ (p : Pending). p .owed) (getD-replicate 4 k (nothingPending base) (nothingPending base) h);
     }
@@ -84,8 +91,11 @@ module _ (l : Lent) (u : Unmarked l) where
   }
 
   -- a call is done where its own tests pass
+  pub done-where : (c : Call) → Tested base c l → AllPass (ownTests base c l) → outcome base c l ≡ done base c l
+  done-where c t a = outcome-done base c l (own-decide base c l t ∙ pass-accepted (ownTests base c l) a)
+
   pub done-on : (c : Call) → takes c ≡ with-memory → AllPass (ownTests base c l) → outcome base c l ≡ done base c l
-  done-on c e a = outcome-done base c l (own-decide base c l (entered c e) ∙ pass-accepted (ownTests base c l) a)
+  done-on c e a = done-where c (entered c e) a
 
   -- nothing was marked, so its own marks are what stands
   panels-only : (o owed : Rect) → cut 160 0 80 o ≡ owed → map (owing base o) (s .panels) ≡ map (withOwed owed) (s .panels)
@@ -102,20 +112,19 @@ module _ (l : Lent) (u : Unmarked l) where
   unfolding marked updateDirty join isEmpty
   marks-only m o dirty owed e f = λ i. withHead (withDirty ((ap (λ (q : Rect). join q m) (u .dirty) ∙ e) i) (s .head)) (withPanels (panels-only o owed f i) s)
 
-  pub drew : (c : Call) (d : Drawing) (ps : List PixelWrite) (dirty owed : Rect) → takes c ≡ with-memory → AllPass (ownTests base c l)
-      → done base c l ≡ answered 0 [] (drawing base d l) → Fits 256 0 256 dirty → d .dirty ≡ dirty → cut 160 0 80 (owedBy d) ≡ owed
-      → pictured (seen 20 80 (d .writes)) ps ≡ true → Drew l ps dirty owed (outcome base c l)
-  unfolding answered drawingWith drawnOn
-  drew c d ps dirty owed t a k f e o p =
-      let ws = seen 20 80 (d .writes) in
-      let new = draw 20 ws (screenIn l) in
-      let long = screen-long base base-glass (s .head) (formed .head) (l .memory) (u .memory) in
-      let m = marks-only (d .dirty) (owedBy d) dirty owed e o in
-      let state : decode base (drawing base d l .rec) ≡ withMarks dirty owed s =
-      decode-encode base (marked base (d .dirty) (owedBy d) s) base-glass (marked-formed base (d .dirty) (owedBy d) s (rw e f) formed) ∙ m in
-      let screen : screenIn (drawing base d l) ≡ new = ap (λ (z : State). screenOf base (z .head .graphics) (withScreen (graphicsIn l) new (l .memory))) state
-      ∙ window-same (graphicsIn l) 1600 new (l .memory) (length-draw 20 ws (screenIn l) ∙ long) screen-fits in
-      rw (done-on c t a ∙ k)
+  -- a done call that leaves a screen `new`, with what it marked
+  pub leaves : (c : Call) (P : List ℕ → Type 0) (new : List ℕ) (m o dirty owed : Rect)
+      → outcome base c l ≡ answered 0 [] (lent (encode base (marked base m o s)) (withScreen (graphicsIn l) new (l .memory)) (l .panel))
+      → length new ≡ 1600 → Fits 256 0 256 dirty → m ≡ dirty → cut 160 0 80 o ≡ owed → P new → Leaves l P dirty owed (outcome base c l)
+  unfolding answered
+  leaves c P new m o dirty owed d n f e cut p =
+      let only = marks-only m o dirty owed e cut in
+      let left = lent (encode base (marked base m o s)) (withScreen (graphicsIn l) new (l .memory)) (l .panel) in
+      let state : decode base (left .rec) ≡ withMarks dirty owed s =
+      decode-encode base (marked base m o s) base-glass (marked-formed base m o s (rw e f) formed) ∙ only in
+      let screen : screenIn left ≡ new = ap (λ (z : State). screenOf base (z .head .graphics) (left .memory)) state
+      ∙ window-same (graphicsIn l) 1600 new (l .memory) n screen-fits in
+      rw d
       (record {
         code = refl;
         numbers = refl;
@@ -123,8 +132,18 @@ module _ (l : Lent) (u : Unmarked l) where
         owed = λ k h.
             ap (λ (z : State). panelOf base z k .owed) state
             ∙ ap (λ (q : Pending). q .owed) (getD-map (withOwed owed) (s .panels) k (nothingPending base) (omega (arith, formed .count)));
-        pixels = rw screen (pictured-changed ws ps (screenIn l) long p);
-        rec = ap (encode base) m;
+        screen = rw screen p;
+        rec = ap (encode base) only;
         memory = ap (λ (z : List ℕ). withScreen (graphicsIn l) z (l .memory)) (sym screen);
         panel = refl;
       })
+
+  pub drew : (c : Call) (d : Drawing) (ps : List PixelWrite) (dirty owed : Rect) → takes c ≡ with-memory → AllPass (ownTests base c l)
+      → done base c l ≡ answered 0 [] (drawing base d l) → Fits 256 0 256 dirty → d .dirty ≡ dirty → cut 160 0 80 (owedBy d) ≡ owed
+      → pictured (seen 20 80 (d .writes)) ps ≡ true → Drew l ps dirty owed (outcome base c l)
+  unfolding drawingWith drawnOn
+  drew c d ps dirty owed t a k f e o p =
+      let ws = seen 20 80 (d .writes) in
+      let long = screen-long base base-glass (s .head) (formed .head) (l .memory) (u .memory) in
+      leaves c (Changed ps (screenIn l)) (draw 20 ws (screenIn l)) (d .dirty) (owedBy d) dirty owed (done-on c t a ∙ k)
+      (length-draw 20 ws (screenIn l) ∙ long) f e o (pictured-changed ws ps (screenIn l) long p)

@@ -5,4 +5,5 @@ pub mod Writes
 pub mod Drawings
 pub mod Shapes
 pub mod Scripts
+pub mod EmptyRows
 pub mod Pictures

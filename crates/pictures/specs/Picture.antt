@@ -1,19 +1,22 @@
 -- What a picture says of a call: what it answers and leaves on every record that passes STATE with dirty and owed empty, and on every memory of its length.
 use mathlib.Core.Path.{_≡_}
 use mathlib.Core.Logic.{_≢_, _⊎_}
-use mathlib.Core.Bool.{true, false, not}
-use mathlib.Core.List.{List, [], _∷_, map}
-use Prim.Native.Nat.{ℕ, _<_}
-use lib.ListN.{length}
+use mathlib.Core.Bool.{Bool, true, false, not, cond}
+use mathlib.Core.List.{List, [], _∷_, _++_, map}
+use Prim.Native.Nat.{ℕ, zero, suc, _+_, _-_, _*_, _<_}
+use lib.Dec.{ltb}
+use lib.ListN.{length, getD}
 use Rattle.model.specs.declared.Rect.{Rect}
 use Rattle.model.specs.Geometry.{base}
 use Rattle.model.specs.Pixels.{PixelWrite, bit}
 use Rattle.model.specs.Rects.{none}
-use Rattle.model.specs.Memory.{withScreen}
+use Rattle.model.specs.Memory.{zeros, window, withScreen}
 use Rattle.model.specs.Bytes.{Bytes}
 use Rattle.model.specs.Record.{Pending, State, panelOf, decode, encode, valid, withHead, withPanels}
 use Rattle.model.specs.Marks.{withDirty}
-use Rattle.model.specs.Calls.{Call, Lent, Outcome, outcome}
+use Rattle.model.specs.Glyphs.{Fonts, flipped}
+use Rattle.model.specs.Flush.{flagAt}
+use Rattle.model.specs.Calls.{Call, flush, Lent, Outcome, outcome}
 use Rattle.laws.specs.Pixels.{Each}
 use Rattle.order.specs.Step.{screenHeld}
 
@@ -71,17 +74,58 @@ withMarks d o s = withHead (withDirty d (s .head)) (withPanels (map (withOwed o)
 
 -- ---- pictures
 
--- a call that was lent l is done; it leaves dirty d and o owed to each panel, changes the pixels that ps names, and nothing else
-pub record Drew (l : Lent) (ps : List PixelWrite) (d o : Rect) (out : Outcome) : Type 0 where
+-- a call that was lent l is done; it leaves dirty d and o owed to each panel, a screen of which P holds, and nothing else is changed
+pub record Leaves (l : Lent) (P : List ℕ → Type 0) (d o : Rect) (out : Outcome) : Type 0 where
   pub code : out .code ≡ 0
   pub numbers : out .numbers ≡ []
   pub dirty : dirtyIn (out .left) ≡ d
   pub owed : (k : ℕ) → k < 4 → owedIn k (out .left) ≡ o ∷ []
-  pub pixels : Changed ps (screenIn l) (screenIn (out .left))
+  pub screen : P (screenIn (out .left))
   -- no other field of the record changes, no byte of memory outside the screen, and no byte of the panel
   pub rec : out .left .rec ≡ encode base (withMarks d o (decode base (l .rec)))
   pub memory : out .left .memory ≡ withScreen (graphicsIn l) (screenIn (out .left)) (l .memory)
   pub panel : out .left .panel ≡ l .panel
 
+-- it changes the pixels that ps names
+abbrev pub Drew : Lent → List PixelWrite → Rect → Rect → Outcome → Type 0
+Drew l ps d o out = Leaves l (Changed ps (screenIn l)) d o out
+
 abbrev pub Picture : Call → List PixelWrite → Rect → Rect → Type 0
 Picture c ps d o = (l : Lent) → Unmarked l → Drew l ps d o (outcome base c l)
+
+-- ---- pages
+
+-- the text's cells
+abbrev pub pageIn : Lent → List ℕ
+pageIn l = window (decode base (l .rec) .head .text) 100 (l .memory)
+
+-- the inverse flag of a cell
+abbrev pub flagIn : Lent → ℕ → Bool
+flagIn l cell = flagAt (decode base (l .rec) .flags) cell
+
+-- a record in Text mode, and a page that holds the pair alone, in its first two cells
+pub record OnePair (lead trail : ℕ) (l : Lent) : Type 0 where
+  pub unmarked : Unmarked l
+  pub text : decode base (l .rec) .head .screen ≡ 0
+  pub page : pageIn l ≡ lead ∷ trail ∷ zeros 98
+
+-- line y of a column of sixteen: two characters of eight lines, one over the other
+abbrev pub over : List ℕ → ℕ → ℕ → ℕ → ℕ
+over ascii8 upper lower y = cond (ltb y 8) (getD ascii8 (8 * upper + y) 0) (getD ascii8 (8 * lower + (y - 8)) 0)
+
+-- line y of a glyph's left or right half (0, 1), inverted or not
+abbrev pub halfOf : List ℕ → ℕ → Bool → ℕ → ℕ
+halfOf glyph side inverse y = flipped inverse (getD glyph (2 * y + side) 0)
+
+-- n lines of a screen from line y on: a byte of each of two columns, and nothing else
+abbrev pub cornerLines : (ℕ → ℕ) → (ℕ → ℕ) → ℕ → ℕ → List ℕ
+cornerLines left right y zero = []
+cornerLines left right y (suc n) = left y ∷ right y ∷ (zeros 18 ++ cornerLines left right (y + 1) n)
+
+-- a screen that has two columns of sixteen lines in its upper left corner, and nothing else
+abbrev pub corner : (ℕ → ℕ) → (ℕ → ℕ) → List ℕ
+corner left right = cornerLines left right 0 16 ++ zeros 1280
+
+-- a flush with the fonts f leaves the screen `shown`, and marks the whole of it
+abbrev pub Shows : Fonts → Lent → List ℕ → Type 0
+Shows f l shown = Leaves l (λ s. s ≡ shown) (rect 0 0 160 80) (rect 0 0 160 80) (outcome base (flush f) l)

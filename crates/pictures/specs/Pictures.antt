@@ -1,24 +1,31 @@
--- The known pictures of document 01 that it stars, and both of its scripts, from the definitions of crates/model/specs. Picture.antt says what a picture is:
+-- The known pictures of document 01 that it stars, both of its scripts, and pictures of our own, from the definitions of crates/model/specs. Picture.antt says what a picture is:
 -- each starts with dirty and owed empty, in any record that passes STATE and over any memory. `scriptText` of crates/model/specs/Script/Output.antt is what a script prints.
 use mathlib.Core.Path.{_≡_, refl}
-use mathlib.Core.List.{[], _∷_}
-use Prim.Native.Nat.{ℕ, _/_, _%_, _≤_, _<_}
+use mathlib.Core.List.{List, [], _∷_, _++_}
+use Prim.Native.Nat.{ℕ, _+_, _*_, _/_, _%_, _≤_, _<_}
+use Prim.Native.Char.{code}
 use lib.IntN.{ℤ, pos, negsuc}
-use lib.ListN.{getD}
+use lib.ListN.{length, getD}
 use Rattle.model.specs.declared.Found.{Found}
 use Rattle.model.specs.declared.Found.the-variants.{At}
+use Rattle.model.specs.declared.Glyph.the-variants.{Extra, Hexadecimal}
 use Rattle.model.specs.Geometry.{base}
+use Rattle.model.specs.Memory.{zeros, window, withWindow}
+use Rattle.model.specs.Bytes.{twoBytes, fourBytes}
 use Rattle.model.specs.Pixels.{bit}
 use Rattle.model.specs.Refusals.{SOURCE}
 use Rattle.model.specs.Ellipses.{part, parts, steps}
-use Rattle.model.specs.Codes.{inRow, indexIn, emojiIndex}
+use Rattle.model.specs.Codes.{inRow, indexIn, emojiIndex, gbIndex, extraOffset}
+use Rattle.model.specs.Glyphs.{Fonts, glyphOr, glyphOf}
 use Rattle.model.specs.Calls.{drawPoint, drawLine, drawBox, drawCircle, paintBitmap, Lent, answered, outcome}
 use Rattle.model.specs.Characters.{bytesOf}
 use Rattle.model.specs.Script.Output.{scriptText}
-use Rattle.pictures.specs.Picture.{screenIn, rect, sets, clears, inverts, Unmarked, Drew, Picture}
+use Rattle.laws.specs.Glyphs.{empty-row}
+use Rattle.pictures.specs.Picture.{screenIn, rect, sets, clears, inverts, Unmarked, Drew, Picture, flagIn, OnePair, over, halfOf, corner, Shows}
 use Rattle.pictures.specs.Drawings.{clearBytes, clear-unmarked}
 use Rattle.pictures.specs.Shapes.{point-off, point-unknown, line-clamped, line-sloped, box-past-bottom, box-row, circle-parts, circle-steps, circle-two, circle-one, bitmap-clipped, source-refused, source-accepted}
 use Rattle.pictures.specs.Scripts.{point-send, send-point}
+use Rattle.pictures.specs.EmptyRows.{one-pair, codes-shown, entry-shown}
 
 -- draw modes, the paint mode Copy, the fill flag, emoji versions
 abbrev or : ℕ
@@ -49,9 +56,13 @@ V2 = 1
 abbrev emojiOf : ℕ → ℕ → Found
 emojiOf version code = emojiIndex version (code / 256) (code % 256)
 
+-- and its GB index
+abbrev gbOf : ℕ → Found
+gbOf code = gbIndex (code / 256) (code % 256)
+
 pub record KnownPictures : Type 0 where
   -- Each starts with dirty and owed empty: there are such lent bytes
-  pub start : Unmarked clearBytes
+  pub start : (m : List ℕ) → length m ≡ 65536 → Unmarked (clearBytes m)
   -- Point (160, 0): nothing
   pub point-off : (mode : ℕ) → mode ≤ 3 → (l : Lent) → Unmarked l → outcome base (drawPoint 160 0 mode) l ≡ answered 0 [] l
   -- Point (5, 5) Unknown: only dirty and owed 5, 5, 6, 6
@@ -88,9 +99,23 @@ pub record KnownPictures : Type 0 where
   pub point-send : scriptText (bytesOf "(point (3 0) or)\n(send)\n") ≡ bytesOf "(done)\n(sent 0 0 160)\n(end 0 79)\n"
   -- Send first gives `(sent 0 0 160)`, `(done)`, `(end 1 80)`
   pub send-point : scriptText (bytesOf "(send)\n(point (3 0) or)\n") ≡ bytesOf "(sent 0 0 160)\n(done)\n(end 1 80)\n"
+  -- Our own, of GB 2312-80, whose rows 10-15 are empty. Row 16 follows row 9 in the font
+  pub codes-GB : (gbOf 0xA1A1 ≡ At 0) × (gbOf 0xA9FE ≡ At 845) × (gbOf 0xB0A1 ≡ At 846) × (gbOf 0xF7FE ≡ At 7613)
+  -- A pair of leads 170-175 goes on to the extra list, then to hexadecimal codes
+  pub empty-rows : (version : ℕ) (list : List ℕ) (lead trail : ℕ) → 170 ≤ lead → lead ≤ 175
+      → glyphOf version list lead trail ≡ glyphOr (extraOffset list (256 * lead + trail)) Extra Hexadecimal
+  -- 0xAFC4 alone on a page in Text mode: there are such lent bytes
+  pub one-pair : (m : List ℕ) → length m ≡ 65536 → OnePair 0xAF 0xC4 (clearBytes (withWindow 8192 (0xAF ∷ 0xC4 ∷ zeros 98) m))
+  -- With no extra list it shows `A` over `F` in its left column and `C` over `4` in its right one
+  pub empty-row-codes : (f : Fonts) (l : Lent) → OnePair 0xAF 0xC4 l → f .extraList ≡ [] → 568 ≤ length (f .ascii8)
+      → Shows f l (corner (over (f .ascii8) (code "A") (code "F")) (over (f .ascii8) (code "C") (code "4")))
+  -- With an entry for it, that glyph, each half inverted where its own cell's flag is 1
+  pub empty-row-entry : (f : Fonts) (l : Lent) → OnePair 0xAF 0xC4 l → (i : ℕ) → f .extraList ≡ twoBytes 0xAFC4 ++ fourBytes i
+      → i < 4294967296 → i + 32 ≤ length (f .extraFont)
+      → Shows f l (corner (halfOf (window i 32 (f .extraFont)) 0 (flagIn l 0)) (halfOf (window i 32 (f .extraFont)) 1 (flagIn l 1)))
 
 pub known-pictures : KnownPictures
-unfolding emojiIndex indexIn inRow
+unfolding emojiIndex indexIn inRow gbIndex
 known-pictures = record {
   start = clear-unmarked;
   point-off = point-off;
@@ -110,4 +135,9 @@ known-pictures = record {
   codes-V2 = (refl, refl);
   point-send = point-send;
   send-point = send-point;
+  codes-GB = (refl, refl, refl, refl);
+  empty-rows = empty-row;
+  one-pair = one-pair;
+  empty-row-codes = codes-shown;
+  empty-row-entry = entry-shown;
 }

@@ -61,7 +61,7 @@ box-past-bottom l u = drew l u (drawBox 0 78 7 80 1 2) (box 20 80 0 78 7 80 true
 pub box-row : (l : Lent) → Unmarked l → (x : ℕ) → x < 160 → bit 20 (screenIn (outcome base (drawBox 0 78 7 80 1 2) l .left)) x 79 ≡ bit 20 (screenIn l) x 79
 box-row l u x h =
     let n : _≢_ {A = ℕ} 79 78 = λ e. omega arith in
-    box-past-bottom l u .pixels .others x 79 h (omega arith) (inr n, (inr n, (inr n, (inr n, (inr n, (inr n, (inr n, (inr n, tt))))))))
+    box-past-bottom l u .screen .others x 79 h (omega arith) (inr n, (inr n, (inr n, (inr n, (inr n, (inr n, (inr n, (inr n, tt))))))))
 
 -- ---- circles
 

@@ -1,6 +1,5 @@
 use native.Mathlib.Omega.{arith}
-use Rattle.laws.specs.Glyphs.{index-v1, index-v2}
-use Rattle.glyph_choice.proofs.Choosing.{no-emoji}
+use Rattle.laws.specs.Glyphs.{index-v1, index-v2, no-emoji}
 use borrow.Author.Needs.{needs}
 use Rattle.glyph_choice.proofs.emoji_index.Statement.{statement}
 use Rattle.glyph_choice.proofs.emoji_index.Tie as tie

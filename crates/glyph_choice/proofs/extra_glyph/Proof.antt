@@ -1,3 +1,6 @@
+use mathlib.Core.Path.{_≡_}
+use Rattle.model.specs.declared.Glyph.the-variants.{Hexadecimal}
+use Rattle.glyph_choice.specs.Choice.{extraGlyph}
 use Rattle.glyph_choice.proofs.Choosing.{extra-at, extra-none}
 use borrow.Author.Needs.{needs}
 use Rattle.glyph_choice.proofs.extra_glyph.Statement.{statement}
@@ -19,7 +22,10 @@ returns : tie.Need-returns
 returns c = search extra-at
 
 returns-2 : tie.Need-returns-2
-returns-2 c = search extra-none
+returns-2 c =
+    let a = c .before .before .before .before .before .args in
+    let e : Hexadecimal ≡ extraGlyph (a .list .now) (a .lead) (a .trail) = search extra-none in
+    e
 
 pub extra-glyph-spec : {M : Type 1} → statement M
 extra-glyph-spec =
