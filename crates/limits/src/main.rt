@@ -1,21 +1,24 @@
 // Numbers at their limits, run on the core. Document 01's last known picture: graphics base 63,935 and radius 127 are accepted, 63,936 and 128 refused; and the panels:
-// 3 is accepted, 4 and 255 refused.
+// 3 is accepted, 4 and 255 refused. And the leads around GB's empty rows, with no GB font lent: 169 and 176 need it and are refused, 170 and 175 are accepted.
 // A line of output is a call, then its answer, 1 if it left all bytes as they were, else 0, and four bytes of memory. The file stdout beside src/ was written by hand, from
 // document 01 and the steps of the source.
 use caption::ellipses;
+use caption::flushes;
 use caption::open;
 use caption::points;
+use caption::poke;
 use caption::sends;
 use model::glass::MEMORY_BYTES;
 use model::glass::RECORD_BYTES;
 use model::glass::SCREEN_BYTES;
 
-// Open's graphics base; a circle's radius or an ellipse's two, then the fill flag; a send's panel.
+// Open's graphics base; a circle's radius or an ellipse's two, then the fill flag; a send's panel; the pair that a flush shows, then the entries of its extra list.
 enum Call {
     Open(u16),
     Circle(u8, u8),
     Ellipse(u8, u8, u8),
     Send(u8),
+    Flush(u8, u8, u8),
 }
 
 fn print_number(n: u64) {
@@ -48,6 +51,12 @@ fn print_call(call: Call) {
             io::write_all(1, b"send");
             print_byte(number);
         }
+        Call::Flush(lead, trail, entries) => {
+            io::write_all(1, b"flush");
+            print_byte(lead);
+            print_byte(trail);
+            print_byte(entries);
+        }
     }
 }
 
@@ -72,6 +81,37 @@ fn open_at(rec: &mut [u8], memory: &mut [u8], graphics: u16) -> u32 {
     code
 }
 
+// A pair stands at row 2, column 0: line 40 begins with the lower digit of its lead, or with line 8 of its glyph.
+fn prepare(rec: &mut [u8], memory: &mut [u8], call: Call) {
+    open_at(rec, memory, 4096);
+    match call {
+        Call::Flush(lead, trail, entries) => {
+            poke::caption_write_byte(rec, memory, 40, lead);
+            poke::caption_write_byte(rec, memory, 41, trail);
+        }
+        _ => {}
+    }
+}
+
+// Digits of 85s; the one entry is for 0xAFFE, with a glyph of 15s. The other fonts are empty.
+fn flush(rec: &mut [u8], memory: &mut [u8], entries: u8) -> u32 {
+    let ascii8 = [85u8; 568];
+    let extra = [15u8; 32];
+    if entries == 0 {
+        return flushes::caption_flush(rec, memory, &ascii8, b"", b"", b"", b"", &extra);
+    }
+    flushes::caption_flush(
+        rec,
+        memory,
+        &ascii8,
+        b"",
+        b"",
+        b"",
+        &[254, 175, 0, 0, 0, 0],
+        &extra,
+    )
+}
+
 // Shapes have their centre at (127, 40).
 fn make_call(rec: &mut [u8], memory: &mut [u8], panel: &mut [u8], call: Call) -> u32 {
     match call {
@@ -84,6 +124,7 @@ fn make_call(rec: &mut [u8], memory: &mut [u8], panel: &mut [u8], call: Call) ->
             let s = sends::caption_send(rec, memory, panel, number);
             s.code
         }
+        Call::Flush(lead, trail, entries) => flush(rec, memory, entries),
     }
 }
 
@@ -92,7 +133,7 @@ fn run(call: Call) {
     let mut rec = [0u8; RECORD_BYTES];
     let mut memory = [0u8; MEMORY_BYTES];
     let mut panel = [255u8; SCREEN_BYTES];
-    open_at(&mut rec, &mut memory, 4096);
+    prepare(&mut rec, &mut memory, call);
     let kept_rec = rec;
     let kept_memory = memory;
     let kept_panel = panel;
@@ -113,6 +154,15 @@ fn run_radii(fill: u8) {
     run(Call::Ellipse(3, 128, fill));
 }
 
+fn run_leads() {
+    run(Call::Flush(169, 254, 0));
+    run(Call::Flush(170, 161, 0));
+    run(Call::Flush(175, 254, 0));
+    run(Call::Flush(176, 161, 0));
+    run(Call::Flush(170, 161, 1));
+    run(Call::Flush(175, 254, 1));
+}
+
 fn main() {
     run(Call::Open(63935));
     run(Call::Open(63936));
@@ -121,4 +171,5 @@ fn main() {
     run(Call::Send(3));
     run(Call::Send(4));
     run(Call::Send(255));
+    run_leads();
 }
