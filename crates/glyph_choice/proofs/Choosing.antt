@@ -1,11 +1,11 @@
 -- The choice of a glyph: rows of emoji, the test of a GB code, the extra list, one source after another.
 use mathlib.Core.Path.{_≡_, refl, sym, ap, _∙_}
-use mathlib.Core.Bool.{Bool, true, false, _&&_, and-true, or-false}
+use mathlib.Core.Bool.{true, false, _&&_, _||_, and-false}
 use mathlib.Core.List.{List, [], _∷_}
 use Prim.Native.Nat.{ℕ, _+_, _-_, _*_, _/_, _≤_, _<_}
 use native.Mathlib.Omega.{arith}
-use borrow.Author.Tests.{le-leb, lt-leb}
-use lib.Dec.{leb}
+use borrow.Author.Tests.{le-leb, lt-leb, lt-ltb, le-ltb}
+use lib.Dec.{ltb, leb}
 use lib.ListN.{length}
 use Rattle.model.specs.declared.Found.{Found}
 use Rattle.model.specs.declared.Found.the-variants.{At, Nothing}
@@ -13,34 +13,37 @@ use Rattle.model.specs.Codes.{indexIn, emojiIndex, gbLead, gbRow, gbIndex, extr
 use Rattle.model.specs.declared.Glyph.{Glyph}
 use Rattle.model.specs.declared.Glyph.the-variants.{Emoji, Gb, Extra, Hexadecimal}
 use Rattle.model.specs.Glyphs.{glyphOr, glyphOf}
-use Rattle.laws.specs.Glyphs.{gb-lead-range, found-at, found-nothing}
+use Rattle.laws.specs.Glyphs.{found-at, found-nothing}
 use Rattle.glyph_choice.specs.Choice.{extraGlyph, otherGlyph}
-use Rattle.laws.specs.Tests.{tests, all-true}
+use Rattle.laws.specs.Tests.{either, tests, or-cases, or-right}
 
 pub no-row : (before lead trail : ℕ) → Nothing ≡ indexIn [] before lead trail
 unfolding indexIn
 no-row before lead trail = refl
 
--- ---- GB: a lead below the empty rows, or above them
+-- ---- GB: trail, then the two runs of rows
 
-pub lead-below : (lead : ℕ) → lead < 170 → leb 161 lead ≡ gbLead lead
-lead-below lead h = rw (le-leb lead 169 (omega arith), lt-leb 176 lead (omega arith), and-true (leb 161 lead), or-false (leb 161 lead)) refl
+pub no-trail : (lead trail : ℕ) → (ltb trail 161 || ltb 254 trail) ≡ true → Nothing ≡ gbIndex lead trail
+unfolding gbIndex
+no-trail lead trail e =
+    either (or-cases (ltb trail 161) (ltb 254 trail) e)
+    (λ h. rw (lt-leb 161 trail (omega (arith, tests)), and-false (gbLead lead)))
+    (λ h. rw (lt-leb trail 254 (omega (arith, tests)), and-false (gbLead lead && leb 161 trail)))
 
-pub lead-above : (lead : ℕ) → 170 ≤ lead → (leb 176 lead && leb lead 247) ≡ gbLead lead
-lead-above lead h = rw (le-leb 161 lead (omega arith), lt-leb lead 169 (omega arith)) refl
-
--- b is the test of the lead
-module _ {b : Bool} (lead trail : ℕ) (e : b ≡ gbLead lead) where
-  pub gb-from : ((b && leb 161 trail) && leb trail 254) ≡ true → (161 ≤ lead) × (161 ≤ trail)
-  gb-from t = let a = all-true (b ∷ leb 161 trail ∷ leb trail 254 ∷ []) t in (gb-lead-range lead (sym e ∙ a .0) .0, omega (arith, tests))
-
-  pub gb-here : {f : Found} → ((b && leb 161 trail) && leb trail 254) ≡ true → f ≡ At (94 * gbRow (lead - 161) + (trail - 161)) → f ≡ gbIndex lead trail
+module _ (lead trail : ℕ) (from : 161 ≤ trail) (to : trail ≤ 254) where
+  in-row : (row : ℕ) → gbLead lead ≡ true → row ≡ gbRow (lead - 161) → At (94 * row + (trail - 161)) ≡ gbIndex lead trail
   unfolding gbIndex
-  gb-here t h = rw (← e, t) h
+  in-row row e r = rw (e, le-leb 161 trail from, le-leb trail 254 to, r)
 
-  pub gb-none : ((b && leb 161 trail) && leb trail 254) ≡ false → Nothing ≡ gbIndex lead trail
-  unfolding gbIndex
-  gb-none t = rw (← e, t)
+  pub low-row : (row : ℕ) → 161 ≤ lead → lead ≤ 169 → row ≡ lead - 161 → At (94 * row + (trail - 161)) ≡ gbIndex lead trail
+  low-row row a b r = in-row row (rw (le-leb 161 lead a, le-leb lead 169 b)) (rw (le-ltb 8 (lead - 161) (omega arith)) r)
+
+  pub high-row : (row : ℕ) → 176 ≤ lead → lead ≤ 247 → row ≡ lead - 167 → At (94 * row + (trail - 161)) ≡ gbIndex lead trail
+  high-row row a b r = in-row row (or-right (leb 161 lead && leb lead 169) (rw (le-leb 176 lead a, le-leb lead 247 b))) (rw (lt-ltb 8 (lead - 161) (omega arith)) (omega arith))
+
+pub no-row-there : (lead trail : ℕ) → (leb 161 lead && leb lead 169) ≡ false → (leb 176 lead && leb lead 247) ≡ false → Nothing ≡ gbIndex lead trail
+unfolding gbIndex
+no-row-there lead trail low high = rw (low, high)
 
 -- ---- the extra list: the first match, or none
 

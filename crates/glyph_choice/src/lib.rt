@@ -3,7 +3,7 @@ use model::Found;
 use model::Glyph;
 ghost use mathlib.Core.Path.{_≡_};
 ghost use Prim.Native.Nat.{_+_, _-_, _*_, _≤_};
-ghost use Rattle.model.specs.Codes.{codes, emojiRows, inRow, indexIn, emojiIndex, gbLead, gbRow, gbIndex, extraOffset};
+ghost use Rattle.model.specs.Codes.{codes, emojiRows, inRow, indexIn, emojiIndex, gbIndex, extraOffset};
 ghost use Rattle.model.specs.Glyphs.{glyphOf};
 ghost use Rattle.glyph_choice.specs.Choice.{extraGlyph, otherGlyph};
 
@@ -87,36 +87,26 @@ fn emoji_index(version: u8, lead: u8, trail: u8) -> Found
     index_v2(lead, trail)
 }
 
-// A lead of GB's rows 1-9 or, above the empty rows 10-15, of its rows 16-87.
-fn gb_lead(lead: u8) -> bool
-    ensures { λ r. ⌜ r ≡ gbLead lead ⌝ }
+// From a row of the font, 0 to 80.
+fn gb_place(row: u8, trail: u8) -> Found
+    requires { ⌜ (row ≤ 80) × (161 ≤ trail) ⌝ }
+    ensures { λ r. ⌜ r ≡ Found.At (94 * row + (trail - 161)) ⌝ }
 {
-    if lead < 170 {
-        return 161 <= lead;
-    }
-    (176 <= lead) & (lead <= 247)
+    Found::At(94 * (row as usize) + (trail - 161) as usize)
 }
 
-// Row 16 follows row 9 in the font.
-fn gb_row(s: usize) -> usize
-    ensures { λ r. ⌜ (r ≡ gbRow s) × (r ≤ s) ⌝ }
-{
-    if 8 < s { s - 6 } else { s }
-}
-
-fn gb_place(lead: u8, trail: u8) -> Found
-    requires { ⌜ (161 ≤ lead) × (161 ≤ trail) ⌝ }
-    ensures { λ r. ⌜ r ≡ Found.At (94 * gbRow (lead - 161) + (trail - 161)) ⌝ }
-{
-    let row = gb_row((lead - 161) as usize);
-    Found::At(94 * row + (trail - 161) as usize)
-}
-
+// Rows 16-87 and 1-9; row 16 follows row 9 in the font.
 fn gb_index(lead: u8, trail: u8) -> Found
     ensures { λ r. ⌜ r ≡ gbIndex lead trail ⌝ }
 {
-    if (gb_lead(lead) & (161 <= trail)) & (trail <= 254) {
-        return gb_place(lead, trail);
+    if (trail < 161) | (254 < trail) {
+        return Found::Nothing;
+    }
+    if (176 <= lead) & (lead <= 247) {
+        return gb_place(lead - 167, trail);
+    }
+    if (161 <= lead) & (lead <= 169) {
+        return gb_place(lead - 161, trail);
     }
     Found::Nothing
 }
