@@ -21,8 +21,7 @@ use Rattle.model.specs.Bytes.{two, four}
 use Rattle.model.specs.Codes.{CodeRow, emojiRows, inRow, indexIn, emojiIndex, gbLead, gbRow, gbIndex, extraFrom, extraOffset}
 use Rattle.model.specs.Glyphs.{Fonts, digit, glyphOr, glyphOf}
 use Rattle.model.specs.Flush.{isLast, kindOf, shownAt, nextSpot, spot, walk}
-use Rattle.laws.specs.Glyphs.{gb-lead-range}
-use Rattle.laws.specs.Tests.{tests, all-true, and-true, if-cases}
+use Rattle.laws.specs.Tests.{either, tests, all-true, and-true, or-cases, if-cases}
 use Rattle.flush.specs.Fits.{codeFits, glyphFits, kindFits, walkFits, textFits, entriesFitFrom, entriesFit, wholeFonts}
 
 -- ---- indices
@@ -50,12 +49,18 @@ unfolding emojiIndex total
 emoji-below zero lead trail = index-below (emojiRows 0) 0 lead trail 527 (omega arith)
 emoji-below (suc n) lead trail = index-below (emojiRows 1) 0 lead trail 527 (omega arith)
 
+lead-most : (lead : ℕ) → gbLead lead ≡ true → lead ≤ 247
+lead-most lead e =
+    either (or-cases (leb 161 lead && leb lead 169) (leb 176 lead && leb lead 247) e)
+    (λ h. let a = and-true (leb 161 lead) (leb lead 169) h in omega (arith, tests))
+    (λ h. let a = and-true (leb 176 lead) (leb lead 247) h in omega (arith, tests))
+
 pub gb-below : (lead trail : ℕ) → below (gbIndex lead trail) 7614
 unfolding gbIndex
 gb-below lead trail =
     if-cases (λ (x : Found). below x 7614) (every (gbLead lead ∷ leb 161 trail ∷ leb trail 254 ∷ []))
     (λ e. let a = all-true (gbLead lead ∷ leb 161 trail ∷ leb trail 254 ∷ []) e in
-    let h = gb-lead-range lead (a .0) in
+    let m = lead-most lead (a .0) in
     let r : gbRow (lead - 161) ≤ 80 = if-cases (λ (k : ℕ). k ≤ 80) (ltb 8 (lead - 161)) (λ t. omega (arith, tests)) (λ t. omega (arith, tests)) in
     omega (arith, tests))
     (λ e. tt)

@@ -1,8 +1,8 @@
 -- The choice of a glyph: rows of emoji, the test of a GB code, the extra list, one source after another.
 use mathlib.Core.Path.{_≡_, refl, sym, ap, _∙_}
 use mathlib.Core.Bool.{true, false, _&&_, _||_, and-false}
-use mathlib.Core.List.{List, [], _∷_}
-use Prim.Native.Nat.{ℕ, _+_, _-_, _*_, _/_, _≤_, _<_}
+use mathlib.Core.List.{List, []}
+use Prim.Native.Nat.{ℕ, _+_, _-_, _*_, _/_, _≤_}
 use native.Mathlib.Omega.{arith}
 use borrow.Author.Tests.{le-leb, lt-leb, lt-ltb, le-ltb}
 use lib.Dec.{ltb, leb}
@@ -15,13 +15,13 @@ use Rattle.model.specs.declared.Glyph.the-variants.{Emoji, Gb, Extra, Hexadecim
 use Rattle.model.specs.Glyphs.{glyphOr, glyphOf}
 use Rattle.laws.specs.Glyphs.{found-at, found-nothing}
 use Rattle.glyph_choice.specs.Choice.{extraGlyph, otherGlyph}
-use Rattle.laws.specs.Tests.{either, tests, or-cases, or-right}
+use Rattle.laws.specs.Tests.{either, tests, and-true, or-cases, or-right, neither}
 
 pub no-row : (before lead trail : ℕ) → Nothing ≡ indexIn [] before lead trail
 unfolding indexIn
 no-row before lead trail = refl
 
--- ---- GB: trail, then the two runs of rows
+-- ---- GB: the trail, then each run of rows
 
 pub no-trail : (lead trail : ℕ) → (ltb trail 161 || ltb 254 trail) ≡ true → Nothing ≡ gbIndex lead trail
 unfolding gbIndex
@@ -30,16 +30,24 @@ no-trail lead trail e =
     (λ h. rw (lt-leb 161 trail (omega (arith, tests)), and-false (gbLead lead)))
     (λ h. rw (lt-leb trail 254 (omega (arith, tests)), and-false (gbLead lead && leb 161 trail)))
 
-module _ (lead trail : ℕ) (from : 161 ≤ trail) (to : trail ≤ 254) where
-  in-row : (row : ℕ) → gbLead lead ≡ true → row ≡ gbRow (lead - 161) → At (94 * row + (trail - 161)) ≡ gbIndex lead trail
+pub trail-from : (trail : ℕ) → (ltb trail 161 || ltb 254 trail) ≡ false → 161 ≤ trail
+trail-from trail e = let t = neither (ltb trail 161) (ltb 254 trail) e in omega (arith, tests)
+
+pub between : {first last : ℕ} (n : ℕ) → (leb first n && leb n last) ≡ true → (first ≤ n) × (n ≤ last)
+between {first} {last} n e = let t = and-true (leb first n) (leb n last) e in omega (arith, tests)
+
+module _ {f : Found} (lead trail row : ℕ) (t : (ltb trail 161 || ltb 254 trail) ≡ false) (g : f ≡ At (94 * row + (trail - 161))) where
+  in-row : gbLead lead ≡ true → row ≡ gbRow (lead - 161) → f ≡ gbIndex lead trail
   unfolding gbIndex
-  in-row row e r = rw (e, le-leb 161 trail from, le-leb trail 254 to, r)
+  in-row e r =
+      let k = neither (ltb trail 161) (ltb 254 trail) t in
+      rw (e, le-leb 161 trail (omega (arith, tests)), le-leb trail 254 (omega (arith, tests)), ← r) g
 
-  pub low-row : (row : ℕ) → 161 ≤ lead → lead ≤ 169 → row ≡ lead - 161 → At (94 * row + (trail - 161)) ≡ gbIndex lead trail
-  low-row row a b r = in-row row (rw (le-leb 161 lead a, le-leb lead 169 b)) (rw (le-ltb 8 (lead - 161) (omega arith)) r)
+  pub low-row : 161 ≤ lead → lead ≤ 169 → row ≡ lead - 161 → f ≡ gbIndex lead trail
+  low-row a b r = in-row (rw (le-leb 161 lead a, le-leb lead 169 b)) (rw (le-ltb 8 (lead - 161) (omega arith)) r)
 
-  pub high-row : (row : ℕ) → 176 ≤ lead → lead ≤ 247 → row ≡ lead - 167 → At (94 * row + (trail - 161)) ≡ gbIndex lead trail
-  high-row row a b r = in-row row (or-right (leb 161 lead && leb lead 169) (rw (le-leb 176 lead a, le-leb lead 247 b))) (rw (lt-ltb 8 (lead - 161) (omega arith)) (omega arith))
+  pub high-row : 176 ≤ lead → lead ≤ 247 → row ≡ lead - 167 → f ≡ gbIndex lead trail
+  high-row a b r = in-row (or-right (leb 161 lead && leb lead 169) (rw (le-leb 176 lead a, le-leb lead 247 b))) (rw (lt-ltb 8 (lead - 161) (omega arith)) (omega arith))
 
 pub no-row-there : (lead trail : ℕ) → (leb 161 lead && leb lead 169) ≡ false → (leb 176 lead && leb lead 247) ≡ false → Nothing ≡ gbIndex lead trail
 unfolding gbIndex

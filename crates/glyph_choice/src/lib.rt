@@ -87,15 +87,15 @@ fn emoji_index(version: u8, lead: u8, trail: u8) -> Found
     index_v2(lead, trail)
 }
 
-// From a row of the font, 0 to 80.
+// `row` counts the rows of the font, from 0.
 fn gb_place(row: u8, trail: u8) -> Found
-    requires { ⌜ (row ≤ 80) × (161 ≤ trail) ⌝ }
+    requires { ⌜ 161 ≤ trail ⌝ }
     ensures { λ r. ⌜ r ≡ Found.At (94 * row + (trail - 161)) ⌝ }
 {
     Found::At(94 * (row as usize) + (trail - 161) as usize)
 }
 
-// Rows 16-87 and 1-9; row 16 follows row 9 in the font.
+// Rows 16-87, which most characters are of, and rows 1-9. Row 16 follows row 9 in the font.
 fn gb_index(lead: u8, trail: u8) -> Found
     ensures { λ r. ⌜ r ≡ gbIndex lead trail ⌝ }
 {

@@ -1,6 +1,6 @@
 -- Glyphs: where a code's glyph stands, and how its bytes are stored on the screen.
 use mathlib.Core.Path.{_≡_, refl, sym, ap, _∙_}
-use mathlib.Core.Bool.{Bool, true, false, _&&_, _||_, and-assoc, and-true}
+use mathlib.Core.Bool.{Bool, true, false, _&&_, and-assoc, and-true}
 use mathlib.Core.List.{List, [], _∷_, _++_}
 use Prim.Native.Nat.{ℕ, zero, suc, _+_, _-_, _≤_, _<_, _*_}
 use native.Mathlib.Omega.{arith}
@@ -15,9 +15,9 @@ use Rattle.model.specs.declared.Found.the-variants.{At, Nothing}
 use Rattle.model.specs.declared.Glyph.{Glyph}
 use Rattle.model.specs.declared.Glyph.the-variants.{Extra, Hexadecimal}
 use Rattle.model.specs.Bytes.{two, four}
-use Rattle.model.specs.Codes.{CodeRow, codes, emojiRows, inRow, indexIn, emojiIndex, gbLead, gbIndex, extraFrom, extraOffset}
+use Rattle.model.specs.Codes.{CodeRow, codes, emojiRows, inRow, indexIn, emojiIndex, gbIndex, extraFrom, extraOffset}
 use Rattle.model.specs.Glyphs.{glyphOr, glyphOf, Store, flipped, value, paint, fontsFit, columnStores, lineStores}
-use Rattle.laws.specs.Tests.{all-true, by-lt, either, tests, and-true as and-both, or-cases}
+use Rattle.laws.specs.Tests.{all-true, by-lt, tests}
 
 -- Codes: a table of rows searched from the first on.
 
@@ -68,16 +68,7 @@ unfolding emojiIndex
 no-emoji zero lead trail h = above-none (emojiRows 0) 0 lead trail (omega arith)
 no-emoji (suc n) lead trail h = above-none (emojiRows 1) 0 lead trail (omega arith)
 
--- ---- GB
-
--- a lead of its rows
-pub gb-lead-range : (lead : ℕ) → gbLead lead ≡ true → (161 ≤ lead) × (lead ≤ 247)
-gb-lead-range lead e =
-    either (or-cases (leb 161 lead && leb lead 169) (leb 176 lead && leb lead 247) e)
-    (λ h. let a = and-both (leb 161 lead) (leb lead 169) h in omega (arith, tests))
-    (λ h. let a = and-both (leb 176 lead) (leb lead 247) h in omega (arith, tests))
-
--- ---- rows 10-15: neither emoji nor GB, so the extra list decides
+-- ---- GB's empty rows, 10-15: neither emoji nor GB, so the extra list decides
 
 gb-empty : (lead trail : ℕ) → 170 ≤ lead → lead ≤ 175 → gbIndex lead trail ≡ Nothing
 unfolding gbIndex
