@@ -95,14 +95,43 @@ fn flush_past_the_last_cell() {
     assert_eq!(both.reference.memory(), both.model.memory, "the reference was lent zeros there");
 }
 
+/// Sixteen lines of two bytes.
+type Glyph = [[u8; 2]; 16];
+
+/// What the first two cells of the screen show.
+fn first_cells(memory: &[u8]) -> Glyph {
+    std::array::from_fn(|line| [0, 1].map(|column| memory[4096 + line * LINE + column]))
+}
+
+/// The glyph at this place of a font.
+fn glyph(font: &[u8], place: usize) -> Glyph {
+    std::array::from_fn(|line| [0, 1].map(|column| font[place + 2 * line + column]))
+}
+
+/// Hexadecimal codes: in each column one digit over another.
+fn digits(columns: [&[u8; 2]; 2]) -> Glyph {
+    let font = FontsLent::whole(vec![]).ascii8();
+    std::array::from_fn(|line| columns.map(|digits| font[8 * digits[line / 8] as usize + line % 8]))
+}
+
 #[test]
-fn gb_rows_10_to_15_show_rows_4_to_9() {
-    let shown = |text: &[u8]| {
+fn gb_rows_10_to_15_are_not_gb() {
+    let fonts = FontsLent::whole(vec![]);
+    let gb = glyph(fonts.gb(), 32 * 94 * 3);
+    let extra = glyph(fonts.extra_font(), 64);
+    let hexadecimal = digits([b"AA", b"A1"]);
+    assert!(gb != hexadecimal && gb != extra && hexadecimal != extra);
+
+    let entry = vec![0xa1, 0xaa, 64, 0, 0, 0];
+    for (text, extra_list, by_reference, by_model) in [
+        ([0xa4, 0xa1], vec![], gb, gb),
+        ([0xaa, 0xa1], vec![], gb, hexadecimal),
+        ([0xaa, 0xa1], entry, gb, extra),
+    ] {
         let mut both = Both::opened();
         both.call(&Call::Print { text: text.to_vec() });
-        both.call(&Call::Flush { fonts: FontsLent::whole(vec![]) });
-        assert_eq!(both.reference.memory(), both.model.memory);
-        both.model.memory[4096..4096 + SCREEN].to_vec()
-    };
-    assert_eq!(shown(&[0xaa, 0xa1]), shown(&[0xa4, 0xa1]));
+        both.call(&Call::Flush { fonts: FontsLent::whole(extra_list) });
+        assert_eq!(first_cells(both.reference.memory()), by_reference, "{text:x?}");
+        assert_eq!(first_cells(&both.model.memory), by_model, "{text:x?}");
+    }
 }
