@@ -3,6 +3,7 @@
 
 use calls::layout::*;
 use calls::{Answer, Buffers, Call, FontsLent};
+use driver::random::Random;
 use reference::{Reference, Told};
 
 const OPEN: Call = Call::Open { graphics_base: 4096, text_base: 8192, version: 1, keys: [0; 8] };
@@ -134,4 +135,24 @@ fn gb_rows_10_to_15_are_not_gb() {
         assert_eq!(first_cells(both.reference.memory()), by_reference, "{text:x?}");
         assert_eq!(first_cells(&both.model.memory), by_model, "{text:x?}");
     }
+}
+
+/// Texts of bytes around the gap in any order: the reference is left out exactly where it differs.
+#[test]
+fn only_flushes_with_a_pair_in_the_gap_are_left_out() {
+    let mut random = Random::new(1);
+    let flush = Call::Flush { fonts: FontsLent::whole(vec![]) };
+    let mut left_out = 0;
+    for _ in 0..4_000 {
+        let mut both = Both::opened();
+        let bytes = [0, b'a', 128, 160, 161, 169, 170, 175, 176, 254, 255];
+        let text = [(); CELLS].map(|()| if random.one_in(4) { random.pick(&bytes) } else { 0 });
+        both.model.memory[8192..][..CELLS].copy_from_slice(&text);
+        both.reference.load(&both.model.record, &both.model.memory);
+        let followed = both.reference.can_follow(&flush);
+        both.call(&flush);
+        assert_eq!(followed, both.reference.memory() == both.model.memory, "{text:?}");
+        left_out += !followed as u32;
+    }
+    assert!((1_000..3_000).contains(&left_out), "{left_out}");
 }
