@@ -21,7 +21,7 @@ pub enum Pairs {
 
 impl Random {
     pub fn pairs(&mut self) -> Pairs {
-        if self.one_in(3) { Pairs::InGapToo } else { Pairs::OutsideGap }
+        if self.one_in(4) { Pairs::InGapToo } else { Pairs::OutsideGap }
     }
 
     pub fn text(&mut self, pairs: Pairs) -> Vec<u8> {
@@ -94,7 +94,7 @@ impl Random {
 
     fn extra_code(&mut self, pairs: Pairs) -> [u8; 2] {
         match self.below(8) {
-            0..3 if pairs == Pairs::InGapToo => self.in_gap(),
+            0..4 if pairs == Pairs::InGapToo => self.in_gap(),
             0 => self.pick(&BESIDE_GAP),
             _ => [self.pick(&LEADS), self.pick(&TRAILS)],
         }
