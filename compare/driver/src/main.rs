@@ -1,7 +1,7 @@
 //! `driver run` compares; `driver scripts` compares a script program with the model;
 //! `driver replay-make` writes a list for the replay.
 
-use driver::run::Run;
+use driver::run::{FULL, Run};
 use driver::scripts::{self, Scripts};
 use driver::{core_side, replay};
 use std::fs;
@@ -14,7 +14,8 @@ driver scripts COUNT PROGRAM [--seed S]
     feed COUNT scripts to PROGRAM and hold what it prints to the model
 driver replay-make FOLDER
     write the replay's stdin and stdout into FOLDER
-Seeds are 0 to 4294967295 (default 1). Exit status: 0 nothing differs, 1 something does, 2 bad arguments.";
+Seeds are 0 to 4294967295 (default 1). Exit status: 0 nothing differs, 1 something does, or 10000000
+calls or more had fewer than 10000 flushes with a pair in the gap, 2 bad arguments.";
 
 fn main() -> ExitCode {
     let arguments: Vec<String> = std::env::args().skip(1).collect();
@@ -69,7 +70,7 @@ fn usage() -> ExitCode {
 }
 
 fn run(arguments: &[String]) -> ExitCode {
-    let mut run = Run { calls: 10_000_000, seed: 1, core: core_side::linked(), exhaustive: true };
+    let mut run = Run { calls: FULL, seed: 1, core: core_side::linked(), exhaustive: true };
     let mut rest = arguments.iter();
     while let Some(argument) = rest.next() {
         match argument.as_str() {

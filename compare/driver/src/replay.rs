@@ -1,14 +1,15 @@
 //! A stored list of calls and what the reference makes of it, for a program that replays it on
 //! the core. README.md says how the two files look.
 //!
-//! Only calls of the core that the reference has too, and only such as document 01 accepts and the
-//! reference does without a panic and as document 01 says. The answers are the reference's alone.
+//! Only calls of the core that the reference has too, and only such as document 01 with the change
+//! requests accepts and the reference does without a panic and as these say: no flush that shows a
+//! pair in the gap, and no print that holds one. The answers are the reference's alone.
 
 use crate::judge::panics;
 use crate::random::{Random, Windows};
 use calls::layout::IN_REFERENCE;
 use calls::{Buffers, Call, FontsLent};
-use reference::{Reference, Told};
+use reference::{Reference, Told, in_gap};
 use std::fmt::Write;
 
 const IN_CORE: &str = include_str!("../../core/calls.txt");
@@ -47,7 +48,7 @@ impl Replay {
         for _ in 0..CALLS_IN_LIST {
             let number = random.pick(&numbers);
             let call = fit(random.call(number, windows));
-            let done_alike = !panics::due(&call) && reference.can_follow(&call);
+            let done_alike = !panics::due(&call) && reference.can_follow(&call) && !prints_gap(&call);
             if done_alike && model::answer(&call, state.lend(&call)).accepted() {
                 self.add(&call, reference);
             }
@@ -98,6 +99,12 @@ fn fit(call: Call) -> Call {
         Call::Flush { .. } => Call::Flush { fonts: FontsLent::whole(vec![]) },
         call => call,
     }
+}
+
+/// Whether a printed text has the bytes of a pair in the gap anywhere.
+fn prints_gap(call: &Call) -> bool {
+    let Call::Print { text } = call else { return false };
+    text.windows(2).any(|two| in_gap(u16::from_be_bytes([two[0], two[1]])))
 }
 
 /// The number of the call, then what it is told in the order of the C interface, least byte

@@ -10,6 +10,12 @@ use crate::tally::Tally;
 use crate::{exhaustive, random};
 use std::iter::Peekable;
 
+/// The calls of a full run.
+pub const FULL: u64 = 10_000_000;
+
+/// So many of its flushes, at least, show a pair in the gap.
+const GAP_FLUSHES: u64 = 10_000;
+
 pub struct Run {
     pub calls: u64,
     pub seed: u64,
@@ -18,7 +24,7 @@ pub struct Run {
 }
 
 impl Run {
-    /// Print what was compared; true if nothing differs.
+    /// Print what was compared; true if nothing differs and enough was compared.
     pub fn run(&self) -> bool {
         self.say_what_is_due();
         let mut turns = Turns::new(self.seed, self.exhaustive);
@@ -42,7 +48,17 @@ impl Run {
         println!("exhaustive lists: {} of {}", turns.exhaustive_done, exhaustive::lists().count());
         println!("{:.0} calls a second", tally.calls() as f64 / progress.seconds());
         println!("{} calls, 0 differences", tally.calls());
-        true
+        self.has_enough_gap_flushes(tally.gap_flushes.all)
+    }
+
+    /// The reference says nothing about pairs in the gap: without flushes of our own that show them
+    /// the rule would go untested.
+    fn has_enough_gap_flushes(&self, count: u64) -> bool {
+        let enough = self.calls < FULL || count >= GAP_FLUSHES;
+        if !enough {
+            println!("TOO FEW flushes with a pair in the gap: {count}, a full run needs {GAP_FLUSHES}");
+        }
+        enough
     }
 
     /// The seed, the sides, and how far the calls lead into the exhaustive lists.
@@ -118,4 +134,18 @@ impl Turns {
 /// The seed of the list of this number in a run.
 fn list_seed(seed: u64, number: u64) -> u64 {
     (seed << 32).wrapping_add(number)
+}
+
+#[cfg(test)]
+mod tests {
+    use super::*;
+
+    #[test]
+    fn only_a_full_run_needs_flushes_with_a_pair_in_the_gap() {
+        let enough =
+            |calls, count| Run { calls, seed: 1, core: None, exhaustive: true }.has_enough_gap_flushes(count);
+        assert!(!enough(FULL, GAP_FLUSHES - 1));
+        assert!(enough(FULL, GAP_FLUSHES));
+        assert!(enough(FULL - 1, 0));
+    }
 }

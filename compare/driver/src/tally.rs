@@ -2,7 +2,8 @@
 
 use crate::core_side;
 use calls::layout::PANELS;
-use calls::{Answer, Call};
+use calls::{Answer, Call, FontsLent};
+use reference::in_gap;
 
 #[derive(Debug, Clone, Copy, Default)]
 struct Row {
@@ -15,9 +16,21 @@ struct Row {
     by_core: u64,
 }
 
+/// Accepted flushes that show a pair in the gap. The reference is not compared: it shows other
+/// glyphs there.
+#[derive(Debug, Clone, Copy, Default)]
+pub struct GapFlushes {
+    pub all: u64,
+    /// Of these, such where the extra list has an entry for one of them.
+    by_extra_list: u64,
+    /// Of all, such where it has none for one of them, which shows in hexadecimal.
+    in_hexadecimal: u64,
+}
+
 #[derive(Debug, Default)]
 pub struct Tally {
     rows: [Row; Call::NAMES.len()],
+    pub gap_flushes: GapFlushes,
     refusals: [u64; REFUSALS.len()],
     /// Accepted sends by panel: those of the lists, and those made after them, to see that each panel
     /// comes level.
@@ -64,6 +77,13 @@ impl Tally {
         row.panicked += panicked as u64;
     }
 
+    /// An accepted call that the reference cannot be asked about: a flush that shows these pairs.
+    pub fn left_out(&mut self, call: &Call, pairs: &[u16]) {
+        if let Call::Flush { fonts } = call {
+            self.gap_flushes.count(fonts, pairs);
+        }
+    }
+
     pub fn core_compared(&mut self, call: &Call) {
         self.rows[call.number()].by_core += 1;
     }
@@ -98,6 +118,7 @@ impl Tally {
             .map(|code| format!("{code} {} {}", REFUSALS[code], self.refusals[code]))
             .collect();
         println!("refusals: {}", refusals.join(", "));
+        println!("{}", self.gap_flushes.in_words(core));
         println!("sends: {}", by_panel(&self.sends));
         println!("sends after the lists, until all are idle: {}", by_panel(&self.level_sends));
         println!(
@@ -108,6 +129,24 @@ impl Tally {
             self.calls(),
             self.refused_between
         );
+    }
+}
+
+impl GapFlushes {
+    fn count(&mut self, fonts: &FontsLent, pairs: &[u16]) {
+        let gap: Vec<u16> = pairs.iter().copied().filter(|code| in_gap(*code)).collect();
+        let listed = |code: &u16| fonts.extra_entries().any(|(entry, _)| entry == *code);
+        self.all += !gap.is_empty() as u64;
+        self.by_extra_list += gap.iter().any(listed) as u64;
+        self.in_hexadecimal += !gap.iter().all(listed) as u64;
+    }
+
+    fn in_words(&self, core: bool) -> String {
+        let Self { all, by_extra_list, in_hexadecimal } = self;
+        let who = if core { "core held to the model" } else { "by the model alone" };
+        format!(
+            "flushes with a pair in the gap, {who}: {all}; {by_extra_list} show one by the extra list, {in_hexadecimal} show one in hexadecimal"
+        )
     }
 }
 

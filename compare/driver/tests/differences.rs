@@ -3,6 +3,7 @@
 
 use calls::layout::*;
 use calls::{Answer, Buffers, Call, FontsLent};
+use driver::random::Random;
 use reference::{Reference, Told};
 
 const OPEN: Call = Call::Open { graphics_base: 4096, text_base: 8192, version: 1, keys: [0; 8] };
@@ -95,14 +96,63 @@ fn flush_past_the_last_cell() {
     assert_eq!(both.reference.memory(), both.model.memory, "the reference was lent zeros there");
 }
 
+/// Sixteen lines of two bytes.
+type Glyph = [[u8; 2]; 16];
+
+/// What the first two cells of the screen show.
+fn first_cells(memory: &[u8]) -> Glyph {
+    std::array::from_fn(|line| [0, 1].map(|column| memory[4096 + line * LINE + column]))
+}
+
+/// The glyph at this place of a font.
+fn glyph(font: &[u8], place: usize) -> Glyph {
+    std::array::from_fn(|line| [0, 1].map(|column| font[place + 2 * line + column]))
+}
+
+/// Hexadecimal codes: in each column one digit over another.
+fn digits(columns: [&[u8; 2]; 2]) -> Glyph {
+    let font = FontsLent::whole(vec![]).ascii8();
+    std::array::from_fn(|line| columns.map(|digits| font[8 * digits[line / 8] as usize + line % 8]))
+}
+
 #[test]
-fn gb_rows_10_to_15_show_rows_4_to_9() {
-    let shown = |text: &[u8]| {
+fn gb_rows_10_to_15_are_not_gb() {
+    let fonts = FontsLent::whole(vec![]);
+    let gb = glyph(fonts.gb(), 32 * 94 * 3);
+    let extra = glyph(fonts.extra_font(), 64);
+    let hexadecimal = digits([b"AA", b"A1"]);
+    assert!(gb != hexadecimal && gb != extra && hexadecimal != extra);
+
+    let entry = vec![0xa1, 0xaa, 64, 0, 0, 0];
+    for (text, extra_list, by_reference, by_model) in [
+        ([0xa4, 0xa1], vec![], gb, gb),
+        ([0xaa, 0xa1], vec![], gb, hexadecimal),
+        ([0xaa, 0xa1], entry, gb, extra),
+    ] {
         let mut both = Both::opened();
         both.call(&Call::Print { text: text.to_vec() });
-        both.call(&Call::Flush { fonts: FontsLent::whole(vec![]) });
-        assert_eq!(both.reference.memory(), both.model.memory);
-        both.model.memory[4096..4096 + SCREEN].to_vec()
-    };
-    assert_eq!(shown(&[0xaa, 0xa1]), shown(&[0xa4, 0xa1]));
+        both.call(&Call::Flush { fonts: FontsLent::whole(extra_list) });
+        assert_eq!(first_cells(both.reference.memory()), by_reference, "{text:x?}");
+        assert_eq!(first_cells(&both.model.memory), by_model, "{text:x?}");
+    }
+}
+
+/// Texts of bytes around the gap in any order: the reference is left out exactly where it differs.
+#[test]
+fn only_flushes_with_a_pair_in_the_gap_are_left_out() {
+    let mut random = Random::new(1);
+    let flush = Call::Flush { fonts: FontsLent::whole(vec![]) };
+    let mut left_out = 0;
+    for _ in 0..4_000 {
+        let mut both = Both::opened();
+        let bytes = [0, b'a', 128, 160, 161, 169, 170, 175, 176, 254, 255];
+        let text = [(); CELLS].map(|()| if random.one_in(4) { random.pick(&bytes) } else { 0 });
+        both.model.memory[8192..][..CELLS].copy_from_slice(&text);
+        both.reference.load(&both.model.record, &both.model.memory);
+        let followed = both.reference.can_follow(&flush);
+        both.call(&flush);
+        assert_eq!(followed, both.reference.memory() == both.model.memory, "{text:?}");
+        left_out += !followed as u32;
+    }
+    assert!((1_000..3_000).contains(&left_out), "{left_out}");
 }

@@ -1,9 +1,10 @@
 //! The stored list holds all that is needed to replay it: the model reads it back and comes to
-//! the reference's answers and checksums.
+//! the reference's answers and checksums. No text of it holds a pair in the gap.
 
 use calls::layout::IN_REFERENCE;
 use calls::{Buffers, Call, FontsLent};
 use driver::replay;
+use reference::{Reference, in_gap};
 
 fn word(bytes: &[u8], place: usize) -> u16 {
     u16::from_le_bytes([bytes[place], bytes[place + 1]])
@@ -91,5 +92,20 @@ fn every_replayed_call_is_in_the_list() {
         let count = stdin.chunks(16).filter(|stored| stored[0] as usize == number).count();
         let least = if ["open", "reset"].contains(&name) { 10 } else { 100 };
         assert!(count >= least, "{name}: {count}");
+    }
+}
+
+#[test]
+fn no_text_holds_a_pair_in_the_gap() {
+    let mut reference = Reference::default();
+    for stored in replay::make().stdin.chunks(16) {
+        let call = call_of(stored);
+        if let Call::Flush { .. } = call {
+            assert!(!reference.pairs_shown().into_iter().any(in_gap));
+        }
+        if let Call::Print { text } = &call {
+            assert!(!text.windows(2).any(|two| in_gap(u16::from_be_bytes([two[0], two[1]]))), "{text:x?}");
+        }
+        reference.call(&call);
     }
 }

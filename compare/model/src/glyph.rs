@@ -79,9 +79,10 @@ fn emoji_index(version: Version, lead: u8, trail: u8) -> Option<usize> {
     None
 }
 
-/// Rows 10-15, empty in the standard, show the glyphs of rows 4-9.
+/// Leads 161-169 and 176-247. Rows 10-15 between them, empty in the standard, are no GB codes, and
+/// the font leaves them out.
 fn gb_index(lead: u8, trail: u8) -> Option<usize> {
-    if !(161..=247).contains(&lead) || !(161..=254).contains(&trail) {
+    if !matches!(lead, 161..=169 | 176..=247) || !(161..=254).contains(&trail) {
         return None;
     }
     let section = lead as usize - 161;
@@ -105,5 +106,16 @@ mod tests {
         assert_eq!(emoji_index(Version::V1, 0xfd, 0x7d), Some(526));
         assert_eq!(emoji_index(Version::V2, 0xf8, 0xa1), Some(0));
         assert_eq!(emoji_index(Version::V2, 0xfd, 0xd9), Some(526));
+    }
+
+    #[test]
+    fn gb_codes_around_the_empty_rows() {
+        assert_eq!(gb_index(0xa1, 0xa1), Some(0));
+        assert_eq!(gb_index(0xa9, 0xfe), Some(845));
+        assert_eq!(gb_index(0xb0, 0xa1), Some(846));
+        assert_eq!(gb_index(0xf7, 0xfe), Some(7613));
+        for lead in 0xaa..=0xaf {
+            assert!((0..=255).all(|trail| gb_index(lead, trail).is_none()), "{lead:#x}");
+        }
     }
 }

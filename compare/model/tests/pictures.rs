@@ -1,7 +1,8 @@
-//! Document 01's known pictures, each with dirty and owed empty before it.
+//! Document 01's known pictures, each with dirty and owed empty before it, and one of an empty GB
+//! row, which change request 2 takes out of GB.
 
 use calls::layout::*;
-use calls::{Answer, Buffers, Call};
+use calls::{Answer, Buffers, Call, FontsLent};
 
 struct Screen(Buffers);
 
@@ -36,6 +37,11 @@ impl Screen {
         let owed = [0, 1, 2, 3].map(|panel| four(&self.0.record, owed(panel)));
         assert_eq!(owed, [owed[0]; PANELS]);
         owed[0]
+    }
+
+    /// A line of the first two cells.
+    fn first_cells(&self, line: usize) -> [u8; 2] {
+        [0, 1].map(|column| self.0.memory[GRAPHICS + line * LINE + column])
     }
 
     /// All pixels that are set.
@@ -112,6 +118,30 @@ fn bitmaps() {
     assert_eq!(screen.dirty(), [0, 0, 7, 1]);
     assert_eq!(screen.call(paint(65_535, 0, 9)).code, 5);
     assert_eq!(screen.call(paint(65_534, 0, 9)).code, 0);
+}
+
+#[test]
+fn empty_gb_rows() {
+    let shown = |extra_list: Vec<u8>| {
+        let mut screen = Screen::new();
+        screen.call(Call::Print { text: vec![0xaf, 0xc4] });
+        screen.call(Call::Flush { fonts: FontsLent::whole(extra_list) });
+        screen
+    };
+    let fonts = FontsLent::whole(vec![]);
+    let digit = |digit: u8, line: usize| fonts.ascii8()[8 * digit as usize + line];
+    let (codes, listed) = (shown(vec![]), shown(vec![0xc4, 0xaf, 96, 0, 0, 0]));
+    for line in 0..8 {
+        assert_eq!(codes.first_cells(line), [digit(b'A', line), digit(b'C', line)]);
+        assert_eq!(codes.first_cells(8 + line), [digit(b'F', line), digit(b'4', line)]);
+    }
+    for line in 0..16 {
+        assert_eq!(listed.first_cells(line), fonts.extra_font()[96 + 2 * line..][..2]);
+    }
+    assert_ne!(codes.pixels(), listed.pixels());
+    for screen in [codes, listed] {
+        assert_eq!((screen.dirty(), screen.owed()), ([0, 0, 160, 80], [0, 0, 160, 80]));
+    }
 }
 
 #[test]

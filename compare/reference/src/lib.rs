@@ -10,4 +10,5 @@ use root::{ByteString, HashMap, PrintMode, ScreenMode, util};
 
 include!(concat!(env!("OUT_DIR"), "/src/modules.rs"));
 
+pub use flush::in_gap;
 pub use screen::{Reference, Told};

@@ -1,7 +1,7 @@
 use crate::device::default::DefaultDevice;
 use crate::device::default::access::{print_mode, screen_mode};
 use crate::device::{Device, DrawMode, PaintMode};
-use crate::flush::{behind_text, can_follow};
+use crate::flush::{Walk, behind_text, can_follow};
 use calls::layout::RECORD;
 use calls::{Call, FontsLent};
 use std::cell::Cell;
@@ -52,10 +52,15 @@ impl Reference {
         self.device.set_place(row, column);
     }
 
-    /// Whether document 01 expects of this accepted call what the reference does.
-    /// Only some flushes read what the reference must not be asked about.
+    /// Whether document 01 with the change requests expects of this accepted call what the reference
+    /// does. Only some flushes read or show what the reference must not be asked about.
     pub fn can_follow(&self, call: &Call) -> bool {
         if let Call::Flush { fonts } = call { can_follow(&self.device, fonts) } else { true }
+    }
+
+    /// The codes of the pairs that a flush of the text, as it is, shows.
+    pub fn pairs_shown(&self) -> Vec<u16> {
+        Walk::of_device(&self.device).pairs
     }
 
     /// Give the reference a call whose modes and flags are listed ones. It has no send.

@@ -14,8 +14,9 @@ pub fn lists() -> impl Iterator<Item = List> {
     drawing::lists().chain(text::lists()).chain(records::lists()).chain(numbers::lists())
 }
 
-/// Calls in a list at most.
-const CALLS: usize = 128;
+/// Calls in a list at most: a multiple of 2, 3, 6 and 9, the numbers of calls that belong together,
+/// as setting a mode, printing and flushing do.
+const CALLS: usize = 126;
 
 /// `panelrun`'s windows.
 const WINDOWS: (u16, u16) = (4096, 8192);

@@ -3,6 +3,7 @@
 use super::{from_record, opened, pairs, record};
 use crate::list::{List, Step};
 use calls::{Call, FontsLent};
+use reference::in_gap;
 
 pub fn lists() -> impl Iterator<Item = List> {
     prints().chain(cursors()).chain(codes()).chain(row_ends())
@@ -78,23 +79,29 @@ fn cursors() -> impl Iterator<Item = List> {
     })
 }
 
-/// Every pair from 0x8000 on in both versions, forty at a time, some of them in the extra list.
+/// Every pair from 0x8000 on in both versions and both screen modes, forty at a time. Outside the
+/// gap every fifth has an entry in the extra list. Those in the gap are in texts of their own, each
+/// flushed with entries for every other code and then for the rest.
 fn codes() -> impl Iterator<Item = List> {
     pairs(&[0, 1], &[0, 1]).into_iter().flat_map(|(version, mode)| {
-        let codes: Vec<u16> = (0x8000..=0xffff).collect();
-        let texts: Vec<Vec<u16>> = codes.chunks(40).map(<[u16]>::to_vec).collect();
-        let calls = texts.into_iter().flat_map(move |codes| {
-            let extra: Vec<u8> = codes.iter().step_by(5).flat_map(|code| extra_entry(*code)).collect();
-            let text = codes.iter().flat_map(|code| code.to_be_bytes()).collect();
-            [
-                Call::SetScreenMode { mode },
-                Call::Print { text },
-                Call::Flush { fonts: FontsLent::whole(extra) },
-            ]
+        let (gap, others): (Vec<u16>, Vec<u16>) = (0x8000..=0xffff).partition(|code| in_gap(*code));
+        let others = others.chunks(40).flat_map(|codes| shown(mode, codes, codes.iter().step_by(5)));
+        let gap = gap.chunks(40).flat_map(|codes| {
+            [0, 1].into_iter().flat_map(move |first| shown(mode, codes, codes[first..].iter().step_by(2)))
         });
         let open = Call::Open { graphics_base: 4096, text_base: 8192, version, keys: [0; 8] };
-        opened(open, calls)
+        opened(open, others.chain(gap).collect::<Vec<_>>().into_iter())
     })
+}
+
+/// A text of these codes shown on an empty screen, with entries in the extra list for some.
+fn shown<'a>(mode: u8, codes: &[u16], listed: impl Iterator<Item = &'a u16>) -> [Call; 3] {
+    let extra_list = listed.flat_map(|code| extra_entry(*code)).collect();
+    [
+        Call::SetScreenMode { mode },
+        Call::Print { text: codes.iter().flat_map(|code| code.to_be_bytes()).collect() },
+        Call::Flush { fonts: FontsLent::whole(extra_list) },
+    ]
 }
 
 /// Code, then an offset that depends on it.
@@ -104,12 +111,13 @@ fn extra_entry(code: u16) -> [u8; 6] {
     [low, high, offset_low, offset_high, 0, 0]
 }
 
-/// Codes of every sort at every row's end, with every pair of flags, at one or two ends.
+/// Codes of every sort at every row's end, with every pair of flags, at one or two ends. Of the two
+/// in the gap one shows by the extra list.
 fn row_ends() -> impl Iterator<Item = List> {
-    let codes: [u16; 7] = [0xf8a1, 0xb0a1, 0xaaa1, 0x8040, 0xfa46, 0x8041, 0xff00];
+    let codes: [u16; 8] = [0xf8a1, 0xb0a1, 0xaaa1, 0xaffe, 0x8040, 0xfa46, 0x8041, 0xff00];
     let ends = [(19, 39), (39, 59), (59, 79), (79, 98), (98, 19), (99, 19), (19, 19)];
     pairs(&codes, &ends).into_iter().flat_map(move |(code, (one, other))| {
-        let extra = extra_entry(0x8040).to_vec();
+        let extra = [0x8040, 0xaffe].map(extra_entry).concat();
         let calls = (0..4u8).flat_map(move |flags| {
             let mut calls = vec![Call::Cls];
             for end in [one, other] {

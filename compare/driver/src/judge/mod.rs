@@ -169,7 +169,8 @@ impl Judge {
         self.reckoner.compare(&self.own.model.record)
     }
 
-    /// The reference does an accepted call and stands as the model does.
+    /// The reference does an accepted call and stands as the model does. Where it cannot be asked
+    /// about the call, it goes on from what the model left.
     fn reference_step(
         &mut self,
         call: &Call,
@@ -178,6 +179,7 @@ impl Judge {
         tally: &mut Tally,
     ) -> Judged<()> {
         if !self.reference.can_follow(call) {
+            tally.left_out(call, &self.reference.pairs_shown());
             self.reference.load(&self.own.model.record, &self.own.model.memory);
             return Ok(());
         }

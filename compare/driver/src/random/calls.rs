@@ -2,11 +2,12 @@
 
 use super::Random;
 use super::numbers::Windows;
+use super::texts::Pairs;
 use calls::Call;
 use calls::layout::{MEMORY, PANELS};
 
 impl Random {
-    /// A call by its number among `Call::NAMES`.
+    /// A call by its number among `Call::NAMES`, of any panel, with codes outside the gap.
     pub fn call(&mut self, number: usize, windows: Windows) -> Call {
         match Call::NAMES[number] {
             "open" => self.open(),
@@ -31,10 +32,10 @@ impl Random {
             "draw_ellipse" => self.ellipse(),
             "check_point" => Call::CheckPoint { x: self.signed(8, 160), y: self.signed(8, 80) },
             "paint_bitmap" => self.bitmap(windows),
-            "print" => Call::Print { text: self.text() },
+            "print" => Call::Print { text: self.text(Pairs::OutsideGap) },
             "newline" => Call::Newline,
             "cls" => Call::Cls,
-            "flush" => Call::Flush { fonts: self.fonts() },
+            "flush" => Call::Flush { fonts: self.fonts(Pairs::OutsideGap) },
             "get_row" => Call::GetRow,
             "get_column" => Call::GetColumn,
             "set_row" => Call::SetRow { row: if self.one_in(2) { 4 } else { self.mode(5) } },

@@ -2,6 +2,7 @@
 
 use super::Random;
 use super::numbers::{Paces, Windows};
+use super::texts::Pairs;
 use crate::list::{Lending, List, Start, Step};
 use calls::Call;
 use calls::layout::{GRAPHICS_BASE, PANELS, TEXT_BASE, word};
@@ -23,13 +24,14 @@ pub fn list(seed: u64) -> List {
     let (mut start, mut windows, mut steps) = start(&mut random);
     let theme = random.pick(&[EVEN, DRAWING, TEXT, SMALL, CLEARING, POLLING]);
     let paces = random.paces();
+    let pairs = random.pairs();
     let len = match random.below(4) {
         0 => random.below(8),
         1 => random.below(60),
         _ => random.below(300),
     };
     for _ in 0..len {
-        let call = random.weighted_call(&theme, windows, &paces);
+        let call = random.weighted_call(&theme, windows, &paces, pairs);
         let lending = random.lending(start.record.is_some());
         if let Call::Open { graphics_base, text_base, .. } = call {
             windows = Windows { graphics_base, text_base };
@@ -65,9 +67,11 @@ impl Random {
         }
     }
 
-    fn weighted_call(&mut self, weights: &Weights, windows: Windows, paces: &Paces) -> Call {
+    fn weighted_call(&mut self, weights: &Weights, windows: Windows, paces: &Paces, pairs: Pairs) -> Call {
         let number = self.weighted(weights);
         match Call::NAMES[number] {
+            "print" => Call::Print { text: self.text(pairs) },
+            "flush" => Call::Flush { fonts: self.fonts(pairs) },
             "send" => Call::Send { number: self.panel_number(paces) },
             _ => self.call(number, windows),
         }

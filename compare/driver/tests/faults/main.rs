@@ -2,6 +2,7 @@
 //! model with something spoiled. The same spoiled model in the place of the model itself, with no
 //! core beside it, is found by what the judge reckons from the list alone.
 
+mod gap;
 mod panels;
 
 use calls::layout::*;
