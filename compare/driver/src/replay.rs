@@ -11,11 +11,15 @@ use calls::layout::IN_REFERENCE;
 use calls::{Buffers, Call, FontsLent};
 use reference::{Reference, Told, in_gap};
 use std::fmt::Write;
+use std::iter::repeat_n;
 
 const IN_CORE: &str = include_str!("../../core/calls.txt");
 
 const LISTS: u64 = 16;
 const CALLS_IN_LIST: usize = 300;
+
+/// So much more often than another call a print is chosen: most flushes show a text then.
+const MORE_PRINTS: usize = 4;
 
 /// The bytes of one stored call.
 const STORED: usize = 16;
@@ -75,7 +79,7 @@ pub fn names() -> Vec<&'static str> {
 /// The calls that come after open. Reset would wipe what the others did; it comes last in each list.
 fn replayed_numbers() -> Vec<usize> {
     let names = names().into_iter().filter(|name| !["open", "reset"].contains(name));
-    names.filter_map(Call::number_of).collect()
+    names.chain(repeat_n("print", MORE_PRINTS)).filter_map(Call::number_of).collect()
 }
 
 /// An open whose key words fit into a stored call.
