@@ -21,6 +21,7 @@ use Rattle.model.specs.Bytes.{two, four}
 use Rattle.model.specs.Codes.{CodeRow, emojiRows, inRow, indexIn, emojiIndex, gbLead, gbRow, gbIndex, extraFrom, extraOffset}
 use Rattle.model.specs.Glyphs.{Fonts, digit, glyphOr, glyphOf}
 use Rattle.model.specs.Flush.{isLast, kindOf, shownAt, nextSpot, spot, walk}
+use Rattle.laws.specs.Glyphs.{digit-most}
 use Rattle.laws.specs.Tests.{either, tests, all-true, and-true, or-cases, if-cases}
 use Rattle.flush.specs.Fits.{codeFits, glyphFits, kindFits, walkFits, textFits, entriesFitFrom, entriesFit, wholeFonts}
 
@@ -78,9 +79,6 @@ entry-inside list extra code i (suc n) h =
     let p = and-true (leb (four list (i + 2) + 32) (length extra)) (entriesFitFrom list extra (i + 6) n) h in
     if-cases (λ (x : Found). Inside x (length extra)) (eqb (two list i) code)
     (λ e. leb-true (four list (i + 2) + 32) (length extra) (p .0)) (λ e. entry-inside list extra code (i + 6) n (p .1))
-
-digit-most : (n : ℕ) → n < 16 → digit n ≤ 70
-digit-most n h = if-cases (λ (k : ℕ). k ≤ 70) (ltb n 10) (λ e. omega (arith, tests)) (λ e. omega arith)
 
 -- ---- what is shown
 

@@ -16,8 +16,8 @@ use Rattle.model.specs.declared.Glyph.{Glyph}
 use Rattle.model.specs.declared.Glyph.the-variants.{Extra, Hexadecimal}
 use Rattle.model.specs.Bytes.{two, four}
 use Rattle.model.specs.Codes.{CodeRow, codes, emojiRows, inRow, indexIn, emojiIndex, gbIndex, extraFrom, extraOffset}
-use Rattle.model.specs.Glyphs.{glyphOr, glyphOf, Store, flipped, value, paint, fontsFit, columnStores, lineStores}
-use Rattle.laws.specs.Tests.{all-true, by-lt, tests}
+use Rattle.model.specs.Glyphs.{glyphOr, glyphOf, Store, digit, flipped, value, paint, fontsFit, columnStores, lineStores}
+use Rattle.laws.specs.Tests.{all-true, by-lt, if-cases, tests}
 
 -- Codes: a table of rows searched from the first on.
 
@@ -104,6 +104,10 @@ pub found-nothing : {f : Found} {g : Glyph} (k : ℕ → Glyph) (other : Glyph) 
 unfolding glyphOr
 found-nothing k other e h = rw e h
 
+-- F is the last digit
+pub digit-most : (n : ℕ) → n < 16 → digit n ≤ 70
+digit-most n h = if-cases (λ (k : ℕ). k ≤ 70) (ltb n 10) (λ e. omega (arith, tests)) (λ e. omega arith)
+
 -- Glyphs: lists of byte stores one after another, and glyphs of any height, line by line.
 
 -- ---- stores
@@ -138,6 +142,10 @@ room-next st place i e n l h = omega (arith, line-more st i e l)
 both-below : (i last n : ℕ) → i < last → (ltb i n && leb last n) ≡ leb last n
 both-below i last n l = by-lt i n (λ m. rw (lt-ltb i n m)) (λ m. rw (le-ltb i n m, lt-leb last n (omega arith)))
 
+-- byte k of a part of a font
+part-byte : (font : List ℕ) (a n k : ℕ) → k < n → getD (take n (drop a font)) k 0 ≡ getD font (a + k) 0
+part-byte font a n k m = getD-take n (drop a font) k 0 m ∙ getD-drop a font k 0
+
 -- ---- of one byte a line: bytes i up to e of a font
 
 module _ (st : ℕ) (font : List ℕ) (inverse : Bool) where
@@ -157,6 +165,17 @@ module _ (st : ℕ) (font : List ℕ) (inverse : Bool) where
   column-fits place i (suc h) =
       let q : i + 1 + suc h ≡ i + suc (suc h) = omega arith in
       cc (column-fits (place + st) (i + 1) h, both-below i (i + suc (suc h)) (length font) (omega arith))
+
+  -- a part of n bytes from a on is painted as the font's own bytes are
+  pub part-column : (a n place j h : ℕ) (s : List ℕ) → j + h ≤ n
+      → paint (columnStores st (take n (drop a font)) place j inverse h) s ≡ paint (columnStores st font place (a + j) inverse h) s
+  unfolding columnStores paint
+  part-column a n place j zero s l = refl
+  part-column a n place j (suc h) s l =
+      let at = part-byte font a n j (omega arith) in
+      let q : a + (j + 1) ≡ a + j + 1 = omega arith in
+      let t = set s place (flipped inverse (getD (take n (drop a font)) j 0)) in
+      cc (part-column a n (place + st) (j + 1) h t (omega arith), at)
 
 -- ---- of two bytes a line
 
@@ -195,7 +214,7 @@ module _ (st : ℕ) (il ir : Bool) where
   unfolding paintLines lineStores paint
   part-lines font a n left right j zero s l = refl
   part-lines font a n left right j (suc h) s l =
-      let at : (k : ℕ) → k < n → getD (take n (drop a font)) k 0 ≡ getD font (a + k) 0 = λ k m. getD-take n (drop a font) k 0 m ∙ getD-drop a font k 0 in
+      let at = part-byte font a n in
       let q : a + j + 1 ≡ a + (j + 1) = omega arith in
       let u : a + (j + 2) ≡ a + j + 2 = omega arith in
       let p = take n (drop a font) in

@@ -3,7 +3,7 @@ use mathlib.Core.Path.{_≡_}
 use mathlib.Core.Logic.{_≢_, _⊎_}
 use mathlib.Core.Bool.{Bool, true, false, not, cond}
 use mathlib.Core.List.{List, [], _∷_, _++_, map}
-use Prim.Native.Nat.{ℕ, zero, suc, _+_, _-_, _*_, _<_}
+use Prim.Native.Nat.{ℕ, zero, suc, _+_, _-_, _*_, _/_, _%_, _<_}
 use lib.Dec.{ltb}
 use lib.ListN.{length, getD}
 use Rattle.model.specs.declared.Rect.{Rect}
@@ -14,7 +14,7 @@ use Rattle.model.specs.Memory.{zeros, window, withScreen}
 use Rattle.model.specs.Bytes.{Bytes}
 use Rattle.model.specs.Record.{Pending, State, panelOf, decode, encode, valid, withHead, withPanels}
 use Rattle.model.specs.Marks.{withDirty}
-use Rattle.model.specs.Glyphs.{Fonts, flipped}
+use Rattle.model.specs.Glyphs.{Fonts, digit, flipped}
 use Rattle.model.specs.Flush.{flagAt}
 use Rattle.model.specs.Calls.{Call, flush, Lent, Outcome, outcome}
 use Rattle.laws.specs.Pixels.{Each}
@@ -109,9 +109,17 @@ pub record OnePair (lead trail : ℕ) (l : Lent) : Type 0 where
   pub text : decode base (l .rec) .head .screen ≡ 0
   pub page : pageIn l ≡ lead ∷ trail ∷ zeros 98
 
--- line y of a column of sixteen: two characters of eight lines, one over the other
-abbrev pub over : List ℕ → ℕ → ℕ → ℕ → ℕ
-over ascii8 upper lower y = cond (ltb y 8) (getD ascii8 (8 * upper + y) 0) (getD ascii8 (8 * lower + (y - 8)) 0)
+-- the eight lines of a character
+abbrev pub character : List ℕ → ℕ → List ℕ
+character ascii8 c = window (8 * c) 8 ascii8
+
+-- line y of a column of sixteen: one character over another
+abbrev pub over : List ℕ → List ℕ → ℕ → ℕ
+over upper lower y = cond (ltb y 8) (getD upper y 0) (getD lower (y - 8) 0)
+
+-- a byte in hexadecimal: its high digit over its low one
+abbrev pub digitsOf : List ℕ → ℕ → ℕ → ℕ
+digitsOf ascii8 b = over (character ascii8 (digit (b / 16))) (character ascii8 (digit (b % 16)))
 
 -- line y of a glyph's left or right half (0, 1), inverted or not
 abbrev pub halfOf : List ℕ → ℕ → Bool → ℕ → ℕ
@@ -125,6 +133,10 @@ cornerLines left right y (suc n) = left y ∷ right y ∷ (zeros 18 ++ cornerLin
 -- a screen that has two columns of sixteen lines in its upper left corner, and nothing else
 abbrev pub corner : (ℕ → ℕ) → (ℕ → ℕ) → List ℕ
 corner left right = cornerLines left right 0 16 ++ zeros 1280
+
+-- a glyph there, each half inverted where its own cell's flag is 1
+abbrev pub cornerGlyph : Lent → List ℕ → List ℕ
+cornerGlyph l glyph = corner (halfOf glyph 0 (flagIn l 0)) (halfOf glyph 1 (flagIn l 1))
 
 -- a flush with the fonts f leaves the screen `shown`, and marks the whole of it
 abbrev pub Shows : Fonts → Lent → List ℕ → Type 0

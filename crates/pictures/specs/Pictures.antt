@@ -7,7 +7,7 @@ use Prim.Native.Char.{code}
 use lib.IntN.{ℤ, pos, negsuc}
 use lib.ListN.{length, getD}
 use Rattle.model.specs.declared.Found.{Found}
-use Rattle.model.specs.declared.Found.the-variants.{At}
+use Rattle.model.specs.declared.Found.the-variants.{At, Nothing}
 use Rattle.model.specs.declared.Glyph.the-variants.{Extra, Hexadecimal}
 use Rattle.model.specs.Geometry.{base}
 use Rattle.model.specs.Memory.{zeros, window, withWindow}
@@ -21,11 +21,11 @@ use Rattle.model.specs.Calls.{drawPoint, drawLine, drawBox, drawCircle, paintBi
 use Rattle.model.specs.Characters.{bytesOf}
 use Rattle.model.specs.Script.Output.{scriptText}
 use Rattle.laws.specs.Glyphs.{empty-row}
-use Rattle.pictures.specs.Picture.{screenIn, rect, sets, clears, inverts, Unmarked, Drew, Picture, flagIn, OnePair, over, halfOf, corner, Shows}
+use Rattle.pictures.specs.Picture.{screenIn, rect, sets, clears, inverts, Unmarked, Drew, Picture, OnePair, character, over, digitsOf, corner, cornerGlyph, Shows}
 use Rattle.pictures.specs.Drawings.{clearBytes, clear-unmarked}
 use Rattle.pictures.specs.Shapes.{point-off, point-unknown, line-clamped, line-sloped, box-past-bottom, box-row, circle-parts, circle-steps, circle-two, circle-one, bitmap-clipped, source-refused, source-accepted}
 use Rattle.pictures.specs.Scripts.{point-send, send-point}
-use Rattle.pictures.specs.EmptyRows.{one-pair, codes-shown, entry-shown}
+use Rattle.pictures.specs.EmptyRows.{one-pair, unassigned-codes, unassigned-glyph, codes-shown, glyph-shown}
 
 -- draw modes, the paint mode Copy, the fill flag, emoji versions
 abbrev or : ℕ
@@ -99,20 +99,25 @@ pub record KnownPictures : Type 0 where
   pub point-send : scriptText (bytesOf "(point (3 0) or)\n(send)\n") ≡ bytesOf "(done)\n(sent 0 0 160)\n(end 0 79)\n"
   -- Send first gives `(sent 0 0 160)`, `(done)`, `(end 1 80)`
   pub send-point : scriptText (bytesOf "(send)\n(point (3 0) or)\n") ≡ bytesOf "(sent 0 0 160)\n(done)\n(end 1 80)\n"
-  -- Our own, of GB 2312-80, whose rows 10-15 are empty. Row 16 follows row 9 in the font
+  -- Our own, of GB 2312-80 and its empty rows, 10-15. Row 16 follows row 9 in the font
   pub codes-GB : (gbOf 0xA1A1 ≡ At 0) × (gbOf 0xA9FE ≡ At 845) × (gbOf 0xB0A1 ≡ At 846) × (gbOf 0xF7FE ≡ At 7613)
   -- A pair of leads 170-175 goes on to the extra list, then to hexadecimal codes
   pub empty-rows : (version : ℕ) (list : List ℕ) (lead trail : ℕ) → 170 ≤ lead → lead ≤ 175
       → glyphOf version list lead trail ≡ glyphOr (extraOffset list (256 * lead + trail)) Extra Hexadecimal
-  -- 0xAFC4 alone on a page in Text mode: there are such lent bytes
-  pub one-pair : (m : List ℕ) → length m ≡ 65536 → OnePair 0xAF 0xC4 (clearBytes (withWindow 8192 (0xAF ∷ 0xC4 ∷ zeros 98) m))
-  -- With no extra list it shows `A` over `F` in its left column and `C` over `4` in its right one
-  pub empty-row-codes : (f : Fonts) (l : Lent) → OnePair 0xAF 0xC4 l → f .extraList ≡ [] → 568 ≤ length (f .ascii8)
-      → Shows f l (corner (over (f .ascii8) (code "A") (code "F")) (over (f .ascii8) (code "C") (code "4")))
-  -- With an entry for it, that glyph, each half inverted where its own cell's flag is 1
-  pub empty-row-entry : (f : Fonts) (l : Lent) → OnePair 0xAF 0xC4 l → (i : ℕ) → f .extraList ≡ twoBytes 0xAFC4 ++ fourBytes i
-      → i < 4294967296 → i + 32 ≤ length (f .extraFont)
-      → Shows f l (corner (halfOf (window i 32 (f .extraFont)) 0 (flagIn l 0)) (halfOf (window i 32 (f .extraFont)) 1 (flagIn l 1)))
+  -- A pair alone on a page in Text mode: there are such lent bytes
+  pub one-pair : (lead trail : ℕ) (m : List ℕ) → length m ≡ 65536 → OnePair lead trail (clearBytes (withWindow 8192 (lead ∷ trail ∷ zeros 98) m))
+  -- 0xAFC4 with no extra list: `A` over `F` in its left column, `C` over `4` in its right one
+  pub unassigned-codes : (f : Fonts) (l : Lent) → OnePair 0xAF 0xC4 l → f .extraList ≡ [] → 568 ≤ length (f .ascii8)
+      → Shows f l (corner (over (character (f .ascii8) (code "A")) (character (f .ascii8) (code "F"))) (over (character (f .ascii8) (code "C")) (character (f .ascii8) (code "4"))))
+  -- With an entry for it, that glyph
+  pub unassigned-glyph : (f : Fonts) (l : Lent) → OnePair 0xAF 0xC4 l → (i : ℕ) → f .extraList ≡ twoBytes 0xAFC4 ++ fourBytes i
+      → i < 4294967296 → i + 32 ≤ length (f .extraFont) → Shows f l (cornerGlyph l (window i 32 (f .extraFont)))
+  -- So every pair of these rows, with any extra list that has no entry for it, and with one that has
+  pub empty-row-codes : (lead trail : ℕ) → 170 ≤ lead → lead ≤ 175 → (f : Fonts) (l : Lent) → OnePair lead trail l → length (f .extraList) % 6 ≡ 0
+      → extraOffset (f .extraList) (256 * lead + trail) ≡ Nothing → trail < 256 → 568 ≤ length (f .ascii8)
+      → Shows f l (corner (digitsOf (f .ascii8) lead) (digitsOf (f .ascii8) trail))
+  pub empty-row-glyph : (lead trail : ℕ) → 170 ≤ lead → lead ≤ 175 → (f : Fonts) (l : Lent) → OnePair lead trail l → length (f .extraList) % 6 ≡ 0
+      → (i : ℕ) → extraOffset (f .extraList) (256 * lead + trail) ≡ At i → i + 32 ≤ length (f .extraFont) → Shows f l (cornerGlyph l (window i 32 (f .extraFont)))
 
 pub known-pictures : KnownPictures
 unfolding emojiIndex indexIn inRow gbIndex
@@ -138,6 +143,8 @@ known-pictures = record {
   codes-GB = (refl, refl, refl, refl);
   empty-rows = empty-row;
   one-pair = one-pair;
+  unassigned-codes = unassigned-codes;
+  unassigned-glyph = unassigned-glyph;
   empty-row-codes = codes-shown;
-  empty-row-entry = entry-shown;
+  empty-row-glyph = glyph-shown;
 }
