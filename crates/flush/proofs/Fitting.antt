@@ -13,21 +13,15 @@ use Rattle.model.specs.declared.Spot.{Spot}
 use Rattle.model.specs.declared.CellKind.{CellKind}
 use Rattle.model.specs.declared.CellKind.the-variants.{Blank, Single, Pair, Code}
 use Rattle.model.specs.Bytes.{four}
-use Rattle.model.specs.Glyphs.{Fonts, digit, glyphOf, fontsFit, columnStores, codeStores}
+use Rattle.model.specs.Glyphs.{Fonts, digit, glyphOf, fontsFit, codeStores}
 use Rattle.model.specs.declared.Shown.{Shown}
 use Rattle.model.specs.Flush.{topOf, rightOf, flagAt, halfStores, glyphStores, kindStores, stores, textStores, spot, shownAt, nextSpot, walk}
 use Rattle.laws.specs.Tests.{by-lt, and-true}
-use Rattle.laws.specs.Glyphs.{fits-append, column-fits, lines-fits}
+use Rattle.laws.specs.Glyphs.{fits-append, column-fits, lines-fits, code-fits}
 use Rattle.laws.specs.FlushWalk.{Within, rest, rest-more, rest-end, rest-start}
 use Rattle.flush.specs.Fits.{codeFits, glyphFits, kindFits, shownFits, walkFits, textFits, entriesFitFrom}
 
 -- ---- the definition's test, kind by kind
-
-pub code-fits : (st : ℕ) (font : List ℕ) (place b : ℕ) → fontsFit (codeStores st font place b) ≡ codeFits font b
-unfolding codeStores codeFits
-code-fits st font place b =
-    fits-append (columnStores st font place (8 * digit (b / 16)) false 8) (columnStores st font (place + 8 * st) (8 * digit (b % 16)) false 8)
-    ∙ (λ k. column-fits st font false place (8 * digit (b / 16)) 7 k && column-fits st font false (place + 8 * st) (8 * digit (b % 16)) 7 k)
 
 module _ (st : ℕ) (flags : List Bool) (s : Spot) where
   halves-fit : (font : List ℕ) (i : ℕ) → fontsFit (halfStores st flags s font i) ≡ leb (i + 32) (length font)
@@ -35,7 +29,7 @@ module _ (st : ℕ) (flags : List Bool) (s : Spot) where
 
   pub glyph-fits : (ascii8 gb emoji extra : List ℕ) (lead trail : ℕ) (g : Glyph)
       → fontsFit (glyphStores st flags ascii8 gb emoji extra s lead trail g) ≡ glyphFits ascii8 gb emoji extra lead trail g
-  unfolding glyphStores glyphFits
+  unfolding glyphStores glyphFits codeFits
   glyph-fits ascii8 gb emoji extra lead trail (Emoji i) = halves-fit emoji (32 * i)
   glyph-fits ascii8 gb emoji extra lead trail (Gb i) = halves-fit gb (32 * i)
   glyph-fits ascii8 gb emoji extra lead trail (Extra i) = halves-fit extra i
@@ -44,7 +38,7 @@ module _ (st : ℕ) (flags : List Bool) (s : Spot) where
       ∙ (λ k. code-fits st ascii8 (topOf st (s .row) (s .column)) lead k && code-fits st ascii8 (topOf st (s .row) (s .column) + 1) trail k)
 
   pub kind-fits : (f : Fonts) (version b trail : ℕ) (m : CellKind) → fontsFit (kindStores st flags version f s b trail m) ≡ kindFits version f b trail m
-  unfolding kindStores kindFits fontsFit
+  unfolding kindStores kindFits fontsFit codeFits
   kind-fits f version b trail Blank = refl
   kind-fits f version b trail Single = column-fits st (f .ascii16) (flagAt flags (s .cell)) (topOf st (s .row) (s .column)) (16 * b) 15
   kind-fits f version b trail Pair = glyph-fits (f .ascii8) (f .gb) (f .emoji) (f .extraFont) b trail (glyphOf version (f .extraList) b trail)

@@ -2,7 +2,7 @@
 use mathlib.Core.Path.{_≡_, refl}
 use mathlib.Core.Bool.{Bool, true, _&&_}
 use mathlib.Core.List.{List, [], _∷_}
-use Prim.Native.Nat.{ℕ, zero, suc, _+_, _-_, _*_, _/_, _%_, _≤_, _<_}
+use Prim.Native.Nat.{ℕ, zero, suc, _+_, _-_, _*_, _/_, _≤_, _<_}
 use native.Mathlib.Omega.{arith}
 use borrow.Author.Tests.{le-leb, leb-true}
 use lib.Dec.{leb, ltb, eqb}
@@ -19,10 +19,10 @@ use Rattle.model.specs.declared.Shown.{Shown}
 use Rattle.model.specs.Rects.{every}
 use Rattle.model.specs.Bytes.{two, four}
 use Rattle.model.specs.Codes.{CodeRow, emojiRows, inRow, indexIn, emojiIndex, gbLead, gbRow, gbIndex, extraFrom, extraOffset}
-use Rattle.model.specs.Glyphs.{Fonts, digit, glyphOr, glyphOf}
+use Rattle.model.specs.Glyphs.{Fonts, glyphOr, glyphOf}
 use Rattle.model.specs.Flush.{isLast, kindOf, shownAt, nextSpot, spot, walk}
-use Rattle.laws.specs.Glyphs.{digit-most}
-use Rattle.laws.specs.Tests.{either, tests, all-true, and-true, or-cases, if-cases}
+use Rattle.laws.specs.Glyphs.{digits-fit}
+use Rattle.laws.specs.Tests.{either, tests, all-true, and-true, between, or-cases, if-cases}
 use Rattle.flush.specs.Fits.{codeFits, glyphFits, kindFits, walkFits, textFits, entriesFitFrom, entriesFit, wholeFonts}
 
 -- ---- indices
@@ -53,8 +53,7 @@ emoji-below (suc n) lead trail = index-below (emojiRows 1) 0 lead trail 527 (ome
 lead-most : (lead : ℕ) → gbLead lead ≡ true → lead ≤ 247
 lead-most lead e =
     either (or-cases (leb 161 lead && leb lead 169) (leb 176 lead && leb lead 247) e)
-    (λ h. let a = and-true (leb 161 lead) (leb lead 169) h in omega (arith, tests))
-    (λ h. let a = and-true (leb 176 lead) (leb lead 247) h in omega (arith, tests))
+    (λ h. omega (arith, between lead h)) (λ h. between lead h .1)
 
 pub gb-below : (lead trail : ℕ) → below (gbIndex lead trail) 7614
 unfolding gbIndex
@@ -107,11 +106,7 @@ module _ (f : Fonts) (w : wholeFonts (f .ascii8) (f .ascii16) (f .gb) (f .emoji)
 
   code-whole : (b : ℕ) → b < 256 → codeFits (f .ascii8) b ≡ true
   unfolding codeFits
-  code-whole b h =
-      rw (
-        le-leb (8 * digit (b / 16) + 8) (length (f .ascii8)) (omega (arith, whole .ascii8, digit-most (b / 16) (omega arith))),
-        le-leb (8 * digit (b % 16) + 8) (length (f .ascii8)) (omega (arith, whole .ascii8, digit-most (b % 16) (omega arith))),
-      )
+  code-whole b h = digits-fit (f .ascii8) b h (whole .ascii8)
 
   -- source by source
   abbrev fits : ℕ → ℕ → Glyph → Bool

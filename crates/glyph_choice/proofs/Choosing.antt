@@ -15,7 +15,7 @@ use Rattle.model.specs.declared.Glyph.the-variants.{Emoji, Gb, Extra, Hexadecim
 use Rattle.model.specs.Glyphs.{glyphOr, glyphOf}
 use Rattle.laws.specs.Glyphs.{found-at, found-nothing}
 use Rattle.glyph_choice.specs.Choice.{extraGlyph, otherGlyph}
-use Rattle.laws.specs.Tests.{either, tests, and-true, or-cases, or-right, neither}
+use Rattle.laws.specs.Tests.{either, tests, or-cases, or-right, neither}
 
 pub no-row : (before lead trail : ℕ) → Nothing ≡ indexIn [] before lead trail
 unfolding indexIn
@@ -30,18 +30,13 @@ no-trail lead trail e =
     (λ h. rw (lt-leb 161 trail (omega (arith, tests)), and-false (gbLead lead)))
     (λ h. rw (lt-leb trail 254 (omega (arith, tests)), and-false (gbLead lead && leb 161 trail)))
 
-pub trail-from : (trail : ℕ) → (ltb trail 161 || ltb 254 trail) ≡ false → 161 ≤ trail
-trail-from trail e = let t = neither (ltb trail 161) (ltb 254 trail) e in omega (arith, tests)
-
-pub between : {first last : ℕ} (n : ℕ) → (leb first n && leb n last) ≡ true → (first ≤ n) × (n ≤ last)
-between {first} {last} n e = let t = and-true (leb first n) (leb n last) e in omega (arith, tests)
+pub trail-range : (trail : ℕ) → (ltb trail 161 || ltb 254 trail) ≡ false → (161 ≤ trail) × (trail ≤ 254)
+trail-range trail e = let t = neither (ltb trail 161) (ltb 254 trail) e in omega (arith, tests)
 
 module _ {f : Found} (lead trail row : ℕ) (t : (ltb trail 161 || ltb 254 trail) ≡ false) (g : f ≡ At (94 * row + (trail - 161))) where
   in-row : gbLead lead ≡ true → row ≡ gbRow (lead - 161) → f ≡ gbIndex lead trail
   unfolding gbIndex
-  in-row e r =
-      let k = neither (ltb trail 161) (ltb 254 trail) t in
-      rw (e, le-leb 161 trail (omega (arith, tests)), le-leb trail 254 (omega (arith, tests)), ← r) g
+  in-row e r = let k = trail-range trail t in rw (e, le-leb 161 trail (k .0), le-leb trail 254 (k .1), ← r) g
 
   pub low-row : 161 ≤ lead → lead ≤ 169 → row ≡ lead - 161 → f ≡ gbIndex lead trail
   low-row a b r = in-row (rw (le-leb 161 lead a, le-leb lead 169 b)) (rw (le-ltb 8 (lead - 161) (omega arith)) r)
@@ -49,9 +44,9 @@ module _ {f : Found} (lead trail row : ℕ) (t : (ltb trail 161 || ltb 254 trail
   pub high-row : 176 ≤ lead → lead ≤ 247 → row ≡ lead - 167 → f ≡ gbIndex lead trail
   high-row a b r = in-row (or-right (leb 161 lead && leb lead 169) (rw (le-leb 176 lead a, le-leb lead 247 b))) (rw (lt-ltb 8 (lead - 161) (omega arith)) (omega arith))
 
-pub no-row-there : (lead trail : ℕ) → (leb 161 lead && leb lead 169) ≡ false → (leb 176 lead && leb lead 247) ≡ false → Nothing ≡ gbIndex lead trail
+pub outside-rows : (lead trail : ℕ) → (leb 161 lead && leb lead 169) ≡ false → (leb 176 lead && leb lead 247) ≡ false → Nothing ≡ gbIndex lead trail
 unfolding gbIndex
-no-row-there lead trail low high = rw (low, high)
+outside-rows lead trail low high = rw (low, high)
 
 -- ---- the extra list: the first match, or none
 

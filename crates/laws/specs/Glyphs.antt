@@ -2,7 +2,7 @@
 use mathlib.Core.Path.{_≡_, refl, sym, ap, _∙_}
 use mathlib.Core.Bool.{Bool, true, false, _&&_, and-assoc, and-true}
 use mathlib.Core.List.{List, [], _∷_, _++_}
-use Prim.Native.Nat.{ℕ, zero, suc, _+_, _-_, _≤_, _<_, _*_}
+use Prim.Native.Nat.{ℕ, zero, suc, _+_, _-_, _≤_, _<_, _*_, _/_, _%_}
 use native.Mathlib.Omega.{arith}
 use native.Mathlib.Nat.{mul-suc}
 use native.Mathlib.Numerals.{add-one}
@@ -16,7 +16,7 @@ use Rattle.model.specs.declared.Glyph.{Glyph}
 use Rattle.model.specs.declared.Glyph.the-variants.{Extra, Hexadecimal}
 use Rattle.model.specs.Bytes.{two, four}
 use Rattle.model.specs.Codes.{CodeRow, codes, emojiRows, inRow, indexIn, emojiIndex, gbIndex, extraFrom, extraOffset}
-use Rattle.model.specs.Glyphs.{glyphOr, glyphOf, Store, digit, flipped, value, paint, fontsFit, columnStores, lineStores}
+use Rattle.model.specs.Glyphs.{glyphOr, glyphOf, Store, digit, flipped, value, paint, fontsFit, columnStores, lineStores, codeStores}
 use Rattle.laws.specs.Tests.{all-true, by-lt, if-cases, tests}
 
 -- Codes: a table of rows searched from the first on.
@@ -104,10 +104,6 @@ pub found-nothing : {f : Found} {g : Glyph} (k : ℕ → Glyph) (other : Glyph) 
 unfolding glyphOr
 found-nothing k other e h = rw e h
 
--- F is the last digit
-pub digit-most : (n : ℕ) → n < 16 → digit n ≤ 70
-digit-most n h = if-cases (λ (k : ℕ). k ≤ 70) (ltb n 10) (λ e. omega (arith, tests)) (λ e. omega arith)
-
 -- Glyphs: lists of byte stores one after another, and glyphs of any height, line by line.
 
 -- ---- stores
@@ -176,6 +172,27 @@ module _ (st : ℕ) (font : List ℕ) (inverse : Bool) where
       let q : a + (j + 1) ≡ a + j + 1 = omega arith in
       let t = set s place (flipped inverse (getD (take n (drop a font)) j 0)) in
       cc (part-column a n (place + st) (j + 1) h t (omega arith), at)
+
+-- ---- a byte in hexadecimal
+
+pub code-fits : (st : ℕ) (font : List ℕ) (place b : ℕ)
+    → fontsFit (codeStores st font place b) ≡ (leb (8 * digit (b / 16) + 8) (length font) && leb (8 * digit (b % 16) + 8) (length font))
+unfolding codeStores
+code-fits st font place b =
+    fits-append (columnStores st font place (8 * digit (b / 16)) false 8) (columnStores st font (place + 8 * st) (8 * digit (b % 16)) false 8)
+    ∙ (λ k. column-fits st font false place (8 * digit (b / 16)) 7 k && column-fits st font false (place + 8 * st) (8 * digit (b % 16)) 7 k)
+
+-- F is the last digit
+digit-most : (n : ℕ) → n < 16 → digit n ≤ 70
+digit-most n h = if-cases (λ (k : ℕ). k ≤ 70) (ltb n 10) (λ e. omega (arith, tests)) (λ e. omega arith)
+
+-- so the characters up to F are enough
+pub digits-fit : (font : List ℕ) (b : ℕ) → b < 256 → 568 ≤ length font → (leb (8 * digit (b / 16) + 8) (length font) && leb (8 * digit (b % 16) + 8) (length font)) ≡ true
+digits-fit font b h l =
+    rw (
+      le-leb (8 * digit (b / 16) + 8) (length font) (omega (arith, digit-most (b / 16) (omega arith))),
+      le-leb (8 * digit (b % 16) + 8) (length font) (omega (arith, digit-most (b % 16) (omega arith))),
+    )
 
 -- ---- of two bytes a line
 

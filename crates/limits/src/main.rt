@@ -30,6 +30,13 @@ fn print_byte(byte: u8) {
     print_number(byte as u64);
 }
 
+fn print_three(name: &[u8], first: u8, second: u8, third: u8) {
+    io::write_all(1, name);
+    print_byte(first);
+    print_byte(second);
+    print_byte(third);
+}
+
 fn print_call(call: Call) {
     match call {
         Call::Open(graphics) => {
@@ -41,22 +48,12 @@ fn print_call(call: Call) {
             print_byte(r);
             print_byte(fill);
         }
-        Call::Ellipse(rx, ry, fill) => {
-            io::write_all(1, b"ellipse");
-            print_byte(rx);
-            print_byte(ry);
-            print_byte(fill);
-        }
+        Call::Ellipse(rx, ry, fill) => print_three(b"ellipse", rx, ry, fill),
         Call::Send(number) => {
             io::write_all(1, b"send");
             print_byte(number);
         }
-        Call::Flush(lead, trail, entries) => {
-            io::write_all(1, b"flush");
-            print_byte(lead);
-            print_byte(trail);
-            print_byte(entries);
-        }
+        Call::Flush(lead, trail, entries) => print_three(b"flush", lead, trail, entries),
     }
 }
 

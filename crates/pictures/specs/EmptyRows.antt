@@ -26,7 +26,7 @@ use Rattle.model.specs.Glyphs.{Fonts, Store, digit, glyphOr, glyphOf, paint, fo
 use Rattle.model.specs.Flush.{spot, isLast, kindOf, cellsTaken, spotAfter, walk, flagAt, glyphStores, kindStores, stores, textStores, flushStores, flushed}
 use Rattle.model.specs.Calls.{flush, Lent, done}
 use Rattle.laws.specs.Calls.{Tested}
-use Rattle.laws.specs.Glyphs.{empty-row, found-at, found-nothing, digit-most, fits-append, column-fits, lines-fits, length-paint, paint-append, glyphLines, paintLines, part-lines, part-column}
+use Rattle.laws.specs.Glyphs.{empty-row, found-at, found-nothing, fits-append, code-fits, digits-fit, lines-fits, length-paint, paint-append, glyphLines, paintLines, part-lines, part-column}
 use Rattle.laws.specs.Loops.{length-zeros}
 use Rattle.laws.specs.Layout.{four-back}
 use Rattle.laws.specs.Memory.{length-withWindow, window-same}
@@ -73,22 +73,6 @@ lines-painted : (left right : Bool) (g : List ℕ) → paintLines 20 0 1 left ri
 unfolding paintLines zeros
 lines-painted left right g = refl
 
--- ---- that they lie in their fonts
-
-code-fits : (font : List ℕ) (place b : ℕ) → b < 256 → 568 ≤ length font → fontsFit (codeStores 20 font place b) ≡ true
-unfolding codeStores
-code-fits font place b h l =
-    let i = 8 * digit (b / 16) in
-    let j = 8 * digit (b % 16) in
-    let under = place + 160 in
-    fits-append (columnStores 20 font place i false 8) (columnStores 20 font under j false 8)
-    ∙ rw (
-      column-fits 20 font false place i 7,
-      column-fits 20 font false under j 7,
-      le-leb (i + 8) (length font) (omega (arith, digit-most (b / 16) (omega arith))),
-      le-leb (j + 8) (length font) (omega (arith, digit-most (b % 16) (omega arith))),
-    )
-
 -- ---- one pair of these rows
 
 module _ (lead trail : ℕ) (from : 170 ≤ lead) (to : lead ≤ 175) where
@@ -100,7 +84,7 @@ module _ (lead trail : ℕ) (from : 170 ≤ lead) (to : lead ≤ 175) where
   unfolding kindOf isLast
   pair = rw (ne-eqb lead 0 (λ e. absurd (omega arith)), le-ltb lead 128 (omega arith))
 
-  -- what a page with a cell of kind k shows first, and then
+  -- what is painted where the first cell is of kind k
   abbrev from-first : List Bool → ℕ → Fonts → CellKind → List Store
   from-first flags version f k =
       stores 20 flags version f (record { spot = spot 0 0 0; lead = lead; trail = trail; kind = k } ∷ walk 20 5 (lead ∷ trail ∷ zeros 98) 99 (spotAfter 20 (spot 0 0 0) (cellsTaken k)))
@@ -115,7 +99,8 @@ module _ (lead trail : ℕ) (from : 170 ≤ lead) (to : lead ≤ 175) where
   unfolding glyphStores
   codes-fit flags f t l =
       let a = f .ascii8 in
-      fits-append (codeStores 20 a 0 lead) (codeStores 20 a 1 trail) ∙ rw (code-fits a 0 lead (omega arith) l, code-fits a 1 trail t l)
+      fits-append (codeStores 20 a 0 lead) (codeStores 20 a 1 trail)
+      ∙ (λ k. (code-fits 20 a 0 lead ∙ digits-fit a lead (omega arith) l) k && (code-fits 20 a 1 trail ∙ digits-fit a trail t l) k)
 
   glyph-fits : (flags : List Bool) (f : Fonts) (i : ℕ) → i + 32 ≤ length (f .extraFont) → fontsFit (pairStores flags f (Extra i)) ≡ true
   unfolding glyphStores

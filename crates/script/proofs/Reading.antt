@@ -12,7 +12,7 @@ use lib.Seq.{drop-cons}
 use borrow.Author.Tests.{eq-eqb, ne-eqb, le-leb, lt-leb}
 use Rattle.model.specs.Characters.{bytesOf}
 use Rattle.model.specs.Script.Read.{Taken, tookNone, took, isDigit, goesOn, takeDigits, atMost, takeNumber, takeWord, orTaken, takeMode, takePiece}
-use Rattle.laws.specs.Tests.{tests, and-true}
+use Rattle.laws.specs.Tests.{tests, and-true, between}
 use Rattle.script.specs.declared.Got.{Got}
 use Rattle.script.specs.declared.Got.the-variants.{Nothing, At}
 use Rattle.script.specs.declared.Number.{Number}
@@ -22,13 +22,13 @@ use Rattle.script.specs.Meaning.{takenOf, numberOf}
 
 pub digit-is : (d : ℕ) {t : Bool} → t ≡ isDigit d → t ≡ true → (code "0" ≤ d) × (d ≤ code "9")
 unfolding isDigit
-digit-is d e f = omega (arith, tests, and-true (leb (code "0") d) (leb d (code "9")) (sym e ∙ f))
+digit-is d e f = between d (sym e ∙ f)
 
 pub goes-on-is : (v d : ℕ) {t : Bool} → t ≡ goesOn v d → t ≡ true → (code "0" ≤ d) × (d ≤ code "9") × (v < 10000)
 unfolding goesOn isDigit
 goes-on-is v d e f =
     let a = and-true (leb (code "0") d && leb d (code "9")) (ltb v 10000) (sym e ∙ f) in
-    omega (arith, tests, a .1, and-true (leb (code "0") d) (leb d (code "9")) (a .0))
+    omega (arith, tests, a .1, between d (a .0))
 
 pub digits-end : (v i : ℕ) (s : List ℕ) {w : Taken} → takeDigits v (drop i s) ≡ w → length s ≤ i → took v (drop i s) ≡ w
 unfolding takeDigits

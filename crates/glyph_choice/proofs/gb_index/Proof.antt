@@ -1,5 +1,6 @@
 use native.Mathlib.Omega.{arith}
-use Rattle.glyph_choice.proofs.Choosing.{no-trail, trail-from, between, low-row, high-row, no-row-there}
+use Rattle.laws.specs.Tests.{between}
+use Rattle.glyph_choice.proofs.Choosing.{no-trail, trail-range, low-row, high-row, outside-rows}
 use Rattle.glyph_choice.proofs.gb_index.Statement.{statement}
 use Rattle.glyph_choice.proofs.gb_index.Tie as tie
 
@@ -10,7 +11,7 @@ sub-gb-place : tie.Need-sub-gb-place
 sub-gb-place c = let a = c .before .before .args in omega (arith, between (a .lead) (c .if2 .taken))
 
 gb-place-requires : tie.Need-gb-place-requires
-gb-place-requires c κs = trail-from _ (c .before .if1 .left)
+gb-place-requires c κs = trail-range _ (c .before .if1 .left) .0
 
 returns-2 : tie.Need-returns-2
 returns-2 c =
@@ -22,7 +23,7 @@ sub-gb-place-2 : tie.Need-sub-gb-place-2
 sub-gb-place-2 c = let a = c .before .before .before .args in omega (arith, between (a .lead) (c .if3 .taken))
 
 gb-place-requires-2 : tie.Need-gb-place-requires-2
-gb-place-requires-2 c κs = trail-from _ (c .before .before .if1 .left)
+gb-place-requires-2 c κs = trail-range _ (c .before .before .if1 .left) .0
 
 returns-3 : tie.Need-returns-3
 returns-3 c =
@@ -31,7 +32,7 @@ returns-3 c =
     low-row (a .lead) (a .trail) _ (c .before .before .before .if1 .left) (c .gb-place2 .ensures) (omega arith) (omega arith) (omega arith)
 
 returns-4 : tie.Need-returns-4
-returns-4 c = no-row-there _ _ (c .if3 .left) (c .before .if2 .left)
+returns-4 c = outside-rows _ _ (c .if3 .left) (c .before .if2 .left)
 
 pub gb-index-spec : {M : Type 1} → statement M
 gb-index-spec =
