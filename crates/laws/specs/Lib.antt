@@ -32,6 +32,8 @@ pub mod Masks
 pub mod Runs
 pub mod Boxes
 pub mod Bitmaps
+pub mod PaintedBits
+pub mod PaintedMemory
 pub mod Ellipses
 pub mod EllipseWalks
 pub mod EllipseMarks

@@ -161,14 +161,14 @@ on-line st y k x y′ hk hx e =
 
 pub run-masked : (st y k a b m : ℕ) (f op : ℕ → Bool → Bool) (p : List ℕ) (v : ℕ)
     → Mask k a b m → k < st → st * y + k < length p → Bytes p → Masked m f (getD p (st * y + k) 0) v
-    → ((x : ℕ) (t : Bool) → x / 8 ≡ k → f (7 - x % 8) t ≡ op x t) → Run st y a b op p (set p (st * y + k) v)
+    → ((x : ℕ) (t : Bool) → x / 8 ≡ k → a ≤ x → x < b → f (7 - x % 8) t ≡ op x t) → Run st y a b op p (set p (st * y + k) v)
 unfolding bit
 run-masked st y k a b m f op p v hm hk hi hp hv e = record {
   sized = length-set p (st * y + k) v;
   bytes = bytes-set p (st * y + k) v hp (hv .small);
   within = λ x l u.
       let q : x / 8 ≡ k = omega arith in
-      rw q (changed x ∙ ap (λ (t : Bool). cond t (f (7 - x % 8) (old x)) (old x)) (mask-on hm x q l u) ∙ e x (old x) q);
+      rw q (changed x ∙ ap (λ (t : Bool). cond t (f (7 - x % 8) (old x)) (old x)) (mask-on hm x q l u) ∙ e x (old x) q l u);
   others = λ x y′ hx n.
       by-eq (place st x y′) (st * y + k)
       (λ i. let q = on-line st y k x y′ hk hx i in

@@ -97,7 +97,7 @@ unfolding masked Bytes
 mask-run st h y k a b m n d s r hs hy hk hm e =
     let i = line-in st h y r hy in
     run-equal st y a b (λ x v. runOp d v) s _ _ (r .wide)
-    (run-masked st y k a b m (λ j v. runOp d v) (λ x v. runOp d v) s _ hm hk (omega arith) hs (masked-by d _ m (hs (st * y + k)) (hm .small)) (λ x t q. refl))
+    (run-masked st y k a b m (λ j v. runOp d v) (λ x v. runOp d v) s _ hm hk (omega arith) hs (masked-by d _ m (hs (st * y + k)) (hm .small)) (λ x t q l u. refl))
     (run-draw st y a b n d s e (omega arith) i hs)
 
 -- a point of a line of the screen, drawn so where it is not beside it

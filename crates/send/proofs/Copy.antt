@@ -44,7 +44,7 @@ unfolding bit Bytes
 run-mixed st y k a b m s p hm hk hi hs hp =
     run-masked st y k a b m _ _ p _ hm hk hi hp
     (mix-masked (getD p (st * y + k) 0) m (hp (st * y + k)) (hm .small) (getD s (st * y + k) 0) (hs (st * y + k)))
-    (λ x t e. ap (λ (j : ℕ). bitAt (getD s (st * y + j) 0) (7 - x % 8)) (sym e))
+    (λ x t e l u. ap (λ (j : ℕ). bitAt (getD s (st * y + j) 0) (7 - x % 8)) (sym e))
 
 -- ---- a part that was lent, a up to e, and came back as ys
 

@@ -1,0 +1,170 @@
+-- A bitmap painted in memory, its screen and its source windows that share no byte: each visible line is a run of memory's bits,
+-- and lines that follow one another on the screen and in the source are one run.
+use mathlib.Core.Path.{_≡_, refl, sym, ap, _∙_}
+use mathlib.Core.Bool.{Bool}
+use mathlib.Core.Logic.{_⊎_, inl, inr}
+use mathlib.Core.List.{List, _++_, append-assoc}
+use Prim.Native.Nat.{ℕ, zero, suc, _+_, _-_, _*_, _/_, _%_, _≤_, _<_}
+use native.Mathlib.Numerals.{add-one}
+use native.Mathlib.Omega.{arith}
+use lib.ListN.{length, getD, set, take, drop, length-append}
+use lib.Seq.{getD-take, getD-drop, take-set-le, drop-set-lt, take-at, drop-at, length-take-le}
+use Rattle.model.specs.Bits.{withBit}
+use Rattle.model.specs.Bytes.{Bytes}
+use Rattle.model.specs.Memory.{window, withWindow}
+use Rattle.model.specs.Pixels.{place, bit, put, writePixel, draw}
+use Rattle.model.specs.declared.PaintMode.{PaintMode}
+use Rattle.model.specs.declared.Visible.{Visible}
+use Rattle.model.specs.Bitmaps.{paintOp, paintedLine, paintedLines}
+use Rattle.laws.specs.Tests.{either}
+use Rattle.laws.specs.Memory.{length-window, window-set-in, window-same, window-back, window-other}
+use Rattle.laws.specs.Pixels.{length-put, length-draw}
+use Rattle.laws.specs.Writes.{draw-append}
+use Rattle.laws.specs.PaintedBits.{paintedBits, length-painted, bytes-painted, Apart, bits-join}
+
+-- n bytes of memory from byte a on are st by .. lines: pixel (x, y) of this window is bit pixelAt a st x y of memory
+abbrev pub pixelAt : ℕ → ℕ → ℕ → ℕ → ℕ
+pixelAt a st x y = 8 * (a + st * y) + x
+
+module _ (a n st x y : ℕ) (m : List ℕ) (inside : place st x y < n) where
+  same-place : place (length m) (pixelAt a st x y) 0 ≡ a + place st x y
+  same-place = omega arith
+
+  same-bit : 7 - pixelAt a st x y % 8 ≡ 7 - x % 8
+  same-bit = omega arith
+
+  same-byte : getD m (a + place st x y) 0 ≡ getD (window a n m) (place st x y) 0
+  unfolding window
+  same-byte = rw (getD-take n (drop a m) (place st x y) 0 inside, getD-drop a m (place st x y) 0)
+
+  bit-window : bit (length m) m (pixelAt a st x y) 0 ≡ bit st (window a n m) x y
+  unfolding bit
+  bit-window = cc (same-place, same-bit, same-byte)
+
+  -- the byte with that bit made v
+  abbrev with-v : Bool → ℕ
+  with-v v = withBit (getD m (a + place st x y) 0) (7 - x % 8) v
+
+  put-is : (v : Bool) → put (length m) m (pixelAt a st x y) 0 v ≡ set m (a + place st x y) (with-v v)
+  unfolding put
+  put-is v = cc (same-place, same-bit)
+
+  put-window : (v : Bool) → window a n (put (length m) m (pixelAt a st x y) 0 v) ≡ put st (window a n m) x y v
+  unfolding put
+  put-window v =
+      let e : a + place st x y - a ≡ place st x y = omega arith in
+      cc (put-is v, same-byte, window-set-in a n m (a + place st x y) (with-v v) (omega arith) (omega arith))
+
+  -- what stands outside the window stays
+  put-outside : (v : Bool) (t : List ℕ) → length t ≡ n → withWindow a t (put (length m) m (pixelAt a st x y) 0 v) ≡ withWindow a t m
+  unfolding withWindow
+  put-outside v t e =
+      cc (put-is v, take-set-le a m (a + place st x y) (with-v v) (omega arith), drop-set-lt (a + length t) m (a + place st x y) (with-v v) (omega arith))
+
+-- n pixels of line y of the window at a, painted by those of line j of the window at b, which may be another memory's
+line-window : (a size st b count k : ℕ) (m : List ℕ) (mode : PaintMode) (i j x y n : ℕ) (p : List ℕ) → length m ≡ length p → a + size ≤ length p
+    → x + n ≤ 8 * st → st * y + st ≤ size → i + n ≤ 8 * k → k * j + k ≤ count
+    → draw (length p) (paintedLine (length m) m mode (pixelAt b k i j) 0 (pixelAt a st x y) 0 n) p
+    ≡ withWindow a (draw st (paintedLine k (window b count m) mode i j x y n) (window a size p)) p
+unfolding paintedLine draw writePixel
+line-window a size st b count k m mode i j x y zero p e ha hx hy hi hj = sym (window-back a size p ha)
+line-window a size st b count k m mode i j x y (suc n) p e ha hx hy hi hj =
+    let L = length p in
+    let v = paintOp mode (bit (length m) m (pixelAt b k i j) 0) (bit L p (pixelAt a st x y) 0) in
+    let w = paintOp mode (bit k (window b count m) i j) (bit st (window a size p) x y) in
+    let q = put L p (pixelAt a st x y) 0 v in
+    let l : length q ≡ L = length-put L p (pixelAt a st x y) 0 v in
+    let f : suc (pixelAt b k i j) ≡ pixelAt b k (suc i) j = omega arith in
+    let g : suc (pixelAt a st x y) ≡ pixelAt a st (suc x) y = omega arith in
+    let same : v ≡ w = cc (bit-window b count k i j m (omega arith), bit-window a size st x y p (omega arith)) in
+    let ws = paintedLine k (window b count m) mode (suc i) j (suc x) y n in
+    let s = draw st ws (put st (window a size p) x y w) in
+    let sized : length s ≡ size = length-draw st ws (put st (window a size p) x y w) ∙ length-put st (window a size p) x y w ∙ length-window a size p ha in
+    let rest = line-window a size st b count k m mode (suc i) j (suc x) y n q (e ∙ sym l) (rw l ha) (omega arith) hy (omega arith) hj in
+    cc (put-window a size st x y p (omega arith) v, put-outside a size st x y p (omega arith) v s sized)
+
+-- ---- all lines
+
+-- a screen of `size` bytes at a, and a source of `count` bytes at b
+pub record Placed (a size b count : ℕ) (m : List ℕ) : Type 0 where
+  pub screen : a + size ≤ length m
+  pub source : b + count ≤ length m
+  pub apart : (a + size ≤ b) ⊎ (b + count ≤ a)
+
+window-again : (a : ℕ) (s t m : List ℕ) → length s ≡ length t → a + length s ≤ length m → withWindow a t (withWindow a s m) ≡ withWindow a t m
+unfolding withWindow
+window-again a s t m e h =
+    let d = drop (a + length s) m in
+    let front = length-take-le a m (omega arith) in
+    cc (take-at (take a m) (s ++ d) a front, append-assoc (take a m) s d, drop-at (take a m ++ s) d (a + length t) (length-append (take a m) s ∙ omega arith))
+
+module _ (a size b count st k : ℕ) (mode : PaintMode) (across : Visible) where
+  -- n lines of the screen from y on, painted by those of the source from j on; the rest of memory stays
+  abbrev pub paintedIn : ℕ → ℕ → ℕ → List ℕ → List ℕ
+  paintedIn j y n m = withWindow a (draw st (paintedLines k (window b count m) mode across j y n) (window a size m)) m
+
+  -- one of them
+  abbrev pub lineIn : ℕ → ℕ → List ℕ → List ℕ
+  lineIn j y m = paintedBits mode (pixelAt b k (across .skip) j) (pixelAt a st (across .from) y) (across .to - across .from) m
+
+  pub lines-none : (j y : ℕ) (m : List ℕ) → a + size ≤ length m → paintedIn j y 0 m ≡ m
+  unfolding paintedLines draw
+  lines-none j y m h = window-back a size m h
+
+  module _ (j y n : ℕ) (m : List ℕ) (o : Placed a size b count m) (hx : across .from + (across .to - across .from) ≤ 8 * st) (hy : st * y + st ≤ size)
+      (hi : across .skip + (across .to - across .from) ≤ 8 * k) (hj : k * j + k ≤ count) where
+    line-is : lineIn j y m ≡ withWindow a (draw st (paintedLine k (window b count m) mode (across .skip) j (across .from) y (across .to - across .from)) (window a size m)) m
+    line-is = line-window a size st b count k m mode (across .skip) j (across .from) y (across .to - across .from) m refl (o .screen) hx hy hi hj
+
+    -- what is left of the lines, painted on what stands, gives the whole
+    pub lines-more : paintedIn (suc j) (suc y) n (lineIn j y m) ≡ paintedIn j y (suc n) m
+    unfolding paintedLines
+    lines-more =
+        let source = window b count m in
+        let screen = window a size m in
+        let ws = paintedLine k source mode (across .skip) j (across .from) y (across .to - across .from) in
+        let vs = paintedLines k source mode across (suc j) (suc y) n in
+        let s = draw st ws screen in
+        let long : length screen ≡ size = length-window a size m (o .screen) in
+        let sized : length s ≡ size = length-draw st ws screen ∙ long in
+        let again : length s ≡ length (draw st vs s) = sym (length-draw st vs s) in
+        let here : window a size (withWindow a s m) ≡ s = window-same a size s m sized (o .screen) in
+        let there : window b count (withWindow a s m) ≡ source = window-other a s m b count (omega (arith, o .screen)) (either (o .apart) (λ h. inr (omega arith)) (λ h. inl h)) in
+        cc (line-is, window-again a s (draw st vs s) m again (omega (arith, o .screen)), draw-append st ws vs screen)
+
+    pub lines-placed : Placed a size b count (lineIn j y m)
+    lines-placed =
+        let e = length-painted mode (pixelAt b k (across .skip) j) (pixelAt a st (across .from) y) (across .to - across .from) m in
+        record { screen = rw e (o .screen); source = rw e (o .source); apart = o .apart }
+
+  -- as a loop paints them
+  pub turn-in : (j y to : ℕ) (m e t : List ℕ) → Placed a size b count m → y < to → across .from + (across .to - across .from) ≤ 8 * st → st * y + st ≤ size
+      → across .skip + (across .to - across .from) ≤ 8 * k → k * j + k ≤ count → e ≡ lineIn j y m
+      → paintedIn j y (to - y) m ≡ t → Placed a size b count e × (paintedIn (j + 1) (y + 1) (to - (y + 1)) e ≡ t)
+  turn-in j y to m e t o h hx hy hi hj w g =
+      let n : to - y ≡ suc (to - (y + 1)) = omega arith in
+      (rw w (lines-placed j y 0 m o hx hy hi hj), cc (add-one j, add-one y, lines-more j y (to - (y + 1)) m o hx hy hi hj))
+
+  pub end-in : (j y to : ℕ) (m t : List ℕ) → Placed a size b count m → to ≤ y → paintedIn j y (to - y) m ≡ t → m ≡ t
+  end-in j y to m t o h g = let n : to - y ≡ 0 = omega arith in cc (lines-none j y m (o .screen))
+
+-- whole lines of the screen and of the source follow one another, so they are one run
+pub whole-in : (a size b count st : ℕ) (mode : PaintMode) (across : Visible) (j y n : ℕ) (m : List ℕ) → Placed a size b count m → Bytes m
+    → across .skip ≡ 0 → across .from ≡ 0 → across .to ≡ 8 * st → st * (y + n) ≤ size → st * (j + n) ≤ count
+    → paintedBits mode (pixelAt b st (across .skip) j) (pixelAt a st (across .from) y) (8 * st * n) m ≡ paintedIn a size b count st st mode across j y n m
+unfolding draw paintedLine
+whole-in a size b count st mode across j y zero m o hm ek ef et hy hj = let z : 8 * st * 0 ≡ 0 = omega arith in rw z (sym (lines-none a size b count st st mode across j y m (o .screen)))
+whole-in a size b count st mode across j y (suc n) m o hm ek ef et hy hj =
+    let from = pixelAt b st (across .skip) j in
+    let to = pixelAt a st (across .from) y in
+    let c : across .to - across .from ≡ 8 * st = omega arith in
+    let e = lineIn a size b count st st mode across j y m in
+    let placed = lines-placed a size b count st st mode across j y n m o (omega arith) (omega arith) (omega arith) (omega arith) in
+    let bytes : Bytes e = bytes-painted mode from to (across .to - across .from) m (omega (arith, o .screen)) hm in
+    let rest = whole-in a size b count st mode across (suc j) (suc y) n e placed bytes ek ef et (omega arith) (omega arith) in
+    let l : 8 * st + 8 * st * n ≡ 8 * st * suc n = omega arith in
+    let p : from + 8 * st ≡ pixelAt b st (across .skip) (suc j) = omega arith in
+    let q : to + 8 * st ≡ pixelAt a st (across .from) (suc y) = omega arith in
+    let apart : Apart to from (8 * st + 8 * st * n) = either (o .apart) (λ h. inl (omega arith)) (λ h. inr (omega arith)) in
+    let joined = bits-join mode from to (8 * st) (8 * st * n) m hm apart (omega (arith, o .screen)) (omega (arith, o .source)) in
+    cc (lines-more a size b count st st mode across j y n m o (omega arith) (omega arith) (omega arith) (omega arith))
