@@ -113,7 +113,7 @@ fn paint_lines(
     }
 }
 
-fn visible_marks(across: Visible, down: Visible) -> Marks
+pub fn visible_marks(across: Visible, down: Visible) -> Marks
     requires { ⌜ (across .from < across .to) × (across .to ≤ 256) × (down .from < down .to) × (down .to ≤ 256) ⌝ }
     ensures { λ r. ⌜ r ≡ both (visibleMark across down) ⌝ }
 {

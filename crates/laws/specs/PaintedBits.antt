@@ -61,8 +61,23 @@ shifted-bit l a b j hb hl hj =
 abbrev pub sourceByte : List ℕ → ℕ → ℕ
 sourceByte m i = shifted (i % 8) (getD (0 ∷ m) (i / 8) 0) (getD m (i / 8) 0)
 
-before : (m : List ℕ) (i : ℕ) → 0 < i → getD (0 ∷ m) i 0 ≡ getD m (i - 1) 0
+pub before : (m : List ℕ) (i : ℕ) → 0 < i → getD (0 ∷ m) i 0 ≡ getD m (i - 1) 0
 before m i h = let e : i ≡ suc (i - 1) = omega arith in ap (λ (k : ℕ). getD (0 ∷ m) k 0) e
+
+-- where the source begins with a byte, and l bits into one
+pub aligned-source : (m : List ℕ) (k i : ℕ) → Bytes m → i ≡ 8 * k + 8 → getD m k 0 ≡ sourceByte m i
+unfolding Bytes
+aligned-source m k i hm e =
+    let p : i / 8 ≡ suc k = omega arith in
+    let q : i % 8 ≡ 0 = omega arith in
+    let whole : (a b : ℕ) → a < 256 → b < 256 → a ≡ shifted 0 a b = λ a b ha hb. omega arith in
+    rw (p, q) (whole (getD m k 0) (getD m (suc k) 0) (hm k) (hm (suc k)))
+
+pub shifted-source : (m : List ℕ) (k l i : ℕ) → l < 8 → i ≡ 8 * k + l + 8 → shifted l (getD m k 0) (getD m (k + 1) 0) ≡ sourceByte m i
+shifted-source m k l i h e =
+    let p : i / 8 ≡ suc k = omega arith in
+    let q : i % 8 ≡ l = omega arith in
+    rw (p, q, add-one k)
 
 source-bit : (m : List ℕ) (i j k : ℕ) → Bytes m → j < 8 → i + j ≡ k + 8 → bitAt (sourceByte m i) (7 - j) ≡ bitAt (getD m (k / 8) 0) (7 - k % 8)
 unfolding Bytes
@@ -151,6 +166,10 @@ byte-painted mode at a b mask i from m hm hl hk hab e =
     (source-bit m i (x % 8) (x + from - a) hm (omega arith) (omega arith)
     ∙ (let w : (x + from - a) / 8 ≡ length m * 0 + (x + from - a) / 8 = omega arith in ap (λ (c : ℕ). bitAt (getD m c 0) (7 - (x + from - a) % 8)) w)))))
     (run-bits mode from a (b - a) b m (omega arith) (omega arith) hm)
+
+pub bits-none : (mode : PaintMode) (from to n : ℕ) (m : List ℕ) → n ≡ 0 → m ≡ paintedBits mode from to n m
+unfolding paintedLine draw
+bits-none mode from to n m e = rw e
 
 pub length-painted : (mode : PaintMode) (from to n : ℕ) (m : List ℕ) → length (paintedBits mode from to n m) ≡ length m
 length-painted mode from to n m = length-draw (length m) (paintedLine (length m) m mode from 0 to 0 n) m

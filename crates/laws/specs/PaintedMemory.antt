@@ -13,6 +13,8 @@ use Rattle.model.specs.Bits.{withBit}
 use Rattle.model.specs.Bytes.{Bytes}
 use Rattle.model.specs.Memory.{window, withWindow}
 use Rattle.model.specs.Pixels.{place, bit, put, writePixel, draw}
+use Rattle.model.specs.Marks.{Drawing, drawn, drawnOn}
+use Rattle.model.specs.declared.Marks.{Marks}
 use Rattle.model.specs.declared.PaintMode.{PaintMode}
 use Rattle.model.specs.declared.Visible.{Visible}
 use Rattle.model.specs.Bitmaps.{paintOp, paintedLine, paintedLines}
@@ -98,14 +100,14 @@ window-again a s t m e h =
     let front = length-take-le a m (omega arith) in
     cc (take-at (take a m) (s ++ d) a front, append-assoc (take a m) s d, drop-at (take a m ++ s) d (a + length t) (length-append (take a m) s ∙ omega arith))
 
+-- line y of the screen, painted by line j of the source
+abbrev pub lineIn : ℕ → ℕ → ℕ → ℕ → PaintMode → Visible → ℕ → ℕ → List ℕ → List ℕ
+lineIn a b st k mode across j y m = paintedBits mode (pixelAt b k (across .skip) j) (pixelAt a st (across .from) y) (across .to - across .from) m
+
 module _ (a size b count st k : ℕ) (mode : PaintMode) (across : Visible) where
   -- n lines of the screen from y on, painted by those of the source from j on; the rest of memory stays
   abbrev pub paintedIn : ℕ → ℕ → ℕ → List ℕ → List ℕ
   paintedIn j y n m = withWindow a (draw st (paintedLines k (window b count m) mode across j y n) (window a size m)) m
-
-  -- one of them
-  abbrev pub lineIn : ℕ → ℕ → List ℕ → List ℕ
-  lineIn j y m = paintedBits mode (pixelAt b k (across .skip) j) (pixelAt a st (across .from) y) (across .to - across .from) m
 
   pub lines-none : (j y : ℕ) (m : List ℕ) → a + size ≤ length m → paintedIn j y 0 m ≡ m
   unfolding paintedLines draw
@@ -113,11 +115,11 @@ module _ (a size b count st k : ℕ) (mode : PaintMode) (across : Visible) where
 
   module _ (j y n : ℕ) (m : List ℕ) (o : Placed a size b count m) (hx : across .from + (across .to - across .from) ≤ 8 * st) (hy : st * y + st ≤ size)
       (hi : across .skip + (across .to - across .from) ≤ 8 * k) (hj : k * j + k ≤ count) where
-    line-is : lineIn j y m ≡ withWindow a (draw st (paintedLine k (window b count m) mode (across .skip) j (across .from) y (across .to - across .from)) (window a size m)) m
+    line-is : lineIn a b st k mode across j y m ≡ withWindow a (draw st (paintedLine k (window b count m) mode (across .skip) j (across .from) y (across .to - across .from)) (window a size m)) m
     line-is = line-window a size st b count k m mode (across .skip) j (across .from) y (across .to - across .from) m refl (o .screen) hx hy hi hj
 
     -- what is left of the lines, painted on what stands, gives the whole
-    pub lines-more : paintedIn (suc j) (suc y) n (lineIn j y m) ≡ paintedIn j y (suc n) m
+    pub lines-more : paintedIn (suc j) (suc y) n (lineIn a b st k mode across j y m) ≡ paintedIn j y (suc n) m
     unfolding paintedLines
     lines-more =
         let source = window b count m in
@@ -132,14 +134,14 @@ module _ (a size b count st k : ℕ) (mode : PaintMode) (across : Visible) where
         let there : window b count (withWindow a s m) ≡ source = window-other a s m b count (omega (arith, o .screen)) (either (o .apart) (λ h. inr (omega arith)) (λ h. inl h)) in
         cc (line-is, window-again a s (draw st vs s) m again (omega (arith, o .screen)), draw-append st ws vs screen)
 
-    pub lines-placed : Placed a size b count (lineIn j y m)
+    pub lines-placed : Placed a size b count (lineIn a b st k mode across j y m)
     lines-placed =
         let e = length-painted mode (pixelAt b k (across .skip) j) (pixelAt a st (across .from) y) (across .to - across .from) m in
         record { screen = rw e (o .screen); source = rw e (o .source); apart = o .apart }
 
   -- as a loop paints them
   pub turn-in : (j y to : ℕ) (m e t : List ℕ) → Placed a size b count m → y < to → across .from + (across .to - across .from) ≤ 8 * st → st * y + st ≤ size
-      → across .skip + (across .to - across .from) ≤ 8 * k → k * j + k ≤ count → e ≡ lineIn j y m
+      → across .skip + (across .to - across .from) ≤ 8 * k → k * j + k ≤ count → e ≡ lineIn a b st k mode across j y m
       → paintedIn j y (to - y) m ≡ t → Placed a size b count e × (paintedIn (j + 1) (y + 1) (to - (y + 1)) e ≡ t)
   turn-in j y to m e t o h hx hy hi hj w g =
       let n : to - y ≡ suc (to - (y + 1)) = omega arith in
@@ -158,7 +160,7 @@ whole-in a size b count st mode across j y (suc n) m o hm ek ef et hy hj =
     let from = pixelAt b st (across .skip) j in
     let to = pixelAt a st (across .from) y in
     let c : across .to - across .from ≡ 8 * st = omega arith in
-    let e = lineIn a size b count st st mode across j y m in
+    let e = lineIn a b st st mode across j y m in
     let placed = lines-placed a size b count st st mode across j y n m o (omega arith) (omega arith) (omega arith) (omega arith) in
     let bytes : Bytes e = bytes-painted mode from to (across .to - across .from) m (omega (arith, o .screen)) hm in
     let rest = whole-in a size b count st mode across (suc j) (suc y) n e placed bytes ek ef et (omega arith) (omega arith) in
@@ -168,3 +170,10 @@ whole-in a size b count st mode across j y (suc n) m o hm ek ef et hy hj =
     let apart : Apart to from (8 * st + 8 * st * n) = either (o .apart) (λ h. inl (omega arith)) (λ h. inr (omega arith)) in
     let joined = bits-join mode from to (8 * st) (8 * st * n) m hm apart (omega (arith, o .screen)) (omega (arith, o .source)) in
     cc (lines-more a size b count st st mode across j y n m o (omega arith) (omega arith) (omega arith) (omega arith))
+
+-- ---- the bitmap, with its marks
+
+-- of memory m, e has the screen of st by h at a with drawing d on it, whose marks are r; all its other bytes are those of m
+pub record DrawnIn (a st h : ℕ) (d : Drawing) (r : Marks) (m e : List ℕ) : Type 0 where
+  pub screen : drawn r (window a (st * h) e) ≡ drawnOn st h d (window a (st * h) m)
+  pub others : e ≡ withWindow a (window a (st * h) e) m

@@ -1,0 +1,23 @@
+use borrow.Author.Needs.{needs}
+use Rattle.bitmap.proofs.bits.source_byte.Statement.{statement}
+use Rattle.bitmap.proofs.bits.source_byte.Tie as tie
+
+byte-before-requires : tie.Need-byte-before-requires
+byte-before-requires c κs = search needs
+
+byte-at-requires : tie.Need-byte-at-requires
+byte-at-requires c κs = search needs
+
+cast-shifted : tie.Need-cast-shifted
+cast-shifted c = search needs
+
+shifted-requires : tie.Need-shifted-requires
+shifted-requires c κs = search needs
+
+returns : tie.Need-returns
+returns c = cc
+
+pub source-byte-spec : {M : Type 1} → statement M
+source-byte-spec =
+    tie.close
+    (tie.spec byte-before-requires byte-at-requires cast-shifted shifted-requires returns)

@@ -1,0 +1,197 @@
+// The painter by bytes. Screen and source lie in one memory: it is lent that memory, and told where the two begin.
+ghost use mathlib.Core.Path.{_≡_};
+ghost use Prim.Native.Nat.{_+_, _-_, _*_, _≤_, _<_};
+ghost use lib.ListN.{length};
+ghost use Rattle.model.specs.Memory.{window};
+ghost use Rattle.model.specs.Pixels.{Screen};
+ghost use Rattle.model.specs.Bitmaps.{sourceBytes, bitmap};
+ghost use Rattle.laws.specs.PaintedMemory.{pixelAt, Placed, lineIn, paintedIn, DrawnIn};
+use crate::axis::visible;
+use crate::bits::paint_bits;
+use crate::paint::visible_marks;
+use crate::source::source_bytes;
+use marks::span::no_marks;
+use model::Canvas;
+use model::Marks;
+use model::PaintMode;
+use model::Visible;
+
+// The largest screen, 256 lines of 32 bytes, and the longest source, 255 lines of 32 bytes.
+const BOTH_BYTES: usize = 16352;
+
+// Pixel (x, y) of the lines of `stride` bytes that begin at byte `at`, as a bit of memory.
+fn bit_of(at: usize, stride: usize, x: usize, y: usize) -> usize
+    requires { ⌜ (at + stride * y ≤ 65536) × (x ≤ 256) ⌝ }
+    ensures { λ r. ⌜ r ≡ pixelAt at stride x y ⌝ }
+{
+    8 * (at + stride * y) + x
+}
+
+// Line y of the screen by line j of the source.
+fn paint_line(
+    canvas: Canvas,
+    memory: &mut [u8],
+    screen: usize,
+    picture: Canvas,
+    source: usize,
+    across: Visible,
+    j: usize,
+    y: usize,
+    mode: PaintMode,
+)
+    requires { ⌜ Placed screen (canvas .stride * canvas .height) source (picture .stride * picture .height) (now memory) ⌝ }
+    requires { ⌜ (canvas .stride ≤ 32) × (picture .stride ≤ 32) × (length (now memory) ≤ 65536) ⌝ }
+    requires { ⌜ (across .from < across .to) × (across .to ≤ 8 * canvas .stride) × (across .skip + (across .to - across .from) ≤ 8 * picture .stride) × (j < picture .height) × (y < canvas .height) ⌝ }
+    ensures { λ _. ⌜ now (memory .exit) ≡ lineIn screen source (canvas .stride) (picture .stride) mode across j y (now (memory .entry)) ⌝ }
+{
+    let left = across.from;
+    let to = bit_of(screen, canvas.stride, left, y);
+    let from = bit_of(source, picture.stride, across.skip, j);
+    paint_bits(memory, to, from, across.to - left, mode);
+}
+
+fn paint_lines(
+    canvas: Canvas,
+    memory: &mut [u8],
+    screen: usize,
+    picture: Canvas,
+    source: usize,
+    across: Visible,
+    down: Visible,
+    mode: PaintMode,
+)
+    requires { ⌜ Placed screen (canvas .stride * canvas .height) source (picture .stride * picture .height) (now memory) ⌝ }
+    requires { ⌜ (canvas .stride ≤ 32) × (picture .stride ≤ 32) × (length (now memory) ≤ 65536) ⌝ }
+    requires { ⌜ (across .from < across .to) × (across .to ≤ 8 * canvas .stride) × (across .skip + (across .to - across .from) ≤ 8 * picture .stride) × (down .to ≤ canvas .height) × (down .skip + (down .to - down .from) ≤ picture .height) ⌝ }
+    ensures { λ _. ⌜ now (memory .exit) ≡ paintedIn screen (canvas .stride * canvas .height) source (picture .stride * picture .height) (canvas .stride) (picture .stride) mode across (down .skip) (down .from) (down .to - down .from) (now (memory .entry)) ⌝ }
+{
+    let to = down.to;
+    let mut j = down.skip;
+    let mut y = down.from;
+    while y < to {
+        paint_line(canvas, memory, screen, picture, source, across, j, y, mode);
+        j += 1;
+        y += 1;
+    }
+}
+
+// Whole lines follow one another on the screen and in the source, so they are one run of bits.
+fn paint_visible(
+    canvas: Canvas,
+    memory: &mut [u8],
+    screen: usize,
+    picture: Canvas,
+    source: usize,
+    across: Visible,
+    down: Visible,
+    mode: PaintMode,
+)
+    requires { ⌜ Placed screen (canvas .stride * canvas .height) source (picture .stride * picture .height) (now memory) ⌝ }
+    requires { ⌜ (canvas .stride ≤ 32) × (picture .stride ≤ 32) × (length (now memory) ≤ 65536) ⌝ }
+    requires { ⌜ (across .from < across .to) × (across .to ≤ 8 * canvas .stride) × (across .skip + (across .to - across .from) ≤ 8 * picture .stride) × (down .from < down .to) × (down .to ≤ canvas .height) × (down .skip + (down .to - down .from) ≤ picture .height) ⌝ }
+    ensures { λ _. ⌜ now (memory .exit) ≡ paintedIn screen (canvas .stride * canvas .height) source (picture .stride * picture .height) (canvas .stride) (picture .stride) mode across (down .skip) (down .from) (down .to - down .from) (now (memory .entry)) ⌝ }
+{
+    let stride = canvas.stride;
+    let bytes = picture.stride;
+    let count = across.to - across.from;
+    if count == 8 * stride && bytes == stride {
+        let top = down.from;
+        let to = bit_of(screen, stride, across.from, top);
+        let from = bit_of(source, bytes, across.skip, down.skip);
+        paint_bits(memory, to, from, count * (down.to - top), mode);
+        return;
+    }
+    paint_lines(canvas, memory, screen, picture, source, across, down, mode);
+}
+
+// A bitmap whose source shares no byte with the screen: it is read where it lies.
+fn paint_apart(
+    canvas: Canvas,
+    memory: &mut [u8],
+    screen: usize,
+    source: usize,
+    x: i32,
+    y: i32,
+    width: u8,
+    lines: u8,
+    mode: PaintMode,
+) -> Marks
+    requires { ⌜ Screen (canvas .stride) (canvas .height) (window screen (canvas .stride * canvas .height) (now memory)) ⌝ }
+    requires { ⌜ Placed screen (canvas .stride * canvas .height) source (sourceBytes width lines) (now memory) ⌝ }
+    requires { ⌜ length (now memory) ≤ 65536 ⌝ }
+    ensures { λ r. ⌜ DrawnIn screen (canvas .stride) (canvas .height) (bitmap (canvas .stride) (canvas .height) (window source (sourceBytes width lines) (now (memory .entry))) x y width lines mode) r (now (memory .entry)) (now (memory .exit)) ⌝ }
+{
+    let stride = canvas.stride;
+    let height = canvas.height;
+    let across = visible(x, width as usize, 8 * stride);
+    let down = visible(y, lines as usize, height);
+    if across.to <= across.from {
+        return no_marks();
+    }
+    if down.to <= down.from {
+        return no_marks();
+    }
+    let bytes = ((width as usize) + 7) / 8;
+    let picture = Canvas {
+        stride: bytes,
+        height: lines as usize,
+    };
+    paint_visible(canvas, memory, screen, picture, source, across, down, mode);
+    visible_marks(across, down)
+}
+
+// A bitmap whose source may share bytes with the screen: both are copied, the copy of the screen is painted and put back.
+fn paint_copied(
+    canvas: Canvas,
+    memory: &mut [u8],
+    screen: usize,
+    source: usize,
+    x: i32,
+    y: i32,
+    width: u8,
+    lines: u8,
+    mode: PaintMode,
+) -> Marks
+    requires { ⌜ Screen (canvas .stride) (canvas .height) (window screen (canvas .stride * canvas .height) (now memory)) ⌝ }
+    requires { ⌜ (screen + canvas .stride * canvas .height ≤ length (now memory)) × (source + sourceBytes width lines ≤ length (now memory)) ⌝ }
+    requires { ⌜ length (now memory) ≤ 65536 ⌝ }
+    ensures { λ r. ⌜ DrawnIn screen (canvas .stride) (canvas .height) (bitmap (canvas .stride) (canvas .height) (window source (sourceBytes width lines) (now (memory .entry))) x y width lines mode) r (now (memory .entry)) (now (memory .exit)) ⌝ }
+{
+    let size = canvas.stride * canvas.height;
+    let to = screen + size;
+    let end = source + source_bytes(width, lines);
+    let mut both = [0u8; BOTH_BYTES];
+    slices::put_bytes(&mut both, 0, &memory[screen..to]);
+    slices::put_bytes(&mut both, size, &memory[source..end]);
+    let m = paint_apart(canvas, &mut both, 0, size, x, y, width, lines, mode);
+    slices::put_bytes(memory, screen, &both[..size]);
+    m
+}
+
+// The bitmap of `paint_bitmap`, a byte of the screen at a time: all source bytes count as they were before the call.
+pub fn paint_bitmap_by_bytes(
+    canvas: Canvas,
+    memory: &mut [u8],
+    screen: usize,
+    source: usize,
+    x: i32,
+    y: i32,
+    width: u8,
+    lines: u8,
+    mode: PaintMode,
+) -> Marks
+    requires { ⌜ Screen (canvas .stride) (canvas .height) (window screen (canvas .stride * canvas .height) (now memory)) ⌝ }
+    requires { ⌜ (screen + canvas .stride * canvas .height ≤ length (now memory)) × (source + sourceBytes width lines ≤ length (now memory)) ⌝ }
+    requires { ⌜ length (now memory) ≤ 65536 ⌝ }
+    ensures { λ r. ⌜ DrawnIn screen (canvas .stride) (canvas .height) (bitmap (canvas .stride) (canvas .height) (window source (sourceBytes width lines) (now (memory .entry))) x y width lines mode) r (now (memory .entry)) (now (memory .exit)) ⌝ }
+{
+    let size = canvas.stride * canvas.height;
+    let count = source_bytes(width, lines);
+    if source + count <= screen {
+        return paint_apart(canvas, memory, screen, source, x, y, width, lines, mode);
+    }
+    if screen + size <= source {
+        return paint_apart(canvas, memory, screen, source, x, y, width, lines, mode);
+    }
+    paint_copied(canvas, memory, screen, source, x, y, width, lines, mode)
+}
