@@ -5,6 +5,7 @@ use mathlib.Core.Bool.{Bool}
 use mathlib.Core.Logic.{_⊎_, inl, inr}
 use mathlib.Core.List.{List, _++_, append-assoc}
 use Prim.Native.Nat.{ℕ, zero, suc, _+_, _-_, _*_, _/_, _%_, _≤_, _<_}
+use native.Mathlib.Nat.{mul-le-mul-left}
 use native.Mathlib.Numerals.{add-one}
 use native.Mathlib.Omega.{arith}
 use lib.ListN.{length, getD, set, take, drop, length-append}
@@ -87,6 +88,9 @@ line-window a size st b count k m mode i j x y (suc n) p e ha hx hy hi hj =
 
 -- ---- all lines
 
+pub row-below : (st h y : ℕ) → y < h → st * y + st ≤ st * h
+row-below st h y l = omega (arith, mul-le-mul-left {m = suc y} {n = h} st l)
+
 -- a screen of `size` bytes at a, and a source of `count` bytes at b
 pub record Placed (a size b count : ℕ) (m : List ℕ) : Type 0 where
   pub screen : a + size ≤ length m
@@ -99,6 +103,19 @@ window-again a s t m e h =
     let d = drop (a + length s) m in
     let front = length-take-le a m (omega arith) in
     cc (take-at (take a m) (s ++ d) a front, append-assoc (take a m) s d, drop-at (take a m ++ s) d (a + length t) (length-append (take a m) s ∙ omega arith))
+
+-- a line's runs of bits lie within memory, and have no bit in common
+pub record LineLies (a st b k : ℕ) (across : Visible) (j y : ℕ) (m : List ℕ) : Type 0 where
+  pub screen : pixelAt a st (across .from) y + (across .to - across .from) ≤ 8 * length m
+  pub source : pixelAt b k (across .skip) j + (across .to - across .from) ≤ 8 * length m
+  pub apart : Apart (pixelAt a st (across .from) y) (pixelAt b k (across .skip) j) (across .to - across .from)
+
+pub line-lies : (a st h b k n : ℕ) (across : Visible) (j y : ℕ) (m : List ℕ) → Placed a (st * h) b (k * n) m
+    → (across .from < across .to) × (across .to ≤ 8 * st) × (across .skip + (across .to - across .from) ≤ 8 * k) × (j < n) × (y < h) → LineLies a st b k across j y m
+line-lies a st h b k n across j y m o i =
+    let below = row-below st h y (i .4) in
+    let under = row-below k n j (i .3) in
+    record { screen = omega (arith, o .screen); source = omega (arith, o .source); apart = either (o .apart) (λ l. inl (omega arith)) (λ l. inr (omega arith)) }
 
 -- line y of the screen, painted by line j of the source
 abbrev pub lineIn : ℕ → ℕ → ℕ → ℕ → PaintMode → Visible → ℕ → ℕ → List ℕ → List ℕ
