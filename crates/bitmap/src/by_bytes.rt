@@ -93,12 +93,16 @@ fn paint_visible(
 {
     let stride = canvas.stride;
     let bytes = picture.stride;
-    let count = across.to - across.from;
+    let left = across.from;
+    let skip = across.skip;
+    let count = across.to - left;
+    let top = down.from;
+    let first = down.skip;
+    let lines = down.to - top;
     if count == 8 * stride && bytes == stride {
-        let top = down.from;
-        let to = bit_of(screen, stride, across.from, top);
-        let from = bit_of(source, bytes, across.skip, down.skip);
-        paint_bits(memory, to, from, count * (down.to - top), mode);
+        let to = bit_of(screen, stride, left, top);
+        let from = bit_of(source, bytes, skip, first);
+        paint_bits(memory, to, from, count * lines, mode);
         return;
     }
     paint_lines(canvas, memory, screen, picture, source, across, down, mode);

@@ -168,25 +168,57 @@ module _ (a size b count st k : ℕ) (mode : PaintMode) (across : Visible) where
   end-in j y to m t o h g = let n : to - y ≡ 0 = omega arith in cc (lines-none j y m (o .screen))
 
 -- whole lines of the screen and of the source follow one another, so they are one run
-pub whole-in : (a size b count st : ℕ) (mode : PaintMode) (across : Visible) (j y n : ℕ) (m : List ℕ) → Placed a size b count m → Bytes m
-    → across .skip ≡ 0 → across .from ≡ 0 → across .to ≡ 8 * st → st * (y + n) ≤ size → st * (j + n) ≤ count
-    → paintedBits mode (pixelAt b st (across .skip) j) (pixelAt a st (across .from) y) (8 * st * n) m ≡ paintedIn a size b count st st mode across j y n m
-unfolding draw paintedLine
-whole-in a size b count st mode across j y zero m o hm ek ef et hy hj = let z : 8 * st * 0 ≡ 0 = omega arith in rw z (sym (lines-none a size b count st st mode across j y m (o .screen)))
-whole-in a size b count st mode across j y (suc n) m o hm ek ef et hy hj =
-    let from = pixelAt b st (across .skip) j in
-    let to = pixelAt a st (across .from) y in
-    let c : across .to - across .from ≡ 8 * st = omega arith in
-    let e = lineIn a b st st mode across j y m in
-    let placed = lines-placed a size b count st st mode across j y n m o (omega arith) (omega arith) (omega arith) (omega arith) in
-    let bytes : Bytes e = bytes-painted mode from to (across .to - across .from) m (omega (arith, o .screen)) hm in
-    let rest = whole-in a size b count st mode across (suc j) (suc y) n e placed bytes ek ef et (omega arith) (omega arith) in
-    let l : 8 * st + 8 * st * n ≡ 8 * st * suc n = omega arith in
-    let p : from + 8 * st ≡ pixelAt b st (across .skip) (suc j) = omega arith in
-    let q : to + 8 * st ≡ pixelAt a st (across .from) (suc y) = omega arith in
-    let apart : Apart to from (8 * st + 8 * st * n) = either (o .apart) (λ h. inl (omega arith)) (λ h. inr (omega arith)) in
-    let joined = bits-join mode from to (8 * st) (8 * st * n) m hm apart (omega (arith, o .screen)) (omega (arith, o .source)) in
-    cc (lines-more a size b count st st mode across j y n m o (omega arith) (omega arith) (omega arith) (omega arith))
+module _ (a size b count st : ℕ) (across : Visible) (ek : across .skip ≡ 0) (ef : across .from ≡ 0) (et : across .to ≡ 8 * st) where
+  run-lies : (j y n : ℕ) (m : List ℕ) → Placed a size b count m → st * (y + n) ≤ size → st * (j + n) ≤ count
+      → (pixelAt a st (across .from) y + 8 * st * n ≤ 8 * length m) × (pixelAt b st (across .skip) j + 8 * st * n ≤ 8 * length m)
+      × Apart (pixelAt a st (across .from) y) (pixelAt b st (across .skip) j) (8 * st * n)
+  run-lies j y n m o hy hj = (omega (arith, o .screen), omega (arith, o .source), either (o .apart) (λ h. inl (omega arith)) (λ h. inr (omega arith)))
+
+  whole-in : (mode : PaintMode) (j y n : ℕ) (m : List ℕ) → Placed a size b count m → Bytes m → st * (y + n) ≤ size → st * (j + n) ≤ count
+      → paintedBits mode (pixelAt b st (across .skip) j) (pixelAt a st (across .from) y) (8 * st * n) m ≡ paintedIn a size b count st st mode across j y n m
+  unfolding draw paintedLine
+  whole-in mode j y zero m o hm hy hj = let z : 8 * st * 0 ≡ 0 = omega arith in rw z (sym (lines-none a size b count st st mode across j y m (o .screen)))
+  whole-in mode j y (suc n) m o hm hy hj =
+      let from = pixelAt b st (across .skip) j in
+      let to = pixelAt a st (across .from) y in
+      let c : across .to - across .from ≡ 8 * st = omega arith in
+      let e = lineIn a b st st mode across j y m in
+      let placed = lines-placed a size b count st st mode across j y n m o (omega arith) (omega arith) (omega arith) (omega arith) in
+      let bytes : Bytes e = bytes-painted mode from to (across .to - across .from) m (omega (arith, o .screen)) hm in
+      let rest = whole-in mode (suc j) (suc y) n e placed bytes (omega arith) (omega arith) in
+      let l : 8 * st + 8 * st * n ≡ 8 * st * suc n = omega arith in
+      let p : from + 8 * st ≡ pixelAt b st (across .skip) (suc j) = omega arith in
+      let q : to + 8 * st ≡ pixelAt a st (across .from) (suc y) = omega arith in
+      let apart : Apart to from (8 * st + 8 * st * n) = rw l (run-lies j y (suc n) m o hy hj .2) in
+      let joined = bits-join mode from to (8 * st) (8 * st * n) m hm apart (omega (arith, o .screen)) (omega (arith, o .source)) in
+      cc (lines-more a size b count st st mode across j y n m o (omega arith) (omega arith) (omega arith) (omega arith))
+
+-- as wide as the lines of both: `count` pixels of a line are all of it
+pub record WholeLies (a st h b k n : ℕ) (across down : Visible) (m : List ℕ) : Type 0 where
+  pub some : 0 < 8 * st * (down .to - down .from)
+  pub screen : pixelAt a st (across .from) (down .from) + 8 * st * (down .to - down .from) ≤ 8 * length m
+  pub source : pixelAt b k (across .skip) (down .skip) + 8 * st * (down .to - down .from) ≤ 8 * length m
+  pub apart : Apart (pixelAt a st (across .from) (down .from)) (pixelAt b k (across .skip) (down .skip)) (8 * st * (down .to - down .from))
+  pub painted : (mode : PaintMode) → Bytes m → paintedBits mode (pixelAt b k (across .skip) (down .skip)) (pixelAt a st (across .from) (down .from)) (8 * st * (down .to - down .from)) m
+      ≡ paintedIn a (st * h) b (k * n) st k mode across (down .skip) (down .from) (down .to - down .from) m
+
+pub whole-lies : (a st h b k n : ℕ) (across down : Visible) (m : List ℕ) → Placed a (st * h) b (k * n) m
+    → (across .from < across .to) × (across .to ≤ 8 * st) × (across .skip + (across .to - across .from) ≤ 8 * k) × (down .from < down .to) × (down .to ≤ h) × (down .skip + (down .to - down .from) ≤ n)
+    → across .to - across .from ≡ 8 * st → k ≡ st → WholeLies a st h b k n across down m
+whole-lies a st h b k n across down m o i c e =
+    let lines = down .to - down .from in
+    let below : st * (down .from + lines) ≤ st * h = mul-le-mul-left st (omega arith) in
+    let under : st * (down .skip + lines) ≤ st * n = mul-le-mul-left st (omega arith) in
+    let p : Placed a (st * h) b (st * n) m = rw e at o in
+    rw e
+    (let lies = run-lies a (st * h) b (st * n) st across (omega arith) (omega arith) (omega arith) (down .skip) (down .from) lines m p below under in
+    record {
+      some = omega (arith, mul-le-mul-left {m = 1} {n = lines} (8 * st) (omega arith));
+      screen = lies .0;
+      source = lies .1;
+      apart = lies .2;
+      painted = λ mode hm. whole-in a (st * h) b (st * n) st across (omega arith) (omega arith) (omega arith) mode (down .skip) (down .from) lines m p hm below under;
+    })
 
 -- ---- the bitmap, with its marks
 
