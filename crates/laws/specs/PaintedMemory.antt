@@ -8,6 +8,7 @@ use Prim.Native.Nat.{ℕ, zero, suc, _+_, _-_, _*_, _/_, _%_, _≤_, _<_}
 use native.Mathlib.Nat.{mul-le-mul-left}
 use native.Mathlib.Numerals.{add-one}
 use native.Mathlib.Omega.{arith}
+use lib.IntN.{ℤ}
 use lib.ListN.{length, getD, set, take, drop, length-append}
 use lib.Seq.{getD-take, getD-drop, take-set-le, drop-set-lt, take-at, drop-at, length-take-le}
 use Rattle.model.specs.Bits.{withBit}
@@ -18,11 +19,13 @@ use Rattle.model.specs.Marks.{Drawing, drawn, drawnOn}
 use Rattle.model.specs.declared.Marks.{Marks}
 use Rattle.model.specs.declared.PaintMode.{PaintMode}
 use Rattle.model.specs.declared.Visible.{Visible}
-use Rattle.model.specs.Bitmaps.{paintOp, paintedLine, paintedLines}
+use Rattle.model.specs.Bitmaps.{paintOp, sourceStride, sourceBytes, visible, paintedLine, paintedLines, bitmap}
 use Rattle.laws.specs.Tests.{either}
-use Rattle.laws.specs.Memory.{length-window, window-set-in, window-same, window-back, window-other}
+use Rattle.laws.specs.Memory.{length-window, length-withWindow, window-set-in, window-same, window-back, window-other}
 use Rattle.laws.specs.Pixels.{length-put, length-draw}
 use Rattle.laws.specs.Writes.{draw-append}
+use Rattle.laws.specs.Points.{both}
+use Rattle.laws.specs.Bitmaps.{visibleMark, bitmap-painted}
 use Rattle.laws.specs.PaintedBits.{paintedBits, length-painted, bytes-painted, Apart, bits-join}
 
 -- n bytes of memory from byte a on are st by .. lines: pixel (x, y) of this window is bit pixelAt a st x y of memory
@@ -226,3 +229,53 @@ whole-lies a st h b k n across down m o i c e =
 pub record DrawnIn (a st h : ℕ) (d : Drawing) (r : Marks) (m e : List ℕ) : Type 0 where
   pub screen : drawn r (window a (st * h) e) ≡ drawnOn st h d (window a (st * h) m)
   pub others : e ≡ withWindow a (window a (st * h) e) m
+
+-- nothing is drawn
+pub none-in : (a st h : ℕ) (d : Drawing) (m : List ℕ) {r : Marks} → a + st * h ≤ length m → drawn r (window a (st * h) m) ≡ drawnOn st h d (window a (st * h) m) → DrawnIn a st h d r m m
+none-in a st h d m l e = record { screen = e; others = sym (window-back a (st * h) m l) }
+
+-- its window of memory, and the rest
+window-in : (a st h : ℕ) (d : Drawing) (m e s : List ℕ) {r : Marks} → a + st * h ≤ length m → length s ≡ st * h → e ≡ withWindow a s m
+    → drawn r s ≡ drawnOn st h d (window a (st * h) m) → DrawnIn a st h d r m e
+window-in a st h d m e s l n w g =
+    let here : window a (st * h) e ≡ s = cc (window-same a (st * h) s m n l) in
+    record { screen = rw here g; others = rw here w }
+
+module _ (a st h b w n : ℕ) (x y : ℤ) (mode : PaintMode) (m : List ℕ) where
+  abbrev bitmapIn : Drawing
+  bitmapIn = bitmap st h (window b (sourceBytes w n) m) x y w n mode
+
+  -- a bitmap's lines painted, and its marks
+  pub painted-in : (e : List ℕ) {across down : Visible} {r : Marks} → a + st * h ≤ length m → across ≡ visible x w (8 * st) → down ≡ visible y n h
+      → across .from < across .to → down .from < down .to → r ≡ both (visibleMark across down)
+      → e ≡ paintedIn a (st * h) b (sourceBytes w n) st (sourceStride w) mode across (down .skip) (down .from) (down .to - down .from) m → DrawnIn a st h bitmapIn r m e
+  painted-in e {across} {down} l p q u v f g =
+      let source = window b (sourceBytes w n) m in
+      let s = window a (st * h) m in
+      let ws = paintedLines (sourceStride w) source mode across (down .skip) (down .from) (down .to - down .from) in
+      window-in a st h bitmapIn m e (draw st ws s) l (length-draw st ws s ∙ length-window a (st * h) m l) g (bitmap-painted st h source x y w n mode s p q (draw st ws s) u v f refl)
+
+-- a screen of n bytes and a source of c bytes, copied to z one after the other
+pub record Copied (n b c : ℕ) (screen m z e : List ℕ) : Type 0 where
+  pub long : length e ≡ length z
+  pub screen-is : window 0 n e ≡ screen
+  pub source-is : window n c e ≡ window b c m
+
+pub copied : (a n b c : ℕ) (m z e₁ e₂ : List ℕ) → a + n ≤ length m → b + c ≤ length m → n + c ≤ length z
+    → e₁ ≡ withWindow 0 (window a n m) z → e₂ ≡ withWindow n (window b c m) e₁ → Copied n b c (window a n m) m z e₂
+copied a n b c m z e₁ e₂ la lb lz w₁ w₂ =
+    let screen = window a n m in
+    let source = window b c m in
+    let l₁ : length screen ≡ n = length-window a n m la in
+    let l₂ : length source ≡ c = length-window b c m lb in
+    let k₁ : length e₁ ≡ length z = ap length w₁ ∙ length-withWindow 0 screen z (omega arith) in
+    record {
+      long = ap length w₂ ∙ length-withWindow n source e₁ (omega arith) ∙ k₁;
+      screen-is = cc (window-other n source e₁ 0 n (omega arith) (inl (omega arith)), window-same 0 n screen z l₁ (omega arith));
+      source-is = cc (window-same n c source e₁ l₂ (omega arith));
+    }
+
+-- the copy is painted, and its screen put back
+pub copied-in : (a st h b c : ℕ) (d : List ℕ → Drawing) (m z e₂ e₃ e₄ : List ℕ) {r : Marks} → a + st * h ≤ length m → st * h ≤ length e₃ → Copied (st * h) b c (window a (st * h) m) m z e₂
+    → DrawnIn 0 st h (d (window (st * h) c e₂)) r e₂ e₃ → e₄ ≡ withWindow a (window 0 (st * h) e₃) m → DrawnIn a st h (d (window b c m)) r m e₄
+copied-in a st h b c d m z e₂ e₃ e₄ l k o p w = window-in a st h (d (window b c m)) m e₄ (window 0 (st * h) e₃) l (length-window 0 (st * h) e₃ (omega arith)) w (cc (p .screen, o .screen-is, o .source-is))
