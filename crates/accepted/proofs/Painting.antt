@@ -11,7 +11,7 @@ use Rattle.model.specs.declared.PaintMode.the-variants.{Xor}
 use Rattle.model.specs.Bitmaps.{paintMode, sourceBytes, sourceFits}
 use Rattle.bitmap.proofs.Sources.{source-small, source-in}
 use Rattle.record.specs.Given.{Given}
-use Rattle.record.proofs.Drawing.{part-length}
+use Rattle.laws.specs.Parts.{part-length}
 
 pub last-mode : (n : ℕ) → 4 ≤ n → Xor ≡ paintMode n
 last-mode zero h = absurd (omega arith)

@@ -23,7 +23,7 @@ use Rattle.laws.specs.Updates.{whole-of}
 use Rattle.record.specs.Update.{updated}
 use Rattle.record.proofs.Updating.{updated-for}
 use Rattle.record.specs.Given.{Given}
-use Rattle.record.proofs.Drawing.{part-length}
+use Rattle.laws.specs.Parts.{part-length}
 
 -- a part that was lent and cleared
 cleared-part : (a n : ℕ) (m : List ℕ) {s : List ℕ} → a + n ≤ length m → s ≡ zeros (length (take (a + n - a) (drop a m)))

@@ -1,6 +1,8 @@
 // The painter by bytes. Screen and source lie in one memory: it is lent that memory, and told where the two begin.
+ghost use mathlib.Core.Bool.{_||_};
 ghost use mathlib.Core.Path.{_≡_};
 ghost use Prim.Native.Nat.{_+_, _-_, _*_, _≤_, _<_};
+ghost use lib.Dec.{leb};
 ghost use lib.ListN.{length};
 ghost use Rattle.model.specs.Memory.{window};
 ghost use Rattle.model.specs.Pixels.{Screen};
@@ -172,6 +174,14 @@ fn paint_copied(
     m
 }
 
+// Whether the source has no byte in common with the screen.
+fn is_apart(screen: usize, size: usize, source: usize, count: usize) -> bool
+    requires { ⌜ (screen + size ≤ 65536) × (source + count ≤ 65536) ⌝ }
+    ensures { λ r. ⌜ r ≡ (leb (screen + size) source || leb (source + count) screen) ⌝ }
+{
+    (screen + size <= source) | (source + count <= screen)
+}
+
 // The bitmap of `paint_bitmap`, a byte of the screen at a time: all source bytes count as they were before the call.
 pub fn paint_bitmap_by_bytes(
     canvas: Canvas,
@@ -191,10 +201,7 @@ pub fn paint_bitmap_by_bytes(
 {
     let size = canvas.stride * canvas.height;
     let count = source_bytes(width, lines);
-    if source + count <= screen {
-        return paint_apart(canvas, memory, screen, source, x, y, width, lines, mode);
-    }
-    if screen + size <= source {
+    if is_apart(screen, size, source, count) {
         return paint_apart(canvas, memory, screen, source, x, y, width, lines, mode);
     }
     paint_copied(canvas, memory, screen, source, x, y, width, lines, mode)

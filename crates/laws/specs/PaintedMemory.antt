@@ -1,13 +1,14 @@
 -- A bitmap painted in memory, its screen and its source windows that share no byte: each visible line is a run of memory's bits,
 -- and lines that follow one another on the screen and in the source are one run.
 use mathlib.Core.Path.{_≡_, refl, sym, ap, _∙_}
-use mathlib.Core.Bool.{Bool}
+use mathlib.Core.Bool.{Bool, true, _||_}
 use mathlib.Core.Logic.{_⊎_, inl, inr}
 use mathlib.Core.List.{List, _++_, append-assoc}
 use Prim.Native.Nat.{ℕ, zero, suc, _+_, _-_, _*_, _/_, _%_, _≤_, _<_}
 use native.Mathlib.Nat.{mul-le-mul-left}
 use native.Mathlib.Numerals.{add-one}
 use native.Mathlib.Omega.{arith}
+use lib.Dec.{leb}
 use lib.IntN.{ℤ}
 use lib.ListN.{length, getD, set, take, drop, length-append}
 use lib.Seq.{getD-take, getD-drop, take-set-le, drop-set-lt, take-at, drop-at, length-take-le}
@@ -20,7 +21,7 @@ use Rattle.model.specs.declared.Marks.{Marks}
 use Rattle.model.specs.declared.PaintMode.{PaintMode}
 use Rattle.model.specs.declared.Visible.{Visible}
 use Rattle.model.specs.Bitmaps.{paintOp, sourceStride, sourceBytes, visible, paintedLine, paintedLines, bitmap}
-use Rattle.laws.specs.Tests.{either}
+use Rattle.laws.specs.Tests.{tests, either, or-cases}
 use Rattle.laws.specs.Memory.{length-window, length-withWindow, window-set-in, window-same, window-back, window-other}
 use Rattle.laws.specs.Pixels.{length-put, length-draw}
 use Rattle.laws.specs.Writes.{draw-append}
@@ -99,6 +100,11 @@ pub record Placed (a size b count : ℕ) (m : List ℕ) : Type 0 where
   pub screen : a + size ≤ length m
   pub source : b + count ≤ length m
   pub apart : (a + size ≤ b) ⊎ (b + count ≤ a)
+
+-- as the test finds them
+pub placed : (a size b count : ℕ) (m : List ℕ) {k : ℕ} {t : Bool} → (a + size ≤ length m) × (b + count ≤ length m) → k ≡ count → t ≡ (leb (a + size) b || leb (b + k) a) → t ≡ true → Placed a size b count m
+placed a size b count m {k} l e p q =
+    record { screen = l .0; source = l .1; apart = either (or-cases (leb (a + size) b) (leb (b + k) a) (sym p ∙ q)) (λ h. inl (omega (arith, tests))) (λ h. inr (omega (arith, tests))) }
 
 window-again : (a : ℕ) (s t m : List ℕ) → length s ≡ length t → a + length s ≤ length m → withWindow a t (withWindow a s m) ≡ withWindow a t m
 unfolding withWindow

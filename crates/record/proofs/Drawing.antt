@@ -7,7 +7,7 @@ use native.Mathlib.Omega.{arith}
 use borrow.Rule.Slice.PartMut.{putMid}
 use mir.Val.{boolByte}
 use lib.IntN.{ℤ}
-use lib.ListN.{length, take, drop, length-take, length-drop}
+use lib.ListN.{length, take, drop}
 use Rattle.model.specs.declared.Canvas.{Canvas}
 use Rattle.model.specs.declared.DrawMode.the-variants.{Unknown}
 use Rattle.model.specs.declared.Head.{Head}
@@ -23,7 +23,7 @@ use Rattle.model.specs.Marks.{Drawing, Drawn, drawn, drawnOn, marked}
 use Rattle.model.specs.Points.{drawMode, isSet}
 use Rattle.model.specs.Calls.{lent, answered, flag, drawingWith, drawing}
 use Rattle.laws.specs.Pixels.{length-draw}
-use Rattle.laws.specs.Parts.{part-window, part-back}
+use Rattle.laws.specs.Parts.{part-window, part-length, part-back}
 use Rattle.laws.specs.Record.{Passing, length-part, has-flags}
 use Rattle.laws.specs.StateTest.{flags-part}
 use Rattle.laws.specs.Updates.{head-numbers}
@@ -47,9 +47,6 @@ textPart v h m = take (h .text + v .cells - h .text) (drop (h .text) m)
 
 abbrev pub flagsPart : Glass → List ℕ → List ℕ
 flagsPart v r = take (v .others - v .flags) (drop (v .flags) r)
-
-pub part-length : (a n : ℕ) (m : List ℕ) → a + n ≤ length m → length (take (a + n - a) (drop a m)) ≡ n
-part-length a n m h = simp (length-take, length-drop) (omega arith)
 
 drawn-length : (st h : ℕ) (d : Drawing) (s : List ℕ) → length (drawnOn st h d s .screen) ≡ length s
 unfolding drawnOn
