@@ -1,4 +1,4 @@
-// Bitmaps: `paint_bitmap`.
+// Bitmaps: `paint_bitmap`, and the same by bytes.
 use model::Head;
 use model::PaintMode;
 use model::glass::Glass;
@@ -58,6 +58,39 @@ pub fn paint_bitmap(
         canvas_of(glass),
         &mut memory[from..to],
         &source[..count],
+        x,
+        y,
+        width,
+        height,
+        d,
+    );
+    update::mark_head(rec, h, m);
+}
+
+pub fn paint_bitmap_by_bytes(
+    rec: &mut [u8],
+    memory: &mut [u8],
+    glass: Glass,
+    h: Head,
+    address: u16,
+    x: i32,
+    y: i32,
+    width: u8,
+    height: u8,
+    mode: u8,
+)
+    requires { ⌜ Given glass (now rec) h (now memory) ⌝ }
+    requires { ⌜ sourceFits address width height ≡ true ⌝ }
+    ensures { λ _. ⌜ answered 0 [] (lent (now (rec .exit)) (now (memory .exit)) []) ≡ done (geometry glass) (paintBitmap address x y width height mode) (lent (now (rec .entry)) (now (memory .entry)) []) ⌝ }
+{
+    let start = address as usize;
+    let from = h.graphics as usize;
+    let d = paint_mode(mode);
+    let m = bitmap::paint_bitmap_by_bytes(
+        canvas_of(glass),
+        memory,
+        from,
+        start,
         x,
         y,
         width,

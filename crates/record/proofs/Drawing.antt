@@ -24,6 +24,8 @@ use Rattle.model.specs.Points.{drawMode, isSet}
 use Rattle.model.specs.Calls.{lent, answered, flag, drawingWith, drawing}
 use Rattle.laws.specs.Pixels.{length-draw}
 use Rattle.laws.specs.Parts.{part-window, part-length, part-back}
+use Rattle.laws.specs.Memory.{length-window}
+use Rattle.laws.specs.PaintedMemory.{DrawnIn}
 use Rattle.laws.specs.Record.{Passing, length-part, has-flags}
 use Rattle.laws.specs.StateTest.{flags-part}
 use Rattle.laws.specs.Updates.{head-numbers}
@@ -145,3 +147,24 @@ module _ {v : Glass} {r : List ℕ} {h : Head} {m : List ℕ} (w : Given v r h m
       → t ≡ updated (λ g x. marked g (c .dirty) (c .owed) (withHead h x)) r
       → answered 0 [] (lent t (putMid (h .graphics) (h .graphics + v .screen - h .graphics) m s) []) ≡ answered 0 [] (drawing (geometry v) (shape (v .stride) (height (geometry v)) b) (lent r m []))
   drew shape c s p q e t = ap (answered 0 []) (drew-with (λ x. x) shape c s p q e refl t)
+
+  -- a drawing on the window of memory where the screen is
+  pub screen-bytes : {k : Canvas} → k ≡ canvas v → k .stride * k .height ≡ v .screen
+  screen-bytes e = sym (screen-part e .sized) ∙ screen-length
+
+  pub screen-window : {k : Canvas} → k ≡ canvas v → Screen (k .stride) (k .height) (window (h .graphics) (k .stride * k .height) m)
+  screen-window e = rw (screen-bytes e, ← part-window (h .graphics) (v .screen) m) (screen-part e)
+
+  pub drew-in : {A : Type 0} (shape : ℕ → ℕ → A → Drawing) (c : Marks) (m′ : List ℕ) {a b : A} {k : Canvas} {t : List ℕ} → a ≡ b → k ≡ canvas v → length m′ ≡ length m
+      → DrawnIn (h .graphics) (k .stride) (k .height) (shape (k .stride) (k .height) a) c m m′
+      → t ≡ updated (λ g x. marked g (c .dirty) (c .owed) (withHead h x)) r
+      → answered 0 [] (lent t m′ []) ≡ answered 0 [] (drawing (geometry v) (shape (v .stride) (height (geometry v)) b) (lent r m []))
+  drew-in shape c m′ {k = k} {t} p q l o e =
+      let at = h .graphics in
+      let n = k .stride * k .height in
+      let s = window at n m′ in
+      let sized = screen-bytes q in
+      let long : length s ≡ at + v .screen - at = length-window at n m′ (omega (arith, screen-room)) ∙ omega arith in
+      let here : screenPart v h m ≡ window at n m = part-window at (v .screen) m ∙ ap (λ (j : ℕ). window at j m) (sym sized) in
+      let back : m′ ≡ putMid at (at + v .screen - at) m s = o .others ∙ sym (part-back at (at + v .screen) m s (omega arith) long) in
+      ap (λ (x : List ℕ). answered 0 [] (lent t x [])) back ∙ drew shape c s p q (rw here (o .screen)) e
