@@ -1,4 +1,4 @@
-// `caption_paint_bitmap`.
+// `caption_paint_bitmap` and `caption_paint_bitmap_by_bytes`.
 use accepted::bitmaps;
 use model::glass::MEMORY_BYTES;
 use model::refusal;
@@ -34,6 +34,46 @@ pub extern "C" fn caption_paint_bitmap(
         return refusal::SOURCE;
     }
     bitmaps::paint_bitmap(
+        rec,
+        memory,
+        glass_of(rec.len()),
+        e.head,
+        address,
+        x,
+        y,
+        width,
+        height,
+        mode,
+    );
+    0
+}
+
+// The same outcome, a byte of the screen at a time.
+#[no_mangle]
+pub extern "C" fn caption_paint_bitmap_by_bytes(
+    rec: &mut [u8],
+    memory: &mut [u8],
+    address: u16,
+    x: i32,
+    y: i32,
+    width: u8,
+    height: u8,
+    mode: u8,
+) -> u32
+    ensures { λ r. ⌜ answered r [] (lent (now (rec .exit)) (now (memory .exit)) []) ≡ outcome base (paintBitmap address x y width height mode) (lent (now (rec .entry)) (now (memory .entry)) []) ⌝ }
+{
+    let e = entry::enter(rec, memory.len() == MEMORY_BYTES);
+    let code = e.code;
+    if code != 0 {
+        return code;
+    }
+    if mode > 4 {
+        return refusal::VALUE;
+    }
+    if !bitmaps::source_fits(memory.len(), address, width, height) {
+        return refusal::SOURCE;
+    }
+    bitmaps::paint_bitmap_by_bytes(
         rec,
         memory,
         glass_of(rec.len()),
