@@ -183,5 +183,6 @@ fn smaller_calls(call: &Call) -> Vec<Call> {
         SetPrintMode { mode }
         WriteByte { address, byte }
         Send { number }
+        PaintBitmapByBytes { address, x, y, width, height, mode }
     )
 }

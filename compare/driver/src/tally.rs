@@ -99,13 +99,13 @@ impl Tally {
     pub fn print(&self, core: bool) {
         println!("{COLUMNS}");
         println!(
-            "{:<16}{:>12}{:>12}{:>14}{:>12}{:>12}",
+            "{:<24}{:>12}{:>12}{:>14}{:>12}{:>12}",
             "call", "accepted", "refused", "by reference", "panicked", "by core"
         );
         for (number, row) in self.rows.iter().enumerate() {
             let by_core = if core && core_side::has(number) { row.by_core.to_string() } else { "-".into() };
             println!(
-                "{:<16}{:>12}{:>12}{:>14}{:>12}{:>12}",
+                "{:<24}{:>12}{:>12}{:>14}{:>12}{:>12}",
                 Call::NAMES[number],
                 row.accepted,
                 row.refused,
