@@ -1,7 +1,7 @@
 use crate::Call;
 
 /// What both painters are told: the one by pixels and the one by bytes. They leave the same.
-#[derive(Debug, Clone, Copy, PartialEq, Eq)]
+#[derive(Debug, Clone, Copy, PartialEq, Eq, Hash)]
 pub struct Painting {
     pub address: u16,
     pub x: i32,
@@ -12,6 +12,17 @@ pub struct Painting {
 }
 
 impl Painting {
+    /// What a call is told, if it is one of the painters.
+    pub fn of(call: &Call) -> Option<Self> {
+        match *call {
+            Call::PaintBitmap { address, x, y, width, height, mode }
+            | Call::PaintBitmapByBytes { address, x, y, width, height, mode } => {
+                Some(Self { address, x, y, width, height, mode })
+            }
+            _ => None,
+        }
+    }
+
     pub fn by_pixels(self) -> Call {
         let Self { address, x, y, width, height, mode } = self;
         Call::PaintBitmap { address, x, y, width, height, mode }

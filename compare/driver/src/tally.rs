@@ -88,6 +88,11 @@ impl Tally {
         self.rows[call.number()].by_core += 1;
     }
 
+    /// Accepted calls of the painter by bytes.
+    pub fn painted_by_bytes(&self) -> u64 {
+        Call::number_of("paint_bitmap_by_bytes").map_or(0, |number| self.rows[number].accepted)
+    }
+
     fn accepted(&self) -> u64 {
         self.rows.iter().map(|row| row.accepted).sum()
     }
