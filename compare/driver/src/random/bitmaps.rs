@@ -82,3 +82,57 @@ impl Random {
         self.pick(&[1, 2, 3, 19, 20, 21, 40, 99, 100, 101, 1580, 1599, 1600, 1601])
     }
 }
+
+#[cfg(test)]
+mod tests {
+    use super::*;
+
+    const SCREEN_START: usize = 4096;
+    const SCREEN_END: usize = SCREEN_START + SCREEN;
+
+    /// Of 20,000 paintings at least so many are such.
+    fn assert_often(least: usize, what: &str, such: impl Fn(&Painting) -> bool) {
+        let windows = Windows { graphics_base: SCREEN_START as u16, text_base: 8192 };
+        let mut random = Random::new(1);
+        let count = (0..20_000).map(|_| random.painting(windows)).filter(such).count();
+        assert!(count >= least, "{what}: {count}");
+    }
+
+    /// Start and end of the source.
+    fn source(painting: &Painting) -> (usize, usize) {
+        let start = painting.address as usize;
+        (start, start + Painting::source_bytes(painting.width, painting.height))
+    }
+
+    #[test]
+    fn places_and_sizes_around_bytes() {
+        for x in (0..20).flat_map(|byte| [-1, 0, 1].map(|beside| 8 * byte + beside)) {
+            assert_often(50, &format!("x = {x}"), |told| told.x == x);
+        }
+        for width in (1..=9).chain(159..=161) {
+            assert_often(200, &format!("width {width}"), |told| told.width == width);
+        }
+        assert_often(500, "255 by 255", |told| told.width == 255 && told.height == 255);
+        assert_often(5_000, "widths within a byte", |told| told.width % 8 != 0);
+        assert_often(500, "left of the glass and above it", |told| told.x < 0 && told.y < 0);
+        (0..5).for_each(|mode| assert_often(2_000, "a mode", |told| told.mode == mode));
+    }
+
+    #[test]
+    fn sources_over_the_screen_and_at_the_ends_of_memory() {
+        let start_in = |start| (SCREEN_START..SCREEN_END).contains(&start);
+        assert_often(1_000, "same address", |told| source(told).0 == SCREEN_START);
+        assert_often(500, "from before into it", |told| {
+            let (start, end) = source(told);
+            start < SCREEN_START && (SCREEN_START + 1..SCREEN_END).contains(&end)
+        });
+        assert_often(1_000, "in it", |told| start_in(source(told).0) && source(told).1 <= SCREEN_END);
+        assert_often(500, "from it on", |told| start_in(source(told).0) && source(told).1 > SCREEN_END);
+        assert_often(500, "address 0", |told| told.address == 0);
+        assert_often(500, "the last byte of memory", |told| source(told).1 == MEMORY);
+        assert_often(500, "over its source", |told| {
+            (told.x, told.y, told.width, told.height) == (0, 0, 255, 80)
+                && source(told).0 == SCREEN_START - 100
+        });
+    }
+}
