@@ -27,6 +27,7 @@ pub enum Call {
     WriteByte { address: u16, byte: u8 },
     TakeDirtyArea,
     Send { number: u8 },
+    PaintBitmapByBytes { address: u16, x: i32, y: i32, width: u8, height: u8, mode: u8 },
 }
 
 /// What flush is lent: so many first bytes of each stand-in font, and the extra list.
@@ -84,7 +85,7 @@ impl FontsLent {
 
 impl Call {
     /// The names of the calls, in the order of `number`.
-    pub const NAMES: [&str; 24] = [
+    pub const NAMES: [&str; 25] = [
         "open",
         "reset",
         "draw_point",
@@ -109,6 +110,7 @@ impl Call {
         "write_byte",
         "take_dirty_area",
         "send",
+        "paint_bitmap_by_bytes",
     ];
 
     pub fn number(&self) -> usize {
@@ -137,6 +139,7 @@ impl Call {
             Self::WriteByte { .. } => 21,
             Self::TakeDirtyArea => 22,
             Self::Send { .. } => 23,
+            Self::PaintBitmapByBytes { .. } => 24,
         }
     }
 

@@ -5,7 +5,9 @@ mod answer;
 mod call;
 pub mod layout;
 mod lent;
+mod painting;
 
 pub use answer::{Answer, Refusal};
 pub use call::{Call, FontsLent};
 pub use lent::{Buffers, Lent};
+pub use painting::Painting;

@@ -92,4 +92,8 @@ unsafe extern "C" {
         record: Out, record_len: usize, memory: In, memory_len: usize, panel: Out, panel_len: usize,
         number: u8,
     ) -> Sent;
+    pub fn caption_paint_bitmap_by_bytes(
+        record: Out, record_len: usize, memory: Out, memory_len: usize,
+        address: u16, x: i32, y: i32, width: u8, height: u8, mode: u8,
+    ) -> u32;
 }

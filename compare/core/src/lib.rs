@@ -103,6 +103,12 @@ pub fn answer(call: &Call, lent: Lent) -> Option<Answer> {
         Call::Send { number } => sent(
             ffi::caption_send(record, record_len, memory, memory_len, panel, panel_len, number),
         ),
+        #[cfg(has = "paint_bitmap_by_bytes")]
+        Call::PaintBitmapByBytes { address, x, y, width, height, mode } => code(
+            ffi::caption_paint_bitmap_by_bytes(
+                record, record_len, memory, memory_len, address, x, y, width, height, mode,
+            ),
+        ),
         #[allow(unreachable_patterns)]
         _ => return None,
     } })

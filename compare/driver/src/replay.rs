@@ -129,7 +129,8 @@ fn stored(call: &Call) -> [u8; STORED] {
         Call::DrawCircle { x, y, r, fill, mode } => bytes.extend([x, y, r, fill, mode]),
         Call::DrawEllipse { x, y, rx, ry, fill, mode } => bytes.extend([x, y, rx, ry, fill, mode]),
         Call::CheckPoint { x, y } => bytes.extend([x.to_le_bytes(), y.to_le_bytes()].concat()),
-        Call::PaintBitmap { address, x, y, width, height, mode } => {
+        Call::PaintBitmap { address, x, y, width, height, mode }
+        | Call::PaintBitmapByBytes { address, x, y, width, height, mode } => {
             bytes.extend(address.to_le_bytes());
             bytes.extend([x.to_le_bytes(), y.to_le_bytes()].concat());
             bytes.extend([width, height, mode]);

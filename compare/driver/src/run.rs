@@ -16,6 +16,9 @@ pub const FULL: u64 = 10_000_000;
 /// So many of its flushes, at least, show a pair in the gap.
 const GAP_FLUSHES: u64 = 10_000;
 
+/// So many bitmaps, at least, are painted by bytes where the core is compared.
+const PAINTED_BY_BYTES: u64 = 100_000;
+
 pub struct Run {
     pub calls: u64,
     pub seed: u64,
@@ -48,15 +51,27 @@ impl Run {
         println!("exhaustive lists: {} of {}", turns.exhaustive_done, exhaustive::lists().count());
         println!("{:.0} calls a second", tally.calls() as f64 / progress.seconds());
         println!("{} calls, 0 differences", tally.calls());
-        self.has_enough_gap_flushes(tally.gap_flushes.all)
+        let gap_flushes = self.has_enough_gap_flushes(tally.gap_flushes.all);
+        self.has_enough_by_bytes(tally.painted_by_bytes()) && gap_flushes
     }
 
     /// The reference says nothing about pairs in the gap: without flushes of our own that show them
     /// the rule would go untested.
     fn has_enough_gap_flushes(&self, count: u64) -> bool {
-        let enough = self.calls < FULL || count >= GAP_FLUSHES;
+        self.has_enough("flushes with a pair in the gap", count, GAP_FLUSHES)
+    }
+
+    /// The core alone has a painter by bytes: its shifts, masks and overlaps want many cases.
+    fn has_enough_by_bytes(&self, count: u64) -> bool {
+        self.core.is_none()
+            || self.has_enough("accepted calls of paint_bitmap_by_bytes", count, PAINTED_BY_BYTES)
+    }
+
+    /// Whether a full run has enough of something.
+    fn has_enough(&self, what: &str, count: u64, least: u64) -> bool {
+        let enough = self.calls < FULL || count >= least;
         if !enough {
-            println!("TOO FEW flushes with a pair in the gap: {count}, a full run needs {GAP_FLUSHES}");
+            println!("TOO FEW {what}: {count}, a full run needs {least}");
         }
         enough
     }
@@ -147,5 +162,16 @@ mod tests {
         assert!(!enough(FULL, GAP_FLUSHES - 1));
         assert!(enough(FULL, GAP_FLUSHES));
         assert!(enough(FULL - 1, 0));
+    }
+
+    #[test]
+    fn only_a_full_run_with_the_core_needs_bitmaps_painted_by_bytes() {
+        let enough =
+            |calls, core, count| Run { calls, seed: 1, core, exhaustive: true }.has_enough_by_bytes(count);
+        let core: Option<Answering> = Some(|_, _| None);
+        assert!(!enough(FULL, core, PAINTED_BY_BYTES - 1));
+        assert!(enough(FULL, core, PAINTED_BY_BYTES));
+        assert!(enough(FULL - 1, core, 0));
+        assert!(enough(FULL, None, 0));
     }
 }

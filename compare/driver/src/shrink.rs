@@ -112,8 +112,13 @@ macro_rules! smaller_numbers {
     ($($number:ty),*) => {$(
         impl Smaller for $number {
             fn smaller(&self) -> Vec<Self> {
-                let one_less = *self - (*self > 0) as $number;
-                let mut values = vec![0, *self / 2, *self - *self / 8, one_less];
+                let mut values = vec![0];
+                let mut step = *self / 2;
+                while step != 0 {
+                    values.push(*self - step);
+                    step /= 4;
+                }
+                values.push(if *self > 0 { *self - 1 } else { *self });
                 values.retain(|value| value != self);
                 values
             }
@@ -183,5 +188,6 @@ fn smaller_calls(call: &Call) -> Vec<Call> {
         SetPrintMode { mode }
         WriteByte { address, byte }
         Send { number }
+        PaintBitmapByBytes { address, x, y, width, height, mode }
     )
 }

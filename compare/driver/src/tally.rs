@@ -88,6 +88,11 @@ impl Tally {
         self.rows[call.number()].by_core += 1;
     }
 
+    /// Accepted calls of the painter by bytes.
+    pub fn painted_by_bytes(&self) -> u64 {
+        Call::number_of("paint_bitmap_by_bytes").map_or(0, |number| self.rows[number].accepted)
+    }
+
     fn accepted(&self) -> u64 {
         self.rows.iter().map(|row| row.accepted).sum()
     }
@@ -99,13 +104,13 @@ impl Tally {
     pub fn print(&self, core: bool) {
         println!("{COLUMNS}");
         println!(
-            "{:<16}{:>12}{:>12}{:>14}{:>12}{:>12}",
+            "{:<24}{:>12}{:>12}{:>14}{:>12}{:>12}",
             "call", "accepted", "refused", "by reference", "panicked", "by core"
         );
         for (number, row) in self.rows.iter().enumerate() {
             let by_core = if core && core_side::has(number) { row.by_core.to_string() } else { "-".into() };
             println!(
-                "{:<16}{:>12}{:>12}{:>14}{:>12}{:>12}",
+                "{:<24}{:>12}{:>12}{:>14}{:>12}{:>12}",
                 Call::NAMES[number],
                 row.accepted,
                 row.refused,

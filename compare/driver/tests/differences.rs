@@ -2,7 +2,7 @@
 //! so document 01 as it is read here, says.
 
 use calls::layout::*;
-use calls::{Answer, Buffers, Call, FontsLent};
+use calls::{Answer, Buffers, Call, FontsLent, Painting};
 use driver::random::Random;
 use reference::{Reference, Told};
 
@@ -40,7 +40,9 @@ fn the_reference_panics_and_the_port_finishes() {
     Both::panics(Call::DrawLine { x1: 254, y1: 0, x2: 255, y2: 1, mode: 1 }, [254, 0, 256, 2]);
     Both::panics(Call::DrawEllipse { x: 255, y: 1, rx: 0, ry: 1, fill: 0, mode: 1 }, [255, 0, 256, 80]);
     for (x, y) in [(i32::MAX, 0), (0, i32::MAX)] {
-        Both::panics(Call::PaintBitmap { address: 0, x, y, width: 1, height: 1, mode: 0 }, [0; 4]);
+        let painting = Painting { address: 0, x, y, width: 1, height: 1, mode: 0 };
+        Both::panics(painting.by_pixels(), [0; 4]);
+        Both::panics(painting.by_bytes(), [0; 4]);
     }
 }
 
@@ -50,6 +52,8 @@ fn the_port_refuses() {
     let too_high = Call::Open { graphics_base: 63_936, text_base: 0, version: 0, keys: [0; 8] };
     let no_fonts = FontsLent { ascii8: 0, ascii16: 0, gb: 0, emoji: 0, extra_list: vec![], extra_font: 0 };
     let one_byte_list = FontsLent::whole(vec![0]);
+    let unlisted_mode = Painting { address: 0, x: 0, y: 0, width: 0, height: 0, mode: 5 };
+    let past_memory = Painting { address: 65_535, x: 0, y: 0, width: 9, height: 1, mode: 0 };
     for (call, code) in [
         (Call::Flush { fonts: one_byte_list }, 1),
         (text_on_screen, 3),
@@ -57,9 +61,11 @@ fn the_port_refuses() {
         (Call::SetRow { row: 5 }, 4),
         (Call::SetColumn { column: 20 }, 4),
         (Call::DrawPoint { x: 0, y: 0, mode: 4 }, 4),
-        (Call::PaintBitmap { address: 0, x: 0, y: 0, width: 0, height: 0, mode: 5 }, 4),
+        (unlisted_mode.by_pixels(), 4),
+        (unlisted_mode.by_bytes(), 4),
         (Call::DrawCircle { x: 0, y: 0, r: 0, fill: 2, mode: 0 }, 4),
-        (Call::PaintBitmap { address: 65_535, x: 0, y: 0, width: 9, height: 1, mode: 0 }, 5),
+        (past_memory.by_pixels(), 5),
+        (past_memory.by_bytes(), 5),
         (Call::DrawCircle { x: 0, y: 0, r: 128, fill: 0, mode: 0 }, 6),
         (Call::Flush { fonts: no_fonts }, 7),
     ] {

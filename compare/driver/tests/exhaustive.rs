@@ -1,8 +1,9 @@
 //! The exhaustive lists show every pair that a text can hold: outside the gap compared with the
-//! reference, in the gap both by the extra list and in hexadecimal.
+//! reference, in the gap both by the extra list and in hexadecimal. Both painters paint at every place
+//! in a byte, over the edges of the glass, and from sources over the screen.
 
 use calls::layout::{SCREEN_MODE, VERSION};
-use calls::{Call, FontsLent};
+use calls::{Call, FontsLent, Painting};
 use driver::exhaustive;
 use driver::list::List;
 use reference::{Reference, in_gap};
@@ -69,4 +70,45 @@ fn every_pair_is_shown() {
     let all = all_sights();
     let missing: Vec<Sight> = sights_due().filter(|sight| !all.contains(sight)).collect();
     assert!(missing.is_empty(), "{} are missing, the first is {:x?}", missing.len(), missing[0]);
+}
+
+/// All that the lists tell one of the painters.
+fn told(painter: fn(Painting) -> Call) -> HashSet<Painting> {
+    let calls = exhaustive::lists().flat_map(|list| list.steps).map(|step| step.call);
+    calls.filter_map(|call| Painting::of(&call).filter(|painting| painter(*painting) == call)).collect()
+}
+
+#[test]
+fn both_painters_are_told_the_same() {
+    let (by_pixels, by_bytes) = (told(Painting::by_pixels), told(Painting::by_bytes));
+    let due: HashSet<Painting> = exhaustive::paintings().collect();
+    assert!(due.is_subset(&by_pixels) && due.is_subset(&by_bytes));
+}
+
+#[test]
+fn bitmaps_lie_at_every_place_in_a_byte_and_over_the_edges() {
+    let all: HashSet<_> = exhaustive::paintings().map(|p| (p.x, p.width, p.height, p.mode)).collect();
+    for mode in 0..5 {
+        for x in (-8..8).chain(152..160) {
+            (1..=17).for_each(|width| assert!(all.contains(&(x, width, 2, mode)), "{x} {width} {mode}"));
+        }
+        for (x, width) in (-9..=9).flat_map(|x| [159, 160, 161, 255].map(|width| (x, width))) {
+            let heights = [80, 81, 255];
+            assert!(heights.into_iter().all(|height| all.contains(&(x, width, height, mode))), "{x} {width}");
+        }
+    }
+}
+
+#[test]
+fn sources_lie_over_the_screen_in_every_way() {
+    let all: HashSet<_> = exhaustive::paintings().map(|p| (p.address as i32 - 4096, p.mode)).collect();
+    for (mode, start) in (0..5).flat_map(|mode| [0, 1, 19, 20, 21, 100, 1600].map(|start| (mode, start))) {
+        for beside in -1..=1 {
+            let both = [start + beside, beside - start];
+            assert!(both.into_iter().all(|start| all.contains(&(start, mode))), "{both:?} {mode}");
+        }
+    }
+    // No order of lines is right here.
+    let over_its_source = Painting { address: 4096 - 100, x: 0, y: 0, width: 255, height: 80, mode: 0 };
+    assert!(exhaustive::paintings().any(|painting| painting == over_its_source));
 }

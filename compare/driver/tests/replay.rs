@@ -2,7 +2,7 @@
 //! the reference's answers and checksums. No text of it holds a pair in the gap.
 
 use calls::layout::IN_REFERENCE;
-use calls::{Buffers, Call, FontsLent};
+use calls::{Buffers, Call, FontsLent, Painting};
 use driver::replay;
 use reference::{Reference, in_gap};
 
@@ -12,6 +12,17 @@ fn word(bytes: &[u8], place: usize) -> u16 {
 
 fn signed(bytes: &[u8], place: usize) -> i32 {
     i32::from_le_bytes([bytes[place], bytes[place + 1], bytes[place + 2], bytes[place + 3]])
+}
+
+fn painting(stored: &[u8]) -> Painting {
+    Painting {
+        address: word(stored, 1),
+        x: signed(stored, 3),
+        y: signed(stored, 7),
+        width: stored[11],
+        height: stored[12],
+        mode: stored[13],
+    }
 }
 
 fn call_of(stored: &[u8]) -> Call {
@@ -30,14 +41,7 @@ fn call_of(stored: &[u8]) -> Call {
         "draw_circle" => Call::DrawCircle { x: a, y: b, r: c, fill: d, mode: e },
         "draw_ellipse" => Call::DrawEllipse { x: a, y: b, rx: c, ry: d, fill: e, mode: f },
         "check_point" => Call::CheckPoint { x: signed(stored, 1), y: signed(stored, 5) },
-        "paint_bitmap" => Call::PaintBitmap {
-            address: word(stored, 1),
-            x: signed(stored, 3),
-            y: signed(stored, 7),
-            width: stored[11],
-            height: stored[12],
-            mode: stored[13],
-        },
+        "paint_bitmap" => painting(stored).by_pixels(),
         "print" => Call::Print { text: stored[2..2 + a as usize].to_vec() },
         "newline" => Call::Newline,
         "cls" => Call::Cls,
@@ -52,6 +56,7 @@ fn call_of(stored: &[u8]) -> Call {
         "clear_cursor" => Call::ClearCursor,
         "write_byte" => Call::WriteByte { address: word(stored, 1), byte: c },
         "take_dirty_area" => Call::TakeDirtyArea,
+        "paint_bitmap_by_bytes" => painting(stored).by_bytes(),
         name => unreachable!("{name} is not replayed"),
     }
 }

@@ -94,7 +94,8 @@ fn act(call: &Call, record: &mut Record, memory: &mut [u8], panel: &mut [u8]) ->
         | Call::DrawCircle { .. }
         | Call::DrawEllipse { .. } => draw(call, record, memory)?,
         Call::CheckPoint { x, y } => return Ok([check_point(record, memory, x, y) as u32, 0, 0, 0]),
-        Call::PaintBitmap { address, x, y, width, height, mode } => {
+        Call::PaintBitmap { address, x, y, width, height, mode }
+        | Call::PaintBitmapByBytes { address, x, y, width, height, mode } => {
             let mode = modes::paint_mode(mode)?;
             if let Some(bitmap) = Bitmap::read(memory, address as usize, width as usize, height as usize)? {
                 record.draw(memory, |canvas| bitmap.paint(canvas, x, y, mode));

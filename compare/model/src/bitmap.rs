@@ -1,4 +1,5 @@
-//! `paint_bitmap`: bits of memory, each line starting on a byte, painted onto the screen.
+//! `paint_bitmap` and `paint_bitmap_by_bytes`, which change request 3 wants alike: bits of memory,
+//! each line starting on a byte, painted onto the screen.
 
 use crate::canvas::{Canvas, Mark, get_bit};
 use crate::modes::PaintMode;

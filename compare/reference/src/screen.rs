@@ -63,7 +63,8 @@ impl Reference {
         Walk::of_device(&self.device).pairs
     }
 
-    /// Give the reference a call whose modes and flags are listed ones. It has no send.
+    /// Give the reference a call whose modes and flags are listed ones. It has no send, and one painter
+    /// for both calls.
     pub fn call(&mut self, call: &Call) -> Told {
         IN_REFERENCE.set(true);
         let answer = panic::catch_unwind(AssertUnwindSafe(|| self.call_uncaught(call)));
@@ -93,7 +94,8 @@ impl Reference {
                 device.draw_ellipse((x, y), (rx, ry), fill == 1, draw_mode(mode));
             }
             Call::CheckPoint { x, y } => return value(device.check_point((x, y)) as u8),
-            Call::PaintBitmap { address, x, y, width, height, mode } => {
+            Call::PaintBitmap { address, x, y, width, height, mode }
+            | Call::PaintBitmapByBytes { address, x, y, width, height, mode } => {
                 device.paint_bitmap(address, x, y, width, height, paint_mode(mode));
             }
             Call::Print { ref text } => device.print(text),

@@ -1,4 +1,4 @@
-//! How much of the time of the Rust side a row may take, where a limit was set.
+//! How much of the time of the Rust side, or of the core's own where the name says so, a row may take, where a limit was set.
 
 /// A call that only tests and stores, and a send, against plain Rust with the same tests.
 pub const ENTRY: f64 = 1.2;
@@ -14,3 +14,8 @@ pub const PRINT_PAGE: f64 = 1.2;
 pub const FLUSH_EMPTY_TEXT: f64 = 1.5;
 /// A full page with an extra list.
 pub const FLUSH_WITH_LIST: f64 = 1.2;
+/// A bitmap of 64 by 64 by bytes, against the core's pixel painter.
+pub const BY_BYTES_ALIGNED: f64 = 0.2;
+pub const BY_BYTES_ODD: f64 = 0.33;
+/// The whole screen by bytes, against the core's entry and a copy of 1,600 bytes.
+pub const BY_BYTES_SCREEN: f64 = 4.0;

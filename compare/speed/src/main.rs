@@ -1,4 +1,5 @@
-//! How long calls take, core against reference, or against plain Rust where a row says so.
+//! How long calls take, core against reference, or against plain Rust or the core's own other calls where
+//! a row says so.
 
 mod limits;
 mod measure;
@@ -39,7 +40,8 @@ fn main() {
 fn print_columns() {
     println!(
         "Each row: {PAIRS} pairs of slices of about {} microseconds, Rust and core in turn.
-Rust ns  one turn of the reference, or of plain Rust where the name says so: the median
+Rust ns  one turn of the reference, or of what the name says: plain Rust, the core's pixel painter, its
+         set_row with a plain copy. The median
 core ns  one turn of the core: the median
 ratio    core / Rust within a pair: the median
 limit    what the ratio may be at most, - where none was set. A row above it is measured up to
@@ -47,15 +49,15 @@ limit    what the ratio may be at most, - where none was set. A row above it is 
 ",
         SLICE.as_micros()
     );
-    println!("{:<46}{:>10}{:>10}{:>8}{:>8}", "call", "Rust ns", "core ns", "ratio", "limit");
+    println!("{:<64}{:>10}{:>10}{:>8}{:>8}", "call", "Rust ns", "core ns", "ratio", "limit");
 }
 
 /// One line of the table, without the core's part where there is no core; whether the limit holds.
 fn report(row: Row) -> bool {
     let Row { name, mut rust, core, limit } = row;
-    let bound = limit.map_or("-".to_string(), |limit| format!("{limit:.1}"));
+    let bound = limit.map_or("-".to_string(), |limit| format!("{limit:.2}"));
     let Some(mut core) = core else {
-        println!("{name:<46}{:>10.1}{:>10}{:>8}{bound:>8}", measure_alone(&mut *rust), "-", "-");
+        println!("{name:<64}{:>10.1}{:>10}{:>8}{bound:>8}", measure_alone(&mut *rust), "-", "-");
         return true;
     };
     let holds = |measured: &Measured| limit.is_none_or(|limit| measured.ratio <= limit);
@@ -65,7 +67,7 @@ fn report(row: Row) -> bool {
             lowest = lowest.or_lower(measure(&mut *rust, &mut *core));
         }
     }
-    println!("{name:<46}{:>10.1}{:>10.1}{:>8.2}{bound:>8}", lowest.rust, lowest.core, lowest.ratio);
+    println!("{name:<64}{:>10.1}{:>10.1}{:>8.2}{bound:>8}", lowest.rust, lowest.core, lowest.ratio);
     holds(&lowest)
 }
 

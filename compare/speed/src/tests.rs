@@ -1,7 +1,7 @@
 //! What is measured is the same work on both sides, here with the model in the place of the core.
 
 use crate::plain;
-use crate::rows::rows;
+use crate::rows::{Row, rows};
 use calls::layout::PANELS;
 use calls::{Answer, Buffers, Call, Lent};
 use driver::random::Random;
@@ -21,6 +21,20 @@ fn both_sides_leave_the_same() {
             assert!(row.rust.panels() == core.panels(), "{}: panels", row.name);
         }
     }
+}
+
+#[test]
+fn without_a_painter_by_bytes_nothing_of_it_is_measured() {
+    fn without(call: &Call, lent: Lent) -> Option<Answer> {
+        model(call, lent).filter(|_| !matches!(call, Call::PaintBitmapByBytes { .. }))
+    }
+    let by_bytes = |row: &Row| row.name.starts_with("bitmap by bytes");
+    let of_core = |row: &Row| row.name.contains("core's");
+    let [with, without]: [Vec<Row>; 2] =
+        [model, without].map(|core| rows(Some(core)).into_iter().filter(by_bytes).collect());
+    assert_eq!(with.iter().filter(|row| of_core(row)).count(), 3);
+    assert!(with.iter().all(|row| row.core.is_some()));
+    assert!(!without.is_empty() && !without.iter().any(|row| of_core(row) || row.core.is_some()));
 }
 
 /// Bytes of any kind under a record that is valid, or has one byte changed.

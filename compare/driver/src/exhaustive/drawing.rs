@@ -1,4 +1,4 @@
-//! Points, lines, boxes, ellipses and bitmaps over the edges of the glass and of a byte.
+//! Points, lines, boxes and ellipses over the edges of the glass and of a byte.
 
 use super::{bytes, from_record, opened, pairs, record, unmarked};
 use crate::list::List;
@@ -13,8 +13,6 @@ pub fn lists() -> impl Iterator<Item = List> {
         .chain(from_record(record(1, 0, 0), unmarked(boxes())))
         .chain(from_record(record(1, 0, 0), unmarked(ellipses())))
         .chain(from_record(record(1, 0, 0), unmarked(circles())))
-        .chain(from_record(record(1, 0, 0), unmarked(bitmaps())))
-        .chain(from_record(record(1, 0, 0), unmarked(bitmap_sources())))
         .chain(with_sends())
 }
 
@@ -77,28 +75,6 @@ fn circles() -> impl Iterator<Item = Call> {
     (0..=128).flat_map(|r| {
         pairs(&EDGES, &EDGES).into_iter().flat_map(move |(x, y)| {
             [0, 1].map(|fill| Call::DrawCircle { x, y, r, fill, mode: (x ^ y ^ r) % 4 })
-        })
-    })
-}
-
-/// Bitmaps over the left, right, upper and lower edge.
-fn bitmaps() -> impl Iterator<Item = Call> {
-    let columns: Vec<i32> = (-26..=18).chain(140..=162).collect();
-    let rows = [-3, -1, 0, 77, 79, 80];
-    pairs(&columns, &rows).into_iter().flat_map(|(x, y)| {
-        pairs(&[1, 7, 8, 9, 16, 17, 25], &[0, 1, 2, 3, 4, 5]).into_iter().map(move |(width, mode)| {
-            Call::PaintBitmap { address: 4096 + 8 * (x & 127) as u16, x, y, width, height: 3, mode }
-        })
-    })
-}
-
-/// Sources that end at the end of memory and just beside it, for every width.
-fn bitmap_sources() -> impl Iterator<Item = Call> {
-    bytes().flat_map(|width| {
-        pairs(&[0, 1, 2, 80, 255], &[-1, 0, 1]).into_iter().map(move |(height, beside)| {
-            let size = (width as i32 + 7) / 8 * height as i32;
-            let address = (65_536 - size + beside).clamp(0, 65_535) as u16;
-            Call::PaintBitmap { address, x: 3, y: 5, width, height, mode: 4 }
         })
     })
 }

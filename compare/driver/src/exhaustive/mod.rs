@@ -1,9 +1,12 @@
 //! Lists that go through whole ranges.
 
+mod bitmaps;
 mod drawing;
 mod numbers;
 mod records;
 mod text;
+
+pub use bitmaps::paintings;
 
 use crate::list::{Lending, List, Start, Step};
 use calls::Call;
@@ -11,7 +14,8 @@ use calls::layout::*;
 
 /// All of them, one after another.
 pub fn lists() -> impl Iterator<Item = List> {
-    drawing::lists().chain(text::lists()).chain(records::lists()).chain(numbers::lists())
+    let drawn = bitmaps::lists().chain(drawing::lists());
+    drawn.chain(text::lists()).chain(records::lists()).chain(numbers::lists())
 }
 
 /// Calls in a list at most: a multiple of 2, 3, 6 and 9, the numbers of calls that belong together,

@@ -3,7 +3,7 @@
 
 use super::{bytes, from_record, opened, record};
 use crate::list::{List, Step};
-use calls::Call;
+use calls::{Call, Painting};
 
 pub fn lists() -> impl Iterator<Item = List> {
     let told = told().map(Step::from);
@@ -31,13 +31,14 @@ fn told() -> impl Iterator<Item = Call> {
             Call::DrawEllipse { x: 9, y: 9, rx: 4, ry: 3, fill: 1, mode: number },
             Call::DrawEllipse { x: 9, y: 9, rx: 0, ry: number, fill: 1, mode: 1 },
             Call::DrawEllipse { x: 9, y: 9, rx: number, ry: 0, fill: 0, mode: 1 },
-            Call::PaintBitmap { address: 4096, x: 1, y: 1, width: 0, height: 3, mode: number },
-            Call::PaintBitmap { address: 4096, x: 1, y: 1, width: 9, height: 3, mode: number },
-            Call::PaintBitmap { address: 65_535, x: 1, y: 1, width: 9, height: 3, mode: number },
             Call::Send { number },
             Call::Open { graphics_base: 0, text_base: 1600, version: number, keys: [7; 8] },
             Call::Open { graphics_base: 0, text_base: 1599, version: number, keys: [7; 8] },
         ];
+        for (address, width) in [(4096, 0), (4096, 9), (65_535, 9)] {
+            let painting = Painting { address, x: 1, y: 1, width, height: 3, mode: number };
+            calls.extend([painting.by_pixels(), painting.by_bytes()]);
+        }
         for from in 0..3 {
             calls.extend([Call::SetPrintMode { mode: from }, Call::SetPrintMode { mode: number }]);
         }

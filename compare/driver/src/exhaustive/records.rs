@@ -3,7 +3,7 @@
 use super::{from_record, pairs, record};
 use crate::list::{Lending, List, Other, Step};
 use calls::layout::*;
-use calls::{Call, FontsLent};
+use calls::{Call, FontsLent, Painting};
 
 pub fn lists() -> impl Iterator<Item = List> {
     let valid = full_record();
@@ -38,6 +38,8 @@ fn rect_bytes(place: usize, rect: [u16; 4]) -> Vec<(usize, u8)> {
     bytes.enumerate().map(|(k, byte)| (place + k, byte)).collect()
 }
 
+const BITMAP: Painting = Painting { address: 4096, x: 1, y: 1, width: 9, height: 3, mode: 4 };
+
 /// One accepted call of each kind, a send to each panel.
 fn each_call() -> Vec<Call> {
     let mut calls = vec![
@@ -49,7 +51,7 @@ fn each_call() -> Vec<Call> {
         Call::DrawCircle { x: 9, y: 9, r: 4, fill: 0, mode: 2 },
         Call::DrawEllipse { x: 9, y: 9, rx: 4, ry: 2, fill: 1, mode: 2 },
         Call::CheckPoint { x: 3, y: 3 },
-        Call::PaintBitmap { address: 4096, x: 1, y: 1, width: 9, height: 3, mode: 4 },
+        BITMAP.by_pixels(),
         Call::Print { text: b"ab".to_vec() },
         Call::Newline,
         Call::Cls,
@@ -64,6 +66,7 @@ fn each_call() -> Vec<Call> {
         Call::ClearCursor,
         Call::WriteByte { address: 4100, byte: 9 },
         Call::TakeDirtyArea,
+        BITMAP.by_bytes(),
     ];
     calls.extend(sends());
     calls
@@ -87,7 +90,7 @@ fn changed_bytes() -> impl Iterator<Item = Step> {
     (0..RECORD).flat_map(move |place| {
         let calls = calls.clone();
         super::bytes().map(move |byte| {
-            let call = &calls[(place * 7 + byte as usize) % calls.len()];
+            let call = &calls[(place * 5 + byte as usize) % calls.len()];
             changed(call, vec![(place, byte)])
         })
     })

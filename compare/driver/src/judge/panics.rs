@@ -10,7 +10,8 @@ pub fn due(call: &Call) -> bool {
         Call::DrawLine { x1, y1, x2, y2, mode } => line(x1, y1, x2, y2, mode),
         Call::DrawCircle { x, y, r, fill, mode } => ellipse((x, y), (r, r), fill, mode),
         Call::DrawEllipse { x, y, rx, ry, fill, mode } => ellipse((x, y), (rx, ry), fill, mode),
-        Call::PaintBitmap { x, y, width, height, .. } => {
+        Call::PaintBitmap { x, y, width, height, .. }
+        | Call::PaintBitmapByBytes { x, y, width, height, .. } => {
             width != 0
                 && height != 0
                 && (x.checked_add(width as i32).is_none() || y.checked_add(height as i32).is_none())

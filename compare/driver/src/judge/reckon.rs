@@ -103,7 +103,8 @@ impl Reckoner {
             }
             Call::DrawCircle { x, y, r, fill, mode } => self.ellipse((x, y), (r, r), fill, mode),
             Call::DrawEllipse { x, y, rx, ry, fill, mode } => self.ellipse((x, y), (rx, ry), fill, mode),
-            Call::PaintBitmap { x, y, width, height, .. } => self.bitmap(x, y, width, height),
+            Call::PaintBitmap { x, y, width, height, .. }
+            | Call::PaintBitmapByBytes { x, y, width, height, .. } => self.bitmap(x, y, width, height),
             Call::Print { ref text } => {
                 if before[SCREEN_MODE] == GRAPH && print_scrolls(before[ROW], before[COLUMN], text) {
                     self.whole();

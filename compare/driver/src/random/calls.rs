@@ -4,7 +4,7 @@ use super::Random;
 use super::numbers::Windows;
 use super::texts::Pairs;
 use calls::Call;
-use calls::layout::{MEMORY, PANELS};
+use calls::layout::PANELS;
 
 impl Random {
     /// A call by its number among `Call::NAMES`, of any panel, with codes outside the gap.
@@ -31,7 +31,7 @@ impl Random {
             },
             "draw_ellipse" => self.ellipse(),
             "check_point" => Call::CheckPoint { x: self.signed(8, 160), y: self.signed(8, 80) },
-            "paint_bitmap" => self.bitmap(windows),
+            "paint_bitmap" => self.painting(windows).by_pixels(),
             "print" => Call::Print { text: self.text(Pairs::OutsideGap) },
             "newline" => Call::Newline,
             "cls" => Call::Cls,
@@ -49,6 +49,7 @@ impl Random {
             "write_byte" => Call::WriteByte { address: self.poke_address(windows), byte: self.poked() },
             "take_dirty_area" => Call::TakeDirtyArea,
             "send" => Call::Send { number: self.panel_number(&[1; PANELS]) },
+            "paint_bitmap_by_bytes" => self.painting(windows).by_bytes(),
             name => unreachable!("no call {name}"),
         }
     }
@@ -93,26 +94,6 @@ impl Random {
             _ => {}
         }
         Call::DrawEllipse { x, y, rx, ry, fill: self.mode(2), mode: self.mode(4) }
-    }
-
-    fn bitmap(&mut self, windows: Windows) -> Call {
-        let (width, height) = (self.size(), self.size());
-        let bytes = (width as usize).div_ceil(8) * height as usize;
-        let address = match self.below(6) {
-            0 => (MEMORY - bytes + self.below(3)).wrapping_sub(1) as u16,
-            1..4 => (windows.graphics_base as usize + self.below(1600)).wrapping_sub(bytes / 2) as u16,
-            _ => self.below(MEMORY) as u16,
-        };
-        let (x, y) = (self.signed(width, 160), self.signed(height, 80));
-        Call::PaintBitmap { address, x, y, width, height, mode: self.mode(5) }
-    }
-
-    fn size(&mut self) -> u8 {
-        match self.below(8) {
-            0..5 => self.below(40) as u8,
-            5..7 => self.pick(&[0, 1, 7, 8, 9, 16, 79, 80, 160, 161, 254, 255]),
-            _ => self.byte(),
-        }
     }
 
     fn poked(&mut self) -> u8 {

@@ -10,13 +10,13 @@ use calls::layout::{GRAPHICS_BASE, PANELS, TEXT_BASE, word};
 /// How often each call comes, by theme, in the order of `Call::NAMES`.
 type Weights = [u8; Call::NAMES.len()];
 
-const EVEN: Weights = [1, 1, 4, 4, 2, 2, 2, 4, 3, 4, 4, 1, 2, 3, 3, 4, 4, 1, 3, 4, 3, 6, 4, 20];
-const DRAWING: Weights = [0, 0, 6, 12, 4, 4, 4, 4, 4, 0, 1, 0, 0, 0, 0, 0, 0, 0, 0, 1, 1, 3, 3, 16];
-const TEXT: Weights = [0, 0, 0, 1, 0, 0, 0, 0, 1, 10, 5, 1, 4, 2, 2, 6, 6, 1, 4, 5, 3, 6, 2, 16];
-const SMALL: Weights = [1, 1, 8, 0, 0, 0, 0, 8, 0, 0, 3, 1, 0, 6, 6, 6, 6, 1, 6, 4, 4, 10, 6, 50];
-const CLEARING: Weights = [5, 8, 4, 4, 2, 2, 2, 2, 2, 4, 2, 8, 4, 0, 0, 2, 2, 8, 3, 3, 6, 4, 2, 20];
+const EVEN: Weights = [1, 1, 4, 4, 2, 2, 2, 4, 3, 4, 4, 1, 2, 3, 3, 4, 4, 1, 3, 4, 3, 6, 4, 20, 5];
+const DRAWING: Weights = [0, 0, 6, 12, 4, 4, 4, 4, 4, 0, 1, 0, 0, 0, 0, 0, 0, 0, 0, 1, 1, 3, 3, 16, 8];
+const TEXT: Weights = [0, 0, 0, 1, 0, 0, 0, 0, 1, 10, 5, 1, 4, 2, 2, 6, 6, 1, 4, 5, 3, 6, 2, 16, 1];
+const SMALL: Weights = [1, 1, 8, 0, 0, 0, 0, 8, 0, 0, 3, 1, 0, 6, 6, 6, 6, 1, 6, 4, 4, 10, 6, 50, 0];
+const CLEARING: Weights = [5, 8, 4, 4, 2, 2, 2, 2, 2, 4, 2, 8, 4, 0, 0, 2, 2, 8, 3, 3, 6, 4, 2, 20, 3];
 /// Mostly sends, so that panels come level within the list.
-const POLLING: Weights = [0, 1, 6, 2, 1, 0, 0, 0, 1, 0, 1, 0, 0, 0, 0, 0, 0, 0, 0, 2, 0, 4, 1, 180];
+const POLLING: Weights = [0, 1, 6, 2, 1, 0, 0, 0, 1, 0, 1, 0, 0, 0, 0, 0, 0, 0, 0, 2, 0, 4, 1, 180, 3];
 
 /// The list of this seed.
 pub fn list(seed: u64) -> List {

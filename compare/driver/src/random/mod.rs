@@ -1,5 +1,6 @@
 //! Random lists of calls, biased to edges. The same seed gives the same lists.
 
+mod bitmaps;
 mod calls;
 mod lendings;
 mod lists;

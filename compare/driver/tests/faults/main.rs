@@ -2,6 +2,7 @@
 //! model with something spoiled. The same spoiled model in the place of the model itself, with no
 //! core beside it, is found by what the judge reckons from the list alone.
 
+mod bitmaps;
 mod gap;
 mod panels;
 
@@ -17,9 +18,12 @@ use driver::tally::Tally;
 /// The first random list that shows a difference, shrunk. A thorough judge compares memory whole
 /// after every call.
 fn found(judge: impl Fn(bool) -> Judge) -> Option<List> {
+    found_among((0..2000).map(random::list), judge)
+}
+
+fn found_among(mut lists: impl Iterator<Item = List>, judge: impl Fn(bool) -> Judge) -> Option<List> {
     let mut quick = judge(false);
-    let differing =
-        (0..2000).map(random::list).find(|list| quick.judge(list, &mut Tally::default()).is_err())?;
+    let differing = lists.find(|list| quick.judge(list, &mut Tally::default()).is_err())?;
     shrink(&differing, &mut judge(true)).map(|(list, _)| list)
 }
 

@@ -1,5 +1,6 @@
 //! The rows of the table: what is measured, on which two sides.
 
+mod bitmaps;
 mod cues;
 mod drawings;
 mod flushes;
@@ -17,18 +18,20 @@ use std::hint::black_box;
 
 pub struct Row {
     pub name: String,
+    /// The reference, plain Rust, or the core itself, as the name says.
     pub rust: Box<dyn Side>,
     pub core: Option<Box<dyn Side>>,
     pub limit: Option<f64>,
 }
 
-/// All of them; without a core only the Rust sides.
+/// All of them; without a core only the Rust sides, and no rows of the core against itself.
 pub fn rows(core: Option<Answering>) -> Vec<Row> {
     let mut rows = vec![
         set_row("set_row, plain Rust with its tests", opened(), core),
         set_row("set_row, all owed, plain Rust with its tests", all_owed(), core),
     ];
     rows.extend(drawings::rows(core));
+    rows.extend(bitmaps::rows(core));
     rows.extend(text::rows(core));
     rows.extend(flushes::rows(core));
     rows.extend(sends::rows(core));
