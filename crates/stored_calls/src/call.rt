@@ -48,6 +48,8 @@ pub const WRITE_BYTE: u8 = 21;
 
 pub const TAKE_DIRTY_AREA: u8 = 22;
 
+pub const PAINT_BITMAP_BY_BYTES: u8 = 24;
+
 fn pair(lo: u8, hi: u8) -> u16 {
     (lo as u16) + 256 * (hi as u16)
 }

@@ -70,17 +70,36 @@ fn run_check_point(rec: &[u8], memory: &[u8], stored: &[u8; 16]) -> Value {
     )
 }
 
-fn run_paint_bitmap(rec: &mut [u8], memory: &mut [u8], stored: &[u8; 16]) -> u32 {
-    bitmaps::caption_paint_bitmap(
-        rec,
-        memory,
-        call::two(stored, 1),
-        call::signed(stored, 3),
-        call::signed(stored, 7),
-        stored[11],
-        stored[12],
-        stored[13],
-    )
+fn run_bitmap(rec: &mut [u8], memory: &mut [u8], stored: &[u8; 16]) -> u32 {
+    let address = call::two(stored, 1);
+    let x = call::signed(stored, 3);
+    let y = call::signed(stored, 7);
+    let width = stored[11];
+    let height = stored[12];
+    let mode = stored[13];
+    match stored[0] {
+        call::PAINT_BITMAP => bitmaps::caption_paint_bitmap(
+            rec,
+            memory,
+            address,
+            x,
+            y,
+            width,
+            height,
+            mode,
+        ),
+        call::PAINT_BITMAP_BY_BYTES => bitmaps::caption_paint_bitmap_by_bytes(
+            rec,
+            memory,
+            address,
+            x,
+            y,
+            width,
+            height,
+            mode,
+        ),
+        _ => UNKNOWN,
+    }
 }
 
 // Lent the whole stand-in fonts and no extra list.
@@ -156,23 +175,28 @@ fn run_write_byte(rec: &mut [u8], memory: &mut [u8], stored: &[u8; 16]) -> u32 {
     poke::caption_write_byte(rec, memory, call::two(stored, 1), stored[3])
 }
 
+// The calls that answer a code and nothing else.
+fn run_code(rec: &mut [u8], memory: &mut [u8], stored: &[u8; 16]) -> u32 {
+    match stored[0] {
+        call::OPEN => run_open(rec, memory, stored),
+        call::RESET => open::caption_reset(rec, memory),
+        call::DRAW_POINT..=call::DRAW_ELLIPSE => run_draw(rec, memory, stored),
+        call::PAINT_BITMAP => run_bitmap(rec, memory, stored),
+        call::PAINT_BITMAP_BY_BYTES => run_bitmap(rec, memory, stored),
+        call::FLUSH => run_flush(rec, memory),
+        call::SET_ROW..=call::SET_COLUMN => run_set(rec, stored),
+        call::SET_PRINT_MODE => run_set(rec, stored),
+        call::WRITE_BYTE => run_write_byte(rec, memory, stored),
+        _ => run_text(rec, memory, stored),
+    }
+}
+
 pub fn run(rec: &mut [u8], memory: &mut [u8], stored: &[u8; 16]) -> Answer {
     match stored[0] {
-        call::OPEN => answer::of_code(run_open(rec, memory, stored)),
-        call::RESET => answer::of_code(open::caption_reset(rec, memory)),
-        call::DRAW_POINT..=call::DRAW_ELLIPSE => answer::of_code(run_draw(rec, memory, stored)),
         call::CHECK_POINT => answer::of_value(run_check_point(rec, memory, stored)),
-        call::PAINT_BITMAP => answer::of_code(run_paint_bitmap(rec, memory, stored)),
-        call::PRINT..=call::CLS => answer::of_code(run_text(rec, memory, stored)),
-        call::FLUSH => answer::of_code(run_flush(rec, memory)),
         call::GET_ROW => answer::of_value(place::caption_get_row(rec)),
         call::GET_COLUMN => answer::of_value(place::caption_get_column(rec)),
-        call::SET_ROW..=call::SET_COLUMN => answer::of_code(run_set(rec, stored)),
-        call::SET_SCREEN_MODE => answer::of_code(run_text(rec, memory, stored)),
-        call::SET_PRINT_MODE => answer::of_code(run_set(rec, stored)),
-        call::BLINK_CURSOR..=call::CLEAR_CURSOR => answer::of_code(run_text(rec, memory, stored)),
-        call::WRITE_BYTE => answer::of_code(run_write_byte(rec, memory, stored)),
         call::TAKE_DIRTY_AREA => answer::of_area(dirty::caption_take_dirty_area(rec)),
-        _ => answer::of_code(UNKNOWN),
+        _ => answer::of_code(run_code(rec, memory, stored)),
     }
 }
