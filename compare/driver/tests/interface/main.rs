@@ -72,32 +72,16 @@ impl Texts {
             ("docs/CALLS.md", table::rows(&self.table).map(|it| table::differences(&exported, &it))),
             (
                 "compare/core/src/ffi.rs",
-                self.declared_of_core().map(|it| function::differences(&exported, &it)),
+                rust_like::declared(&self.declarations).map(|it| function::differences(&exported, &it)),
             ),
             ("compare/core/calls.txt", Ok(name_differences(&exported, self.names.lines()))),
-            (
-                "Call::NAMES",
-                Ok(name_differences(&exported, Call::NAMES.into_iter().filter(|name| self.in_core(name)))),
-            ),
+            ("Call::NAMES", Ok(name_differences(&exported, Call::NAMES.into_iter()))),
         ];
         let complaints = found.into_iter().flat_map(|(place, found)| {
             let found = found.unwrap_or_else(|error| vec![error]);
             found.into_iter().map(move |complaint| format!("{place}: {complaint}"))
         });
         complaints.collect()
-    }
-
-    /// Whether calls.txt names this call. One that the core hasn't got yet is compared between reference
-    /// and model alone, and may be declared all the same.
-    fn in_core(&self, name: &str) -> bool {
-        self.names.lines().any(|known| known == name)
-    }
-
-    fn declared_of_core(&self) -> Result<Vec<Function>, String> {
-        let missing = Call::NAMES.into_iter().filter(|name| !self.in_core(name));
-        let missing: Vec<String> = missing.map(|name| format!("caption_{name}")).collect();
-        let declared = rust_like::declared(&self.declarations)?.into_iter();
-        Ok(declared.filter(|function| !missing.contains(&function.name)).collect())
     }
 }
 
