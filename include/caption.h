@@ -157,6 +157,11 @@ caption_value caption_check_point(const uint8_t *record, size_t record_len, cons
 uint32_t caption_paint_bitmap(uint8_t *record, size_t record_len, uint8_t *memory, size_t memory_len, uint16_t address, int32_t x, int32_t y,
                               uint8_t width, uint8_t height, uint8_t mode);
 
+/* The same, a byte of the screen at a time: on every input it answers and leaves what caption_paint_bitmap does, in a fraction of its time. A source that shares
+   no byte with the screen is read where it lies; one that does costs a copy of both. Refusals: as there. */
+uint32_t caption_paint_bitmap_by_bytes(uint8_t *record, size_t record_len, uint8_t *memory, size_t memory_len, uint16_t address, int32_t x, int32_t y,
+                                       uint8_t width, uint8_t height, uint8_t mode);
+
 /* One byte of memory. Addresses from 0xe000 on and key addresses are left as they are, and the answer is 0. On the screen, marks the byte's eight pixels.
    Refusals: LENT, STATE. */
 uint32_t caption_write_byte(uint8_t *record, size_t record_len, uint8_t *memory, size_t memory_len, uint16_t address, uint8_t byte);

@@ -4,6 +4,7 @@ ghost use mathlib.Core.Path.{_≡_};
 ghost use Prim.Native.Nat.{_+_, _-_, _*_, _≤_, _<_};
 ghost use lib.Dec.{leb};
 ghost use lib.ListN.{length};
+ghost use Rattle.model.specs.Geometry.{base, screenBytes};
 ghost use Rattle.model.specs.Memory.{window};
 ghost use Rattle.model.specs.Pixels.{Screen};
 ghost use Rattle.model.specs.Bitmaps.{sourceBytes, bitmap};
@@ -17,9 +18,10 @@ use model::Canvas;
 use model::Marks;
 use model::PaintMode;
 use model::Visible;
+use model::glass::SCREEN_BYTES;
 
-// The largest screen, 256 lines of 32 bytes, and the longest source, 255 lines of 32 bytes.
-const BOTH_BYTES: usize = 16352;
+// The longest source, 255 lines of 32 bytes, after the largest screen.
+const BOTH_BYTES: usize = SCREEN_BYTES + 8160;
 
 // Pixel (x, y) of the lines of `stride` bytes that begin at byte `at`, as a bit of memory.
 fn bit_of(at: usize, stride: usize, x: usize, y: usize) -> usize
@@ -160,6 +162,7 @@ fn paint_copied(
 ) -> Marks
     requires { ⌜ Screen (canvas .stride) (canvas .height) (window screen (canvas .stride * canvas .height) (now memory)) ⌝ }
     requires { ⌜ (screen + canvas .stride * canvas .height ≤ length (now memory)) × (source + sourceBytes width lines ≤ length (now memory)) ⌝ }
+    requires { ⌜ canvas .stride * canvas .height ≤ screenBytes base ⌝ }
     requires { ⌜ length (now memory) ≤ 65536 ⌝ }
     ensures { λ r. ⌜ DrawnIn screen (canvas .stride) (canvas .height) (bitmap (canvas .stride) (canvas .height) (window source (sourceBytes width lines) (now (memory .entry))) x y width lines mode) r (now (memory .entry)) (now (memory .exit)) ⌝ }
 {
@@ -196,6 +199,7 @@ pub fn paint_bitmap_by_bytes(
 ) -> Marks
     requires { ⌜ Screen (canvas .stride) (canvas .height) (window screen (canvas .stride * canvas .height) (now memory)) ⌝ }
     requires { ⌜ (screen + canvas .stride * canvas .height ≤ length (now memory)) × (source + sourceBytes width lines ≤ length (now memory)) ⌝ }
+    requires { ⌜ canvas .stride * canvas .height ≤ screenBytes base ⌝ }
     requires { ⌜ length (now memory) ≤ 65536 ⌝ }
     ensures { λ r. ⌜ DrawnIn screen (canvas .stride) (canvas .height) (bitmap (canvas .stride) (canvas .height) (window source (sourceBytes width lines) (now (memory .entry))) x y width lines mode) r (now (memory .entry)) (now (memory .exit)) ⌝ }
 {
