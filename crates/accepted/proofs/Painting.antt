@@ -1,5 +1,5 @@
 -- Bitmaps: the source that is kept before the first pixel is painted.
-use mathlib.Core.Path.{_≡_, refl}
+use mathlib.Core.Path.{_≡_, refl, ap, _∙_}
 use mathlib.Core.List.{List}
 use mathlib.Core.Bool.{true}
 use Prim.Native.Nat.{ℕ, zero, suc, _+_, _-_, _<_, _≤_}
@@ -8,6 +8,7 @@ use lib.ListN.{length, take, drop}
 use Rattle.model.specs.declared.Head.{Head}
 use Rattle.model.specs.declared.glass.Glass.{Glass}
 use Rattle.model.specs.declared.PaintMode.the-variants.{Xor}
+use Rattle.model.specs.Geometry.{base, screenBytes}
 use Rattle.model.specs.Bitmaps.{paintMode, sourceBytes, sourceFits}
 use Rattle.bitmap.proofs.Sources.{source-small, source-in}
 use Rattle.record.specs.Given.{Given}
@@ -31,3 +32,7 @@ is-source {a = a} {w} {n} f e ha hw hn =
 
 pub source-length : {m : List ℕ} {a c : ℕ} → Source m a c → length (take (a + c - a) (drop a m)) ≡ c
 source-length {m} {a} {c} o = part-length a c m (o .inside)
+
+-- the screen finds room beside them
+pub screen-kept : {v : Glass} {r m : List ℕ} {h : Head} → Given v r h m → v .screen ≤ screenBytes base
+screen-kept w = omega (arith, w .chosen .suits .is-screen ∙ ap screenBytes (w .chosen .glass))

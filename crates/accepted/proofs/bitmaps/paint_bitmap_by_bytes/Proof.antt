@@ -6,7 +6,7 @@ use Rattle.model.specs.Memory.{window}
 use Rattle.model.specs.Bitmaps.{sourceBytes, bitmap}
 use Rattle.model.specs.Calls.{done}
 use Rattle.record.proofs.Drawing.{screen-room, screen-bytes, screen-window, drew-in, stands}
-use Rattle.accepted.proofs.Painting.{is-source}
+use Rattle.accepted.proofs.Painting.{is-source, screen-kept}
 use borrow.Author.Needs.{needs}
 use Rattle.accepted.proofs.bitmaps.paint_bitmap_by_bytes.Statement.{statement}
 use Rattle.accepted.proofs.bitmaps.paint_bitmap_by_bytes.Tie as tie
@@ -25,7 +25,8 @@ paint-bitmap-by-bytes-requires c κs =
     let a = c .before .before .before .before .before .before in
     let is = c .before .canvas-of .ensures in
     let o = is-source (a .pre) refl (omega arith) (omega arith) (omega arith) in
-    (screen-window (a .pre .0) is, ((omega (arith, screen-bytes (a .pre .0) is, screen-room (a .pre .0)), o .inside), omega (arith, a .pre .0 .memory)))
+    let size = screen-bytes (a .pre .0) is in
+    (screen-window (a .pre .0) is, ((omega (arith, size, screen-room (a .pre .0)), o .inside), (omega (arith, size, screen-kept (a .pre .0)), omega (arith, a .pre .0 .memory))))
 
 mark-head-requires : tie.Need-mark-head-requires
 mark-head-requires c κs = stands (c .before .before .before .before .before .before .before .before .before .before .pre .0)

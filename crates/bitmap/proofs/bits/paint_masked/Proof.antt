@@ -1,3 +1,4 @@
+use mathlib.Core.Path.{refl}
 use borrow.Author.Needs.{needs}
 use Rattle.bitmap.proofs.bits.paint_masked.Statement.{statement}
 use Rattle.bitmap.proofs.bits.paint_masked.Tie as tie
@@ -18,7 +19,7 @@ same-length : tie.Need-same-length
 same-length c = search needs
 
 returns : tie.Need-returns
-returns c = cc
+returns c = rw (c .paint-byte .ensures, c .before .before .source-byte .ensures) refl
 
 pub paint-masked-spec : {M : Type 1} → statement M
 paint-masked-spec =

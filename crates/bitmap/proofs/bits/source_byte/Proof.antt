@@ -1,3 +1,4 @@
+use mathlib.Core.Path.{refl}
 use borrow.Author.Needs.{needs}
 use Rattle.bitmap.proofs.bits.source_byte.Statement.{statement}
 use Rattle.bitmap.proofs.bits.source_byte.Tie as tie
@@ -15,7 +16,7 @@ shifted-requires : tie.Need-shifted-requires
 shifted-requires c κs = search needs
 
 returns : tie.Need-returns
-returns c = cc
+returns c = rw (c .shifted .ensures, c .before .before .byte-before .ensures, c .before .byte-at .ensures) refl
 
 pub source-byte-spec : {M : Type 1} → statement M
 source-byte-spec =

@@ -36,26 +36,26 @@ mul-if1 c = search needs
 bit-of-requires : tie.Need-bit-of-requires
 bit-of-requires c κs =
     let a = c .before .before .before .before .before in
-    let o = lies a (c .before .if1 .taken) (eqb-true _ _ (c .if2 .taken)) in
+    let o = lies a (c .before .if1 .taken) (omega (arith, eqb-true)) in
     omega (arith, o .screen)
 
 bit-of-requires-2 : tie.Need-bit-of-requires-2
 bit-of-requires-2 c κs =
     let a = c .before .before .before .before .before .before in
-    let o = lies a (c .before .before .if1 .taken) (eqb-true _ _ (c .before .if2 .taken)) in
+    let o = lies a (c .before .before .if1 .taken) (omega (arith, eqb-true)) in
     omega (arith, o .source)
 
 mul-paint-bits : tie.Need-mul-paint-bits
 mul-paint-bits c =
     let a = c .before .before .before .before .before .before .before .before in
-    let o = lies a (c .before .before .before .before .if1 .taken) (eqb-true _ _ (c .before .before .before .if2 .taken)) in
+    let o = lies a (c .before .before .before .before .if1 .taken) (omega (arith, eqb-true)) in
     let n = sized a (c .before .before .before .before .if1 .taken) in
     omega (arith, n, o .screen)
 
 paint-bits-requires : tie.Need-paint-bits-requires
 paint-bits-requires c κs =
     let a = c .before .before .before .before .before .before .before .before in
-    let o = lies a (c .before .before .before .before .if1 .taken) (eqb-true _ _ (c .before .before .before .if2 .taken)) in
+    let o = lies a (c .before .before .before .before .if1 .taken) (omega (arith, eqb-true)) in
     let n = sized a (c .before .before .before .before .if1 .taken) in
     let to = c .before .before .bit-of .ensures in
     let from = c .before .bit-of2 .ensures in
@@ -68,7 +68,7 @@ returns : tie.Need-returns
 unfolding Bytes
 returns c =
     let a = c .before .before .before .before .before .before .before .before .before .before .before in
-    let o = lies a (c .before .before .before .before .before .before .before .if1 .taken) (eqb-true _ _ (c .before .before .before .before .before .before .if2 .taken)) in
+    let o = lies a (c .before .before .before .before .before .before .before .if1 .taken) (omega (arith, eqb-true)) in
     let n = sized a (c .before .before .before .before .before .before .before .if1 .taken) in
     let painted = rw (n, c .before .before .before .before .before .bit-of .ensures, c .before .before .before .before .bit-of2 .ensures) at (c .before .before .paint-bits .ensures) in
     painted ∙ o .painted (a .args .mode) (λ i. omega (arith, c .before .before .before .before .before .before .before .before .before .before .slice-known .given i))
