@@ -3,6 +3,7 @@ ghost use mathlib.Core.Path.{_≡_};
 ghost use mathlib.Core.List.{_∷_};
 ghost use Prim.Native.Nat.{_+_, _-_, _*_, _≤_, _<_};
 ghost use lib.ListN.{length, getD, set};
+ghost use Rattle.laws.specs.Bytes.{mixed};
 ghost use Rattle.laws.specs.PaintedBits.{shifted, sourceByte, paintByte, maskPainted, paintedBits, Apart};
 use model::PaintMode;
 use pixels::run::end_mask;
@@ -28,6 +29,13 @@ fn paint_byte(mode: PaintMode, s: u8, v: u8) -> u8
         PaintMode::And => s & v,
         PaintMode::Xor => s ^ v,
     }
+}
+
+// A byte with the bits of the mask taken from another.
+fn mix(mask: u8, from: u8, onto: u8) -> u8
+    ensures { λ r. ⌜ r ≡ mixed mask from onto ⌝ }
+{
+    (from & mask) | (onto & !mask)
 }
 
 // Byte i, or 0 after the last one.
@@ -67,7 +75,8 @@ fn paint_masked(memory: &mut [u8], at: usize, mask: u8, i: usize, mode: PaintMod
 {
     let s = source_byte(memory, i);
     let v = memory[at];
-    memory[at] = (paint_byte(mode, s, v) & mask) | (v & !mask);
+    let b = mix(mask, paint_byte(mode, s, v), v);
+    memory[at] = b;
 }
 
 // The bytes from `from` up to `to`, by the bytes from `source` on.

@@ -12,6 +12,9 @@ slice-read-v c = search needs
 paint-byte-requires : tie.Need-paint-byte-requires
 paint-byte-requires c κs = search needs
 
+mix-requires : tie.Need-mix-requires
+mix-requires c κs = search needs
+
 slice-write-memory : tie.Need-slice-write-memory
 slice-write-memory c = search needs
 
@@ -19,7 +22,7 @@ same-length : tie.Need-same-length
 same-length c = search needs
 
 returns : tie.Need-returns
-returns c = rw (c .paint-byte .ensures, c .before .before .source-byte .ensures) refl
+returns c = rw (c .mix .ensures, c .before .paint-byte .ensures, c .before .before .before .source-byte .ensures) refl
 
 pub paint-masked-spec : {M : Type 1} → statement M
 paint-masked-spec =
@@ -28,6 +31,7 @@ paint-masked-spec =
     source-byte-requires
     slice-read-v
     paint-byte-requires
+    mix-requires
     slice-write-memory
     same-length
     returns)

@@ -1,4 +1,6 @@
-use mathlib.Core.Path.{refl}
+use mathlib.Core.Path.{_∙_}
+use Prim.Native.Nat.{_%_}
+use Rattle.laws.specs.PaintedBits.{shifted}
 use borrow.Author.Needs.{needs}
 use Rattle.bitmap.proofs.bits.source_byte.Statement.{statement}
 use Rattle.bitmap.proofs.bits.source_byte.Tie as tie
@@ -16,7 +18,10 @@ shifted-requires : tie.Need-shifted-requires
 shifted-requires c κs = search needs
 
 returns : tie.Need-returns
-returns c = rw (c .shifted .ensures, c .before .before .byte-before .ensures, c .before .byte-at .ensures) refl
+returns c =
+    let first = c .before .before .byte-before .ensures in
+    let second = c .before .byte-at .ensures in
+    c .shifted .ensures ∙ (λ k. shifted (c .before .before .before .before .args .i % 8) (first k) (second k))
 
 pub source-byte-spec : {M : Type 1} → statement M
 source-byte-spec =
