@@ -1,5 +1,5 @@
 /* A small host: links libcaption.a and shows that the calls of the header are there and do what it says. main goes through a life of the screen: open, a point and
-   its line on a panel, every refusal of every call, a bitmap, a flush, sends until idle, four panels at paces of their own, text, cursor and modes.
+   its line on a panel, every refusal of every call, a bitmap by both painters, a flush, sends until idle, four panels at paces of their own, text, cursor and modes.
    Prints what it sees and ends with "ok"; the exit status is 0 only then. What it tries is a sample: the proofs and compare/ cover the rest. */
 #include "caption.h"
 #include <stdio.h>
@@ -39,6 +39,16 @@ static void refused(const char *what, uint32_t code, uint32_t n) {
 #define NOTHING (const uint8_t *)"", 0
 #define NO_FONTS NOTHING, NOTHING, NOTHING, NOTHING
 
+/* caption_paint_bitmap or caption_paint_bitmap_by_bytes */
+typedef uint32_t painter(uint8_t *, size_t, uint8_t *, size_t, uint16_t, int32_t, int32_t, uint8_t, uint8_t, uint8_t);
+
+static void bitmap_refusals(painter *paint) {
+    refused("bitmap 1", paint(R, LESS_MEMORY, 65535, 0, 0, 9, 1, 9), 1);
+    refused("bitmap 4", paint(R, M, 65535, 0, 0, 9, 1, 5), 4);
+    refused("bitmap 4", paint(R, M, 65535, 0, 0, 0, 0, 5), 4);
+    refused("bitmap 5", paint(R, M, 65535, 0, 0, 9, 1, 4), 5);
+}
+
 /* Each refusal of each call but STATE and GLYPH, in the order of its tests. Where a call has several, what it is told is wrong for the later ones too (mode 9 with a
    short memory), so that the order is seen. */
 static void refusals(void) {
@@ -64,10 +74,8 @@ static void refusals(void) {
     refused("ellipse 4", caption_draw_ellipse(R, M, 0, 0, 200, 1, 0, 4), 4);
     refused("ellipse 6", caption_draw_ellipse(R, M, 0, 0, 1, 128, 1, 3), 6);
     refused("check 1", caption_check_point(R, LESS_MEMORY, 0, 0).code, 1);
-    refused("bitmap 1", caption_paint_bitmap(R, LESS_MEMORY, 65535, 0, 0, 9, 1, 9), 1);
-    refused("bitmap 4", caption_paint_bitmap(R, M, 65535, 0, 0, 9, 1, 5), 4);
-    refused("bitmap 4", caption_paint_bitmap(R, M, 65535, 0, 0, 0, 0, 5), 4);
-    refused("bitmap 5", caption_paint_bitmap(R, M, 65535, 0, 0, 9, 1, 4), 5);
+    bitmap_refusals(caption_paint_bitmap);
+    bitmap_refusals(caption_paint_bitmap_by_bytes);
     refused("print 1", caption_print(R, LESS_MEMORY, (const uint8_t *)"a", 1), 1);
     refused("newline 1", caption_newline(LESS_RECORD, M), 1);
     refused("cls 1", caption_cls(R, LESS_MEMORY), 1);
@@ -106,6 +114,7 @@ static void broken_record(void) {
     refused("ellipse 2", caption_draw_ellipse(R, M, 0, 0, 200, 1, 9, 9), 2);
     refused("check 2", caption_check_point(R, M, 0, 0).code, 2);
     refused("bitmap 2", caption_paint_bitmap(R, M, 65535, 0, 0, 9, 1, 9), 2);
+    refused("bitmap by bytes 2", caption_paint_bitmap_by_bytes(R, M, 65535, 0, 0, 9, 1, 9), 2);
     refused("print 2", caption_print(R, M, (const uint8_t *)"a", 1), 2);
     refused("newline 2", caption_newline(R, M), 2);
     refused("cls 2", caption_cls(R, M), 2);
@@ -130,17 +139,46 @@ static void broken_record(void) {
 
 /* Byte 0x81 copied at (-1, 0) over a whole byte: pixel 6 set, 0-5 cleared, 7 as it was. A bitmap that lies off the screen or has zero size changes nothing, and a
    source may end with memory's last byte. The host writes the source itself: it lies outside the screen. */
-static void bitmap(void) {
+static void bitmap(painter *paint) {
     memory[9000] = 0x81;
     expect("poke", caption_write_byte(R, M, 4096, 0xff) == 0);
     caption_take_dirty_area(R);
-    expect("bitmap", caption_paint_bitmap(R, M, 9000, -1, 0, 8, 1, 0) == 0 && memory[4096] == 3);
+    expect("bitmap", paint(R, M, 9000, -1, 0, 8, 1, 0) == 0 && memory[4096] == 3);
     caption_area dirty = caption_take_dirty_area(R);
     expect("its dirty", dirty.left == 0 && dirty.top == 0 && dirty.right == 7 && dirty.bottom == 1);
     keep();
-    refused("nothing painted", caption_paint_bitmap(R, M, 9000, INT32_MAX, 0, 8, 1, 0), 0);
-    refused("zero size", caption_paint_bitmap(R, M, 65535, 0, 0, 0, 9, 4), 0);
-    expect("source at the end", caption_paint_bitmap(R, M, 65534, 300, 0, 9, 1, 0) == 0);
+    refused("nothing painted", paint(R, M, 9000, INT32_MAX, 0, 8, 1, 0), 0);
+    refused("zero size", paint(R, M, 65535, 0, 0, 0, 9, 4), 0);
+    expect("source at the end", paint(R, M, 65534, 300, 0, 9, 1, 0) == 0);
+}
+
+/* Both painters leave the same bytes of record and memory. The buffers are then as they were. */
+static void painted_alike(uint16_t address, int32_t x, int32_t y, uint8_t width, uint8_t height, uint8_t mode) {
+    static uint8_t rec_by_pixels[CAPTION_RECORD_BYTES], memory_by_pixels[CAPTION_MEMORY_BYTES];
+    keep();
+    expect("by pixels", caption_paint_bitmap(R, M, address, x, y, width, height, mode) == 0);
+    memcpy(rec_by_pixels, rec, sizeof rec);
+    memcpy(memory_by_pixels, memory, sizeof memory);
+    memcpy(rec, rec_was, sizeof rec);
+    memcpy(memory, memory_was, sizeof memory);
+    expect("by bytes", caption_paint_bitmap_by_bytes(R, M, address, x, y, width, height, mode) == 0);
+    expect("alike", !memcmp(rec_by_pixels, rec, sizeof rec) && !memcmp(memory_by_pixels, memory, sizeof memory));
+    memcpy(rec, rec_was, sizeof rec);
+    memcpy(memory, memory_was, sizeof memory);
+}
+
+/* Sources apart from the screen, across its first byte, on it and at the end of memory, at places around a byte, in every mode. */
+static void both_painters(void) {
+    for (int i = 0; i < CAPTION_MEMORY_BYTES; i++)
+        memory[i] = (uint8_t)(i * 37 + i / 251);
+    static const uint16_t addresses[] = {9000, 3996, 4097, 65354};
+    for (int a = 0; a < 4; a++)
+        for (int x = -9; x <= 9; x++)
+            for (uint8_t mode = 0; mode < 5; mode++)
+                painted_alike(addresses[a], x, x / 4, 40 + x, 26, mode);
+    painted_alike(9000, 0, 0, 160, 80, 0);
+    painted_alike(3996, 0, 0, 255, 80, 4);
+    memset(memory, 0, sizeof memory);
 }
 
 /* Text shows after a flush. "a" in the first cell: refused while the font lacks its last byte, painted with it; an empty text needs no font. In Text the rest of the
@@ -205,7 +243,9 @@ int main(void) {
     expect("first line", s.sent == 1 && s.line == 0 && s.left == 0 && s.right == 160 && panels[0][0] == 0x10);
     refusals();
     broken_record();
-    bitmap();
+    bitmap(caption_paint_bitmap);
+    bitmap(caption_paint_bitmap_by_bytes);
+    both_painters();
     flush();
     /* 79 lines of the opening are in hand of panel 0, and the whole screen is owed for the flush: sends until idle, and the panel is level */
     int more = 0;
