@@ -1,9 +1,9 @@
 -- A run of bits painted by other bits of the same list, a byte at a time. The list is one line: its bit i is pixel i of that line, bit 0x80 >> (i mod 8) of byte i / 8.
 -- The source bits of a byte lie in one byte or two, which are shifted into line; a mask keeps the bits of the first and the last byte that are not painted.
 use mathlib.Core.Path.{_≡_, refl, sym, ap, _∙_}
-use mathlib.Core.Bool.{Bool, not, xor, cond, _&&_, _||_}
+use mathlib.Core.Bool.{Bool, not, cond}
 use mathlib.Core.Logic.{_⊎_, inl, inr}
-use mathlib.Core.List.{List, [], _∷_, _++_}
+use mathlib.Core.List.{List, _∷_, _++_}
 use Prim.Native.Nat.{ℕ, zero, suc, _+_, _-_, _*_, _/_, _%_, _^_, _≤_, _<_}
 use native.Mathlib.Nat.{add-zero, zero-add, suc-add, add-suc}
 use native.Mathlib.Numerals.{add-one}
@@ -153,7 +153,7 @@ painting mode from to m z v = paintOp mode (bit (length m) m (z + from - to) 0) 
 run-bits : (mode : PaintMode) (from to n b : ℕ) (m : List ℕ) → to + n ≡ b → b ≤ 8 * length m → Bytes m → Run (length m) 0 to b (painting mode from to m) m (paintedBits mode from to n m)
 run-bits mode from to n b m e hb hm = run-painted (length m) (length m) m mode from 0 to 0 n b _ m e hb (omega arith) hm (λ z v l u. refl)
 
--- the bits a up to b of byte `at`, by their mask; i is the source bit that falls on the first bit of the byte, and 8
+-- the bits a up to b of byte `at`, by their mask; i is the source bit that falls on the first bit of the byte, plus 8
 pub byte-painted : (mode : PaintMode) (at a b mask i from : ℕ) (m : List ℕ) → Bytes m → at < length m → Mask at a b mask → a ≤ b → i + a ≡ from + 8 * (at + 1)
     → set m at (maskPainted mode mask (sourceByte m i) (getD m at 0)) ≡ paintedBits mode from a (b - a) m
 unfolding Bytes bit
@@ -238,7 +238,7 @@ module _ (mode : PaintMode) (from to n : ℕ) (m e : List ℕ) (hm : Bytes m) (s
   abbrev last : ℕ
   last = (to + n - 1) / 8
 
-  -- the source bit that falls on the first bit of the first byte, and 8
+  -- the source bit that falls on the first bit of the first byte, plus 8
   abbrev start : ℕ
   start = from + 8 - to % 8
 

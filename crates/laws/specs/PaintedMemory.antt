@@ -3,15 +3,15 @@
 use mathlib.Core.Path.{_≡_, refl, sym, ap, _∙_}
 use mathlib.Core.Bool.{Bool, true, _||_}
 use mathlib.Core.Logic.{_⊎_, inl, inr}
-use mathlib.Core.List.{List, _++_, append-assoc}
-use Prim.Native.Nat.{ℕ, zero, suc, _+_, _-_, _*_, _/_, _%_, _≤_, _<_}
+use mathlib.Core.List.{List}
+use Prim.Native.Nat.{ℕ, zero, suc, _+_, _-_, _*_, _%_, _≤_, _<_}
 use native.Mathlib.Nat.{mul-le-mul-left}
 use native.Mathlib.Numerals.{add-one}
 use native.Mathlib.Omega.{arith}
 use lib.Dec.{leb}
 use lib.IntN.{ℤ}
-use lib.ListN.{length, getD, set, take, drop, length-append}
-use lib.Seq.{getD-take, getD-drop, take-set-le, drop-set-lt, take-at, drop-at, length-take-le}
+use lib.ListN.{length, getD, set, drop}
+use lib.Seq.{getD-take, getD-drop, take-set-le, drop-set-lt}
 use Rattle.model.specs.Bits.{withBit}
 use Rattle.model.specs.Bytes.{Bytes}
 use Rattle.model.specs.Memory.{window, withWindow}
@@ -22,14 +22,14 @@ use Rattle.model.specs.declared.PaintMode.{PaintMode}
 use Rattle.model.specs.declared.Visible.{Visible}
 use Rattle.model.specs.Bitmaps.{paintOp, sourceStride, sourceBytes, visible, paintedLine, paintedLines, bitmap}
 use Rattle.laws.specs.Tests.{tests, either, or-cases}
-use Rattle.laws.specs.Memory.{length-window, length-withWindow, window-set-in, window-same, window-back, window-other}
-use Rattle.laws.specs.Pixels.{length-put, length-draw}
+use Rattle.laws.specs.Memory.{length-window, length-withWindow, window-set-in, window-same, window-back, window-other, window-again}
+use Rattle.laws.specs.Pixels.{row-below, length-put, length-draw}
 use Rattle.laws.specs.Writes.{draw-append}
 use Rattle.laws.specs.Points.{both}
 use Rattle.laws.specs.Bitmaps.{visibleMark, bitmap-painted}
 use Rattle.laws.specs.PaintedBits.{paintedBits, length-painted, bytes-painted, Apart, bits-join}
 
--- n bytes of memory from byte a on are st by .. lines: pixel (x, y) of this window is bit pixelAt a st x y of memory
+-- pixel (x, y) of the lines of st bytes that begin at byte a, as a bit of memory
 abbrev pub pixelAt : ℕ → ℕ → ℕ → ℕ → ℕ
 pixelAt a st x y = 8 * (a + st * y) + x
 
@@ -92,9 +92,6 @@ line-window a size st b count k m mode i j x y (suc n) p e ha hx hy hi hj =
 
 -- ---- all lines
 
-pub row-below : (st h y : ℕ) → y < h → st * y + st ≤ st * h
-row-below st h y l = omega (arith, mul-le-mul-left {m = suc y} {n = h} st l)
-
 -- a screen of `size` bytes at a, and a source of `count` bytes at b
 pub record Placed (a size b count : ℕ) (m : List ℕ) : Type 0 where
   pub screen : a + size ≤ length m
@@ -105,13 +102,6 @@ pub record Placed (a size b count : ℕ) (m : List ℕ) : Type 0 where
 pub placed : (a size b count : ℕ) (m : List ℕ) {k : ℕ} {t : Bool} → (a + size ≤ length m) × (b + count ≤ length m) → k ≡ count → t ≡ (leb (a + size) b || leb (b + k) a) → t ≡ true → Placed a size b count m
 placed a size b count m {k} l e p q =
     record { screen = l .0; source = l .1; apart = either (or-cases (leb (a + size) b) (leb (b + k) a) (sym p ∙ q)) (λ h. inl (omega (arith, tests))) (λ h. inr (omega (arith, tests))) }
-
-window-again : (a : ℕ) (s t m : List ℕ) → length s ≡ length t → a + length s ≤ length m → withWindow a t (withWindow a s m) ≡ withWindow a t m
-unfolding withWindow
-window-again a s t m e h =
-    let d = drop (a + length s) m in
-    let front = length-take-le a m (omega arith) in
-    cc (take-at (take a m) (s ++ d) a front, append-assoc (take a m) s d, drop-at (take a m ++ s) d (a + length t) (length-append (take a m) s ∙ omega arith))
 
 -- a line's runs of bits lie within memory, and have no bit in common
 pub record LineLies (a st b k : ℕ) (across : Visible) (j y : ℕ) (m : List ℕ) : Type 0 where

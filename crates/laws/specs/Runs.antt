@@ -4,7 +4,7 @@ use mathlib.Core.Logic.{inl, inr}
 use mathlib.Core.Bool.{Bool, true, false, cond, _&&_, Bool·beq, not, xor}
 use mathlib.Core.List.{List, [], _∷_, _++_}
 use Prim.Native.Nat.{ℕ, zero, suc, _+_, _-_, _*_, _/_, _≤_, _<_}
-use native.Mathlib.Nat.{add-zero, zero-add, suc-add, add-suc, mul-le-mul-left}
+use native.Mathlib.Nat.{add-zero, zero-add, suc-add, add-suc}
 use native.Mathlib.Omega.{arith}
 use native.Mathlib.Numerals.{add-one}
 use lib.Bits.{bitAnd, and-lt, bitXor, xor-lt, and-le-l}
@@ -19,6 +19,7 @@ use Rattle.model.specs.Lines.{isUnknown, runOp, pixelRun}
 use Rattle.laws.specs.Tests.{clash, by-test}
 use Rattle.laws.specs.Bits.{same-bool, every-at}
 use Rattle.laws.specs.Bytes.{bitAt-and, Masked, bytes-set, bitAt-xor, bitAt-not}
+use Rattle.laws.specs.Pixels.{row-below}
 use Rattle.laws.specs.Writes.{draw-append, drawn-append, screen-draw}
 use Rattle.laws.specs.Points.{maskOf, seen-one, seen-none}
 use Rattle.laws.specs.Lines.{on-is, off-is}
@@ -88,7 +89,7 @@ run-point st x y Xor s k = refl
 run-point st x y Unknown s k = absurd (clash true refl k)
 
 pub line-in : (st h y : ℕ) {s : List ℕ} → Screen st h s → y < h → st * y + st ≤ length s
-line-in st h y r hy = omega (arith, r .sized, mul-le-mul-left {m = suc y} {n = h} st hy)
+line-in st h y r hy = omega (arith, r .sized, row-below st h y hy)
 
 -- n pixels within byte k of line y, by their mask
 pub mask-run : (st h y k a b m n : ℕ) (d : DrawMode) (s : List ℕ) → Screen st h s → Bytes s → y < h → k < st → Mask k a b m → a + n ≡ b

@@ -3,7 +3,8 @@ use mathlib.Core.Path.{_≡_, refl}
 use Prim.Native.Nat.{_≤_, _+_, _-_, _*_}
 use native.Mathlib.Omega.{arith}
 use lib.ListN.{length}
-use Rattle.laws.specs.PaintedMemory.{Placed, paintedIn, row-below, turn-in, end-in}
+use Rattle.laws.specs.Pixels.{row-below}
+use Rattle.laws.specs.PaintedMemory.{Placed, paintedIn, turn-in, end-in}
 use Rattle.bitmap.proofs.by_bytes.paint_lines.Statement.{statement}
 use Rattle.bitmap.proofs.by_bytes.paint_lines.Tie as tie
 
