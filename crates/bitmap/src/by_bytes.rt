@@ -5,10 +5,9 @@ ghost use Prim.Native.Nat.{_+_, _-_, _*_, _≤_, _<_};
 ghost use lib.Dec.{leb};
 ghost use lib.ListN.{length};
 ghost use Rattle.model.specs.Geometry.{base, screenBytes};
-ghost use Rattle.model.specs.Memory.{window};
-ghost use Rattle.model.specs.Pixels.{Screen};
-ghost use Rattle.model.specs.Bitmaps.{sourceBytes, bitmap};
-ghost use Rattle.laws.specs.PaintedMemory.{pixelAt, Placed, lineIn, paintedIn, DrawnIn};
+ghost use Rattle.model.specs.Bitmaps.{sourceBytes};
+ghost use Rattle.laws.specs.PaintedMemory.{pixelAt, Placed, lineIn};
+ghost use Rattle.bitmap.specs.InMemory.{size, InMemory, HasLines, linesPainted, Holds, BitmapDrawn};
 use crate::axis::visible;
 use crate::bits::paint_bits;
 use crate::paint::visible_marks;
@@ -43,9 +42,8 @@ fn paint_line(
     y: usize,
     mode: PaintMode,
 )
-    requires { ⌜ Placed screen (canvas .stride * canvas .height) source (picture .stride * picture .height) (now memory) ⌝ }
-    requires { ⌜ (canvas .stride ≤ 32) × (picture .stride ≤ 32) × (length (now memory) ≤ 65536) ⌝ }
-    requires { ⌜ (across .from < across .to) × (across .to ≤ 8 * canvas .stride) × (across .skip + (across .to - across .from) ≤ 8 * picture .stride) × (j < picture .height) × (y < canvas .height) ⌝ }
+    requires { ⌜ InMemory canvas screen picture source across (now memory) ⌝ }
+    requires { ⌜ (j < picture .height) × (y < canvas .height) ⌝ }
     ensures { λ _. ⌜ now (memory .exit) ≡ lineIn screen source (canvas .stride) (picture .stride) mode across j y (now (memory .entry)) ⌝ }
 {
     let left = across.from;
@@ -64,10 +62,9 @@ fn paint_lines(
     down: Visible,
     mode: PaintMode,
 )
-    requires { ⌜ Placed screen (canvas .stride * canvas .height) source (picture .stride * picture .height) (now memory) ⌝ }
-    requires { ⌜ (canvas .stride ≤ 32) × (picture .stride ≤ 32) × (length (now memory) ≤ 65536) ⌝ }
-    requires { ⌜ (across .from < across .to) × (across .to ≤ 8 * canvas .stride) × (across .skip + (across .to - across .from) ≤ 8 * picture .stride) × (down .to ≤ canvas .height) × (down .skip + (down .to - down .from) ≤ picture .height) ⌝ }
-    ensures { λ _. ⌜ now (memory .exit) ≡ paintedIn screen (canvas .stride * canvas .height) source (picture .stride * picture .height) (canvas .stride) (picture .stride) mode across (down .skip) (down .from) (down .to - down .from) (now (memory .entry)) ⌝ }
+    requires { ⌜ InMemory canvas screen picture source across (now memory) ⌝ }
+    requires { ⌜ (down .to ≤ canvas .height) × (down .skip + (down .to - down .from) ≤ picture .height) ⌝ }
+    ensures { λ _. ⌜ now (memory .exit) ≡ linesPainted canvas screen picture source across down mode (now (memory .entry)) ⌝ }
 {
     let to = down.to;
     let mut j = down.skip;
@@ -90,10 +87,9 @@ fn paint_visible(
     down: Visible,
     mode: PaintMode,
 )
-    requires { ⌜ Placed screen (canvas .stride * canvas .height) source (picture .stride * picture .height) (now memory) ⌝ }
-    requires { ⌜ (canvas .stride ≤ 32) × (picture .stride ≤ 32) × (length (now memory) ≤ 65536) ⌝ }
-    requires { ⌜ (across .from < across .to) × (across .to ≤ 8 * canvas .stride) × (across .skip + (across .to - across .from) ≤ 8 * picture .stride) × (down .from < down .to) × (down .to ≤ canvas .height) × (down .skip + (down .to - down .from) ≤ picture .height) ⌝ }
-    ensures { λ _. ⌜ now (memory .exit) ≡ paintedIn screen (canvas .stride * canvas .height) source (picture .stride * picture .height) (canvas .stride) (picture .stride) mode across (down .skip) (down .from) (down .to - down .from) (now (memory .entry)) ⌝ }
+    requires { ⌜ InMemory canvas screen picture source across (now memory) ⌝ }
+    requires { ⌜ HasLines canvas picture down ⌝ }
+    ensures { λ _. ⌜ now (memory .exit) ≡ linesPainted canvas screen picture source across down mode (now (memory .entry)) ⌝ }
 {
     let stride = canvas.stride;
     let bytes = picture.stride;
@@ -124,10 +120,9 @@ fn paint_apart(
     lines: u8,
     mode: PaintMode,
 ) -> Marks
-    requires { ⌜ Screen (canvas .stride) (canvas .height) (window screen (canvas .stride * canvas .height) (now memory)) ⌝ }
-    requires { ⌜ Placed screen (canvas .stride * canvas .height) source (sourceBytes width lines) (now memory) ⌝ }
-    requires { ⌜ length (now memory) ≤ 65536 ⌝ }
-    ensures { λ r. ⌜ DrawnIn screen (canvas .stride) (canvas .height) (bitmap (canvas .stride) (canvas .height) (window source (sourceBytes width lines) (now (memory .entry))) x y width lines mode) r (now (memory .entry)) (now (memory .exit)) ⌝ }
+    requires { ⌜ Holds canvas screen source width lines (now memory) ⌝ }
+    requires { ⌜ Placed screen (size canvas) source (sourceBytes width lines) (now memory) ⌝ }
+    ensures { λ r. ⌜ BitmapDrawn canvas screen source x y width lines mode r (now (memory .entry)) (now (memory .exit)) ⌝ }
 {
     let stride = canvas.stride;
     let height = canvas.height;
@@ -160,11 +155,9 @@ fn paint_copied(
     lines: u8,
     mode: PaintMode,
 ) -> Marks
-    requires { ⌜ Screen (canvas .stride) (canvas .height) (window screen (canvas .stride * canvas .height) (now memory)) ⌝ }
-    requires { ⌜ (screen + canvas .stride * canvas .height ≤ length (now memory)) × (source + sourceBytes width lines ≤ length (now memory)) ⌝ }
-    requires { ⌜ canvas .stride * canvas .height ≤ screenBytes base ⌝ }
-    requires { ⌜ length (now memory) ≤ 65536 ⌝ }
-    ensures { λ r. ⌜ DrawnIn screen (canvas .stride) (canvas .height) (bitmap (canvas .stride) (canvas .height) (window source (sourceBytes width lines) (now (memory .entry))) x y width lines mode) r (now (memory .entry)) (now (memory .exit)) ⌝ }
+    requires { ⌜ Holds canvas screen source width lines (now memory) ⌝ }
+    requires { ⌜ size canvas ≤ screenBytes base ⌝ }
+    ensures { λ r. ⌜ BitmapDrawn canvas screen source x y width lines mode r (now (memory .entry)) (now (memory .exit)) ⌝ }
 {
     let size = canvas.stride * canvas.height;
     let to = screen + size;
@@ -197,11 +190,9 @@ pub fn paint_bitmap_by_bytes(
     lines: u8,
     mode: PaintMode,
 ) -> Marks
-    requires { ⌜ Screen (canvas .stride) (canvas .height) (window screen (canvas .stride * canvas .height) (now memory)) ⌝ }
-    requires { ⌜ (screen + canvas .stride * canvas .height ≤ length (now memory)) × (source + sourceBytes width lines ≤ length (now memory)) ⌝ }
-    requires { ⌜ canvas .stride * canvas .height ≤ screenBytes base ⌝ }
-    requires { ⌜ length (now memory) ≤ 65536 ⌝ }
-    ensures { λ r. ⌜ DrawnIn screen (canvas .stride) (canvas .height) (bitmap (canvas .stride) (canvas .height) (window source (sourceBytes width lines) (now (memory .entry))) x y width lines mode) r (now (memory .entry)) (now (memory .exit)) ⌝ }
+    requires { ⌜ Holds canvas screen source width lines (now memory) ⌝ }
+    requires { ⌜ size canvas ≤ screenBytes base ⌝ }
+    ensures { λ r. ⌜ BitmapDrawn canvas screen source x y width lines mode r (now (memory .entry)) (now (memory .exit)) ⌝ }
 {
     let size = canvas.stride * canvas.height;
     let count = source_bytes(width, lines);

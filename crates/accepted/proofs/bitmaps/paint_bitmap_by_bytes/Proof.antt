@@ -25,8 +25,15 @@ paint-bitmap-by-bytes-requires c κs =
     let a = c .before .before .before .before .before .before in
     let is = c .before .canvas-of .ensures in
     let o = is-source (a .pre) refl (omega arith) (omega arith) (omega arith) in
-    let size = screen-bytes (a .pre .0) is in
-    (screen-window (a .pre .0) is, ((omega (arith, size, screen-room (a .pre .0)), o .inside), (omega (arith, size, screen-kept (a .pre .0)), omega (arith, a .pre .0 .memory))))
+    let size = screen-bytes (a .pre .0) is in (
+      record {
+        glass = screen-window (a .pre .0) is;
+        screen-in = omega (arith, size, screen-room (a .pre .0));
+        source-in = o .inside;
+        small = omega (arith, a .pre .0 .memory);
+      },
+      omega (arith, size, screen-kept (a .pre .0)),
+    )
 
 mark-head-requires : tie.Need-mark-head-requires
 mark-head-requires c κs = stands (c .before .before .before .before .before .before .before .before .before .before .pre .0)

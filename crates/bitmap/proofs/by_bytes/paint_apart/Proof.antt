@@ -24,7 +24,7 @@ no-marks-requires c κs = search needs
 returns : tie.Need-returns
 returns c =
     let a = c .before .before .before .before .before .before in
-    none-in (a .args .screen) (a .args .canvas .stride) (a .args .canvas .height) _ (a .args .memory .now) (a .pre .1 .0 .screen)
+    none-in (a .args .screen) (a .args .canvas .stride) (a .args .canvas .height) _ (a .args .memory .now) (a .pre .0 .screen-in)
     (bitmap-beside (a .args .canvas .stride) (a .args .canvas .height) (window (a .args .source) (sourceBytes (a .args .width) (a .args .lines)) (a .args .memory .now)) (a .args .x) (a .args .y) (a .args .width) (a .args .lines) (a .args .mode) _
     (visible-given (a .args .x) _ _ (a .fits .x) (c .before .before .before .before .visible .ensures))
     (visible-given (a .args .y) _ _ (a .fits .y) (c .before .before .before .visible2 .ensures))
@@ -36,7 +36,7 @@ no-marks-requires-2 c κs = search needs
 returns-2 : tie.Need-returns-2
 returns-2 c =
     let a = c .before .before .before .before .before .before .before .before in
-    none-in (a .args .screen) (a .args .canvas .stride) (a .args .canvas .height) _ (a .args .memory .now) (a .pre .1 .0 .screen)
+    none-in (a .args .screen) (a .args .canvas .stride) (a .args .canvas .height) _ (a .args .memory .now) (a .pre .0 .screen-in)
     (bitmap-below (a .args .canvas .stride) (a .args .canvas .height) (window (a .args .source) (sourceBytes (a .args .width) (a .args .lines)) (a .args .memory .now)) (a .args .x) (a .args .y) (a .args .width) (a .args .lines) (a .args .mode) _
     (visible-given (a .args .x) _ _ (a .fits .x) (c .before .before .before .before .before .before .visible .ensures))
     (visible-given (a .args .y) _ _ (a .fits .y) (c .before .before .before .before .before .visible2 .ensures))
@@ -50,14 +50,14 @@ paint-visible-requires c κs =
     let a = c .before .before .before .before .before .before .before .before in
     let across = visible-lies (a .args .x) (a .args .width) (8 * a .args .canvas .stride) (visible-given (a .args .x) _ _ (a .fits .x) (c .before .before .before .before .before .before .visible .ensures)) (c .before .before .before .if1 .left) in
     let down = visible-lies (a .args .y) (a .args .lines) (a .args .canvas .height) (visible-given (a .args .y) _ _ (a .fits .y) (c .before .before .before .before .before .visible2 .ensures)) (c .before .if2 .left) in
-    (a .pre .1 .0, (omega (arith, a .pre .0), omega arith))
+    (record { placed = a .pre .1; narrow = omega (arith, a .pre .0 .glass); small = a .pre .0 .small; columns = omega arith }, omega arith)
 
 visible-marks-requires : tie.Need-visible-marks-requires
 visible-marks-requires c κs =
     let a = c .before .before .before .before .before .before .before .before .before .before .before in
     let across = visible-lies (a .args .x) (a .args .width) (8 * a .args .canvas .stride) (visible-given (a .args .x) _ _ (a .fits .x) (c .before .before .before .before .before .before .before .before .before .visible .ensures)) (c .before .before .before .before .before .before .if1 .left) in
     let down = visible-lies (a .args .y) (a .args .lines) (a .args .canvas .height) (visible-given (a .args .y) _ _ (a .fits .y) (c .before .before .before .before .before .before .before .before .visible2 .ensures)) (c .before .before .before .before .if2 .left) in
-    omega (arith, a .pre .0)
+    omega (arith, a .pre .0 .glass)
 
 same-length : tie.Need-same-length
 same-length c = search needs
@@ -65,7 +65,7 @@ same-length c = search needs
 returns-3 : tie.Need-returns-3
 returns-3 c =
     let a = c .before .before .before .before .before .before .before .before .before .before .before .before in
-    painted-in (a .args .screen) (a .args .canvas .stride) (a .args .canvas .height) (a .args .source) (a .args .width) (a .args .lines) (a .args .x) (a .args .y) (a .args .mode) (a .args .memory .now) _ (a .pre .1 .0 .screen)
+    painted-in (a .args .screen) (a .args .canvas .stride) (a .args .canvas .height) (a .args .source) (a .args .width) (a .args .lines) (a .args .x) (a .args .y) (a .args .mode) (a .args .memory .now) _ (a .pre .0 .screen-in)
     (visible-given (a .args .x) _ _ (a .fits .x) (c .before .before .before .before .before .before .before .before .before .before .visible .ensures))
     (visible-given (a .args .y) _ _ (a .fits .y) (c .before .before .before .before .before .before .before .before .before .visible2 .ensures))
     (c .before .before .before .before .before .before .before .if1 .left) (c .before .before .before .before .before .if2 .left) (c .visible-marks .ensures) (c .before .before .before .paint-visible .ensures)

@@ -18,7 +18,7 @@ is-apart-requires c κs = search needs
 paint-apart-requires : tie.Need-paint-apart-requires
 paint-apart-requires c κs =
     let a = c .before .before .before .before .before .before in
-    (a .pre .0, (placed _ _ (a .args .source) _ _ (a .pre .1 .0) (omega (arith, c .before .before .before .source-bytes .ensures)) (c .before .before .is-apart .ensures) (c .before .if1 .taken), a .pre .1 .1 .1))
+    (a .pre .0, placed _ _ (a .args .source) _ _ (a .pre .0 .screen-in, a .pre .0 .source-in) (omega (arith, c .before .before .before .source-bytes .ensures)) (c .before .before .is-apart .ensures) (c .before .if1 .taken))
 
 same-length : tie.Need-same-length
 same-length c = search needs

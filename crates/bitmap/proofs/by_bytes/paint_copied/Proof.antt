@@ -10,7 +10,7 @@ use Rattle.model.specs.Bitmaps.{sourceBytes, bitmap}
 use Rattle.laws.specs.Parts.{part-length}
 use Rattle.laws.specs.PaintedMemory.{copied-in}
 use Rattle.bitmap.proofs.Sources.{source-small}
-use Rattle.bitmap.proofs.Copies.{copies, copies-placed}
+use Rattle.bitmap.proofs.Copies.{copies, copies-hold}
 use borrow.Author.Needs.{needs}
 use Rattle.bitmap.proofs.by_bytes.paint_copied.Statement.{statement}
 use Rattle.bitmap.proofs.by_bytes.paint_copied.Tie as tie
@@ -48,7 +48,7 @@ put-bytes-requires : tie.Need-put-bytes-requires
 put-bytes-requires c κs =
     let a = c .before .before .before .before .before .before in
     let short = source-small (a .args .width) (a .args .lines) (omega arith) (omega arith) in
-    omega (arith, part-length (a .args .screen) (a .args .canvas .stride * a .args .canvas .height) (a .args .memory .now) (a .pre .1 .0 .0), length-replicate {A = ℕ} 9760 0)
+    omega (arith, part-length (a .args .screen) (a .args .canvas .stride * a .args .canvas .height) (a .args .memory .now) (a .pre .0 .screen-in), length-replicate {A = ℕ} 9760 0)
 
 slice-aggregate-put-bytes-2 : tie.Need-slice-aggregate-put-bytes-2
 slice-aggregate-put-bytes-2 c = search needs
@@ -75,25 +75,25 @@ slice-aggregate-paint-apart c = search needs
 paint-apart-requires : tie.Need-paint-apart-requires
 paint-apart-requires c κs =
     let a = c .before .before .before .before .before .before .before .before .before .before .before .before .before .before in
-    copies-placed (a .args .canvas .stride) (a .args .canvas .height) (a .args .screen) (a .args .source) (a .args .width) (a .args .lines) (a .args .memory .now) _ _ _ (a .pre .0) (a .pre .1 .0) (a .pre .1 .1 .0) (omega arith) (omega arith) (length-replicate {A = ℕ} 9760 0) (c .before .before .before .before .before .before .before .before .before .before .before .source-bytes .ensures) (c .before .before .before .before .before .before .before .put-bytes .ensures) (c .before .before .put-bytes2 .ensures)
+    copies-hold (a .args .canvas) (a .args .screen) (a .args .source) (a .args .width) (a .args .lines) (a .args .memory .now) _ _ _ (a .pre .0) (a .pre .1) (omega arith) (omega arith) (length-replicate {A = ℕ} 9760 0) (c .before .before .before .before .before .before .before .before .before .before .before .source-bytes .ensures) (c .before .before .before .before .before .before .before .put-bytes .ensures) (c .before .before .put-bytes2 .ensures)
 
 array-share-prefix-both : tie.Need-array-share-prefix-both
 array-share-prefix-both c =
     let a = c .before .before .before .before .before .before .before .before .before .before .before .before .before .before .before .before .before in
-    let o = copies (a .args .canvas .stride) (a .args .canvas .height) (a .args .screen) (a .args .source) (a .args .width) (a .args .lines) (a .args .memory .now) _ _ _ (a .pre .0) (a .pre .1 .0) (a .pre .1 .1 .0) (omega arith) (omega arith) (length-replicate {A = ℕ} 9760 0) (c .before .before .before .before .before .before .before .before .before .before .before .before .before .before .source-bytes .ensures) (c .before .before .before .before .before .before .before .before .before .before .put-bytes .ensures) (c .before .before .before .before .before .put-bytes2 .ensures) in
+    let o = copies (a .args .canvas) (a .args .screen) (a .args .source) (a .args .width) (a .args .lines) (a .args .memory .now) _ _ _ (a .pre .0) (a .pre .1) (omega arith) (omega arith) (length-replicate {A = ℕ} 9760 0) (c .before .before .before .before .before .before .before .before .before .before .before .before .before .before .source-bytes .ensures) (c .before .before .before .before .before .before .before .before .before .before .put-bytes .ensures) (c .before .before .before .before .before .put-bytes2 .ensures) in
     omega (arith, o .long, c .before .before .paint-apart .kept, length-replicate {A = ℕ} 9760 0)
 
 slice-aggregate-put-bytes-3 : tie.Need-slice-aggregate-put-bytes-3
 slice-aggregate-put-bytes-3 c =
     let a = c .before .before .before .before .before .before .before .before .before .before .before .before .before .before .before .before .before .before in
-    let o = copies (a .args .canvas .stride) (a .args .canvas .height) (a .args .screen) (a .args .source) (a .args .width) (a .args .lines) (a .args .memory .now) _ _ _ (a .pre .0) (a .pre .1 .0) (a .pre .1 .1 .0) (omega arith) (omega arith) (length-replicate {A = ℕ} 9760 0) (c .before .before .before .before .before .before .before .before .before .before .before .before .before .before .before .source-bytes .ensures) (c .before .before .before .before .before .before .before .before .before .before .before .put-bytes .ensures) (c .before .before .before .before .before .before .put-bytes2 .ensures) in
+    let o = copies (a .args .canvas) (a .args .screen) (a .args .source) (a .args .width) (a .args .lines) (a .args .memory .now) _ _ _ (a .pre .0) (a .pre .1) (omega arith) (omega arith) (length-replicate {A = ℕ} 9760 0) (c .before .before .before .before .before .before .before .before .before .before .before .before .before .before .before .source-bytes .ensures) (c .before .before .before .before .before .before .before .before .before .before .before .put-bytes .ensures) (c .before .before .before .before .before .before .put-bytes2 .ensures) in
     sym (length-take-le _ _ (omega (arith, o .long, c .before .before .before .paint-apart .kept, length-replicate {A = ℕ} 9760 0)))
 
 put-bytes-requires-3 : tie.Need-put-bytes-requires-3
 put-bytes-requires-3 c κs =
     let a = c .before .before .before .before .before .before .before .before .before .before .before .before .before .before .before .before .before .before in
-    let o = copies (a .args .canvas .stride) (a .args .canvas .height) (a .args .screen) (a .args .source) (a .args .width) (a .args .lines) (a .args .memory .now) _ _ _ (a .pre .0) (a .pre .1 .0) (a .pre .1 .1 .0) (omega arith) (omega arith) (length-replicate {A = ℕ} 9760 0) (c .before .before .before .before .before .before .before .before .before .before .before .before .before .before .before .source-bytes .ensures) (c .before .before .before .before .before .before .before .before .before .before .before .put-bytes .ensures) (c .before .before .before .before .before .before .put-bytes2 .ensures) in
-    omega (arith, a .pre .1 .0 .0, length-take-le (a .args .canvas .stride * a .args .canvas .height) (c .before .before .before .paint-apart .last .1 .0) (omega (arith, o .long, c .before .before .before .paint-apart .kept, length-replicate {A = ℕ} 9760 0)))
+    let o = copies (a .args .canvas) (a .args .screen) (a .args .source) (a .args .width) (a .args .lines) (a .args .memory .now) _ _ _ (a .pre .0) (a .pre .1) (omega arith) (omega arith) (length-replicate {A = ℕ} 9760 0) (c .before .before .before .before .before .before .before .before .before .before .before .before .before .before .before .source-bytes .ensures) (c .before .before .before .before .before .before .before .before .before .before .before .put-bytes .ensures) (c .before .before .before .before .before .before .put-bytes2 .ensures) in
+    omega (arith, a .pre .0 .screen-in, length-take-le (a .args .canvas .stride * a .args .canvas .height) (c .before .before .before .paint-apart .last .1 .0) (omega (arith, o .long, c .before .before .before .paint-apart .kept, length-replicate {A = ℕ} 9760 0)))
 
 same-length : tie.Need-same-length
 same-length c = search needs
@@ -102,10 +102,10 @@ returns : tie.Need-returns
 unfolding window
 returns c =
     let a = c .before .before .before .before .before .before .before .before .before .before .before .before .before .before .before .before .before .before .before .before .before in
-    let o = copies (a .args .canvas .stride) (a .args .canvas .height) (a .args .screen) (a .args .source) (a .args .width) (a .args .lines) (a .args .memory .now) _ _ _ (a .pre .0) (a .pre .1 .0) (a .pre .1 .1 .0) (omega arith) (omega arith) (length-replicate {A = ℕ} 9760 0) (c .before .before .before .before .before .before .before .before .before .before .before .before .before .before .before .before .before .before .source-bytes .ensures) (c .before .before .before .before .before .before .before .before .before .before .before .before .before .before .put-bytes .ensures) (c .before .before .before .before .before .before .before .before .before .put-bytes2 .ensures) in
+    let o = copies (a .args .canvas) (a .args .screen) (a .args .source) (a .args .width) (a .args .lines) (a .args .memory .now) _ _ _ (a .pre .0) (a .pre .1) (omega arith) (omega arith) (length-replicate {A = ℕ} 9760 0) (c .before .before .before .before .before .before .before .before .before .before .before .before .before .before .before .before .before .before .source-bytes .ensures) (c .before .before .before .before .before .before .before .before .before .before .before .before .before .before .put-bytes .ensures) (c .before .before .before .before .before .before .before .before .before .put-bytes2 .ensures) in
     let painted = c .before .before .before .before .before .before .paint-apart .last .1 .0 in
     copied-in (a .args .screen) (a .args .canvas .stride) (a .args .canvas .height) (a .args .source) (sourceBytes (a .args .width) (a .args .lines))
-    (λ s. bitmap (a .args .canvas .stride) (a .args .canvas .height) s (a .args .x) (a .args .y) (a .args .width) (a .args .lines) (a .args .mode)) (a .args .memory .now) _ _ painted _ (a .pre .1 .0 .0)
+    (λ s. bitmap (a .args .canvas .stride) (a .args .canvas .height) s (a .args .x) (a .args .y) (a .args .width) (a .args .lines) (a .args .mode)) (a .args .memory .now) _ _ painted _ (a .pre .0 .screen-in)
     (omega (arith, o .long, c .before .before .before .before .before .before .paint-apart .kept, length-replicate {A = ℕ} 9760 0)) o
     (rw (toZ-ofZ {w = w32} {z = a .args .x} (a .fits .x), toZ-ofZ {w = w32} {z = a .args .y} (a .fits .y)) at (c .before .before .before .before .before .before .paint-apart .ensures))
     (c .before .before .put-bytes3 .ensures)

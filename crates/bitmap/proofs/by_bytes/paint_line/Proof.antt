@@ -10,7 +10,7 @@ use Rattle.bitmap.proofs.bits.paint_bits.Reads as paint-bits-reads
 
 lies : (a : lts.Start (bit-of-reads.Asked, bit-of-reads.Learnt, paint-bits-reads.Asked, paint-bits-reads.Learnt) reads.Pre reads.Post)
     → LineLies (a .args .screen) (a .args .canvas .stride) (a .args .source) (a .args .picture .stride) (a .args .across) (a .args .j) (a .args .y) (a .args .memory .now)
-lies a = line-lies (a .args .screen) (a .args .canvas .stride) (a .args .canvas .height) (a .args .source) (a .args .picture .stride) (a .args .picture .height) (a .args .across) (a .args .j) (a .args .y) (a .args .memory .now) (a .pre .0) (a .pre .1 .1)
+lies a = line-lies (a .args .screen) (a .args .canvas .stride) (a .args .canvas .height) (a .args .source) (a .args .picture .stride) (a .args .picture .height) (a .args .across) (a .args .j) (a .args .y) (a .args .memory .now) (a .pre .0 .placed) (omega (arith, a .pre .0))
 
 bit-of-requires : tie.Need-bit-of-requires
 bit-of-requires c κs =

@@ -17,12 +17,12 @@ abbrev μ-loop : tie.MeasureT-loop
 μ-loop canvas memory₀ screen picture source across mode to j₀ y₀ memory j y = to - y
 
 loop-holds : tie.Need-loop-holds Inv-loop μ-loop
-loop-holds c = (c .before .pre .0, refl, c .before .pre .1 .1 .4, refl)
+loop-holds c = (c .before .pre .0 .placed, refl, c .before .pre .1 .1, refl)
 
 paint-line-requires : tie.Need-paint-line-requires Inv-loop μ-loop
 paint-line-requires c κs =
     let a = c .before .before .before .before in
-    (c .before .before .loop .inv .0, (omega arith, omega arith))
+    (record { placed = c .before .before .loop .inv .0; narrow = a .pre .0 .narrow; small = omega (arith, a .pre .0 .small); columns = a .pre .0 .columns }, omega arith)
 
 add-j : tie.Need-add-j Inv-loop μ-loop
 add-j c = omega arith

@@ -18,7 +18,7 @@ At = lts.Start (bit-of-reads.Asked, bit-of-reads.Learnt, paint-bits-reads.Asked,
 
 lies : (a : At) → a .args .across .to - a .args .across .from ≡ 8 * a .args .canvas .stride → a .args .picture .stride ≡ a .args .canvas .stride
     → WholeLies (a .args .screen) (a .args .canvas .stride) (a .args .canvas .height) (a .args .source) (a .args .picture .stride) (a .args .picture .height) (a .args .across) (a .args .down) (a .args .memory .now)
-lies a e f = whole-lies (a .args .screen) (a .args .canvas .stride) (a .args .canvas .height) (a .args .source) (a .args .picture .stride) (a .args .picture .height) (a .args .across) (a .args .down) (a .args .memory .now) (a .pre .0) (a .pre .1 .1) e f
+lies a e f = whole-lies (a .args .screen) (a .args .canvas .stride) (a .args .canvas .height) (a .args .source) (a .args .picture .stride) (a .args .picture .height) (a .args .across) (a .args .down) (a .args .memory .now) (a .pre .0 .placed) (omega (arith, a .pre .0)) e f
 
 sized : (a : At) → a .args .across .to - a .args .across .from ≡ 8 * a .args .canvas .stride
     → (a .args .across .to - a .args .across .from) * (a .args .down .to - a .args .down .from) ≡ 8 * a .args .canvas .stride * (a .args .down .to - a .args .down .from)
