@@ -86,7 +86,7 @@ pub fn paint_bitmap_by_bytes(
     let start = address as usize;
     let from = h.graphics as usize;
     let d = paint_mode(mode);
-    let m = bitmap::paint_bitmap_by_bytes(
+    let m = bitmap_bytes::paint_bitmap_by_bytes(
         canvas_of(glass),
         memory,
         from,

@@ -1,11 +1,10 @@
-// Bitmaps over the lent screen and the bitmap's source bytes: `paint_bitmap` pixel by pixel, and the same picture by bytes.
+// `paint_bitmap` over the lent screen part and the bitmap's source bytes, pixel by pixel; and what the painter by bytes shares with it: clipping, marks and the source's size.
 mod axis;
-mod bits;
-mod by_bytes;
 mod paint;
 mod source;
 
-pub use by_bytes::paint_bitmap_by_bytes;
+pub use axis::visible;
 pub use paint::paint_bitmap;
+pub use paint::visible_marks;
 pub use source::source_bytes;
 pub use source::source_fits;
