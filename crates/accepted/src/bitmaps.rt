@@ -1,4 +1,5 @@
 // Bitmaps: `paint_bitmap`, and the same by bytes.
+use bitmap::SOURCE_BYTES;
 use model::Head;
 use model::PaintMode;
 use model::glass::Glass;
@@ -12,9 +13,6 @@ ghost use Rattle.model.specs.Bitmaps.{paintMode, sourceFits};
 ghost use Rattle.model.specs.Calls.{paintBitmap, lent, answered, done};
 ghost use Rattle.record.specs.Given.{Given};
 pub use bitmap::source_fits;
-
-// The longest source, 255 lines of 32 bytes.
-const SOURCE_BYTES: usize = 8160;
 
 // The listed paint modes; what is not listed is refused before.
 fn paint_mode(mode: u8) -> PaintMode

@@ -58,7 +58,7 @@ fn byte_before(memory: &[u8], i: usize) -> u8
     byte_at(memory, i - 1)
 }
 
-// The eight bits from bit i - 8 on. Of a byte at the edge of a run only some lie in the source, so the others may lie anywhere.
+// The eight bits from bit i - 8 on. At the edge of a run some of them lie outside the source, or outside memory, where they are 0: a mask leaves them out.
 fn source_byte(memory: &[u8], i: usize) -> u8
     ensures { λ r. ⌜ r ≡ sourceByte (now (memory .entry)) i ⌝ }
 {

@@ -6,5 +6,6 @@ mod source;
 pub use axis::visible;
 pub use paint::paint_bitmap;
 pub use paint::visible_marks;
+pub use source::SOURCE_BYTES;
 pub use source::source_bytes;
 pub use source::source_fits;

@@ -3,6 +3,9 @@ ghost use mathlib.Core.Path.{_≡_};
 ghost use Rattle.model.specs.Geometry.{memoryBytes};
 ghost use Rattle.model.specs.Bitmaps.{sourceBytes, sourceFits};
 
+// The longest source, 255 lines of 32 bytes.
+pub const SOURCE_BYTES: usize = 8160;
+
 pub fn source_bytes(width: u8, lines: u8) -> usize
     ensures { λ r. ⌜ r ≡ sourceBytes width lines ⌝ }
 {

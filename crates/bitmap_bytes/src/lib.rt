@@ -6,9 +6,10 @@ ghost use lib.Dec.{leb};
 ghost use lib.ListN.{length};
 ghost use Rattle.model.specs.Geometry.{base, screenBytes};
 ghost use Rattle.model.specs.Bitmaps.{sourceBytes};
-ghost use Rattle.laws.specs.PaintedMemory.{pixelAt, Placed, lineIn};
+ghost use Rattle.laws.specs.PaintedMemory.{pixelAt, Placed, lineIn, Copied};
 ghost use Rattle.bitmap_bytes.specs.InMemory.{size, InMemory, HasLines, linesPainted, Holds, BitmapDrawn};
 use bit_runs::paint_bits;
+use bitmap::SOURCE_BYTES;
 use bitmap::source_bytes;
 use bitmap::visible;
 use bitmap::visible_marks;
@@ -19,8 +20,8 @@ use model::PaintMode;
 use model::Visible;
 use model::glass::SCREEN_BYTES;
 
-// The longest source, 255 lines of 32 bytes, after the largest screen.
-const BOTH_BYTES: usize = SCREEN_BYTES + 8160;
+// The largest screen, and the longest source after it.
+const BOTH_BYTES: usize = SCREEN_BYTES + SOURCE_BYTES;
 
 // Pixel (x, y) of the lines of `stride` bytes that begin at byte `at`, as a bit of memory.
 fn bit_of(at: usize, stride: usize, x: usize, y: usize) -> usize
@@ -63,7 +64,7 @@ fn paint_lines(
     mode: PaintMode,
 )
     requires { ⌜ InMemory canvas screen picture source across (now memory) ⌝ }
-    requires { ⌜ (down .to ≤ canvas .height) × (down .skip + (down .to - down .from) ≤ picture .height) ⌝ }
+    requires { ⌜ HasLines canvas picture down ⌝ }
     ensures { λ _. ⌜ now (memory .exit) ≡ linesPainted canvas screen picture source across down mode (now (memory .entry)) ⌝ }
 {
     let to = down.to;
@@ -143,6 +144,24 @@ fn paint_apart(
     visible_marks(across, down)
 }
 
+// Screen and source to `both`, one after the other.
+fn copy_both(
+    memory: &[u8],
+    both: &mut [u8],
+    screen: usize,
+    size: usize,
+    source: usize,
+    count: usize,
+)
+    requires { ⌜ (screen + size ≤ length (now memory)) × (source + count ≤ length (now memory)) × (size + count ≤ length (now both)) ⌝ }
+    ensures { λ _. ⌜ Copied screen size source count (now (memory .entry)) (now (both .entry)) (now (both .exit)) ⌝ }
+{
+    let to = screen + size;
+    let end = source + count;
+    slices::put_bytes(both, 0, &memory[screen..to]);
+    slices::put_bytes(both, size, &memory[source..end]);
+}
+
 // A bitmap whose source may share bytes with the screen: both are copied, the copy of the screen is painted and put back.
 fn paint_copied(
     canvas: Canvas,
@@ -160,11 +179,9 @@ fn paint_copied(
     ensures { λ r. ⌜ BitmapDrawn canvas screen source x y width lines mode r (now (memory .entry)) (now (memory .exit)) ⌝ }
 {
     let size = canvas.stride * canvas.height;
-    let to = screen + size;
-    let end = source + source_bytes(width, lines);
+    let count = source_bytes(width, lines);
     let mut both = [0u8; BOTH_BYTES];
-    slices::put_bytes(&mut both, 0, &memory[screen..to]);
-    slices::put_bytes(&mut both, size, &memory[source..end]);
+    copy_both(memory, &mut both, screen, size, source, count);
     let m = paint_apart(canvas, &mut both, 0, size, x, y, width, lines, mode);
     slices::put_bytes(memory, screen, &both[..size]);
     m

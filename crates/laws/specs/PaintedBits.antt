@@ -154,7 +154,7 @@ run-bits : (mode : PaintMode) (from to n b : ℕ) (m : List ℕ) → to + n ≡ 
 run-bits mode from to n b m e hb hm = run-painted (length m) (length m) m mode from 0 to 0 n b _ m e hb (omega arith) hm (λ z v l u. refl)
 
 -- the bits a up to b of byte `at`, by their mask; i is the source bit that falls on the first bit of the byte, plus 8
-pub byte-painted : (mode : PaintMode) (at a b mask i from : ℕ) (m : List ℕ) → Bytes m → at < length m → Mask at a b mask → a ≤ b → i + a ≡ from + 8 * (at + 1)
+byte-painted : (mode : PaintMode) (at a b mask i from : ℕ) (m : List ℕ) → Bytes m → at < length m → Mask at a b mask → a ≤ b → i + a ≡ from + 8 * (at + 1)
     → set m at (maskPainted mode mask (sourceByte m i) (getD m at 0)) ≡ paintedBits mode from a (b - a) m
 unfolding Bytes bit
 byte-painted mode at a b mask i from m hm hl hk hab e =

@@ -150,7 +150,7 @@ module _ (a size b count st k : ℕ) (mode : PaintMode) (across : Visible) where
         let there : window b count (withWindow a s m) ≡ source = window-other a s m b count (omega (arith, o .screen)) (either (o .apart) (λ h. inr (omega arith)) (λ h. inl h)) in
         cc (line-is, window-again a s (draw st vs s) m again (omega (arith, o .screen)), draw-append st ws vs screen)
 
-    pub lines-placed : Placed a size b count (lineIn a b st k mode across j y m)
+    lines-placed : Placed a size b count (lineIn a b st k mode across j y m)
     lines-placed =
         let e = length-painted mode (pixelAt b k (across .skip) j) (pixelAt a st (across .from) y) (across .to - across .from) m in
         record { screen = rw e (o .screen); source = rw e (o .source); apart = o .apart }
@@ -251,19 +251,19 @@ module _ (a st h b w n : ℕ) (x y : ℤ) (mode : PaintMode) (m : List ℕ) wher
       let ws = paintedLines (sourceStride w) source mode across (down .skip) (down .from) (down .to - down .from) in
       window-in a st h bitmapIn m e (draw st ws s) l (length-draw st ws s ∙ length-window a (st * h) m l) g (bitmap-painted st h source x y w n mode s p q (draw st ws s) u v f refl)
 
--- a screen of n bytes and a source of c bytes, copied to z one after the other
-pub record Copied (n b c : ℕ) (screen m z e : List ℕ) : Type 0 where
+-- of memory m, a screen of n bytes at a and a source of c bytes at b were copied to the first bytes of z, one after the other: e
+pub record Copied (a n b c : ℕ) (m z e : List ℕ) : Type 0 where
   pub long : length e ≡ length z
-  pub screen-is : window 0 n e ≡ screen
+  pub screen-is : window 0 n e ≡ window a n m
   pub source-is : window n c e ≡ window b c m
 
-pub copied : (a n b c : ℕ) (m z e₁ e₂ : List ℕ) → a + n ≤ length m → b + c ≤ length m → n + c ≤ length z
-    → e₁ ≡ withWindow 0 (window a n m) z → e₂ ≡ withWindow n (window b c m) e₁ → Copied n b c (window a n m) m z e₂
-copied a n b c m z e₁ e₂ la lb lz w₁ w₂ =
+pub copied : (a n b c : ℕ) (m z e₁ e₂ : List ℕ) → (a + n ≤ length m) × (b + c ≤ length m) × (n + c ≤ length z)
+    → e₁ ≡ withWindow 0 (window a n m) z → e₂ ≡ withWindow n (window b c m) e₁ → Copied a n b c m z e₂
+copied a n b c m z e₁ e₂ l w₁ w₂ =
     let screen = window a n m in
     let source = window b c m in
-    let l₁ : length screen ≡ n = length-window a n m la in
-    let l₂ : length source ≡ c = length-window b c m lb in
+    let l₁ : length screen ≡ n = length-window a n m (l .0) in
+    let l₂ : length source ≡ c = length-window b c m (l .1) in
     let k₁ : length e₁ ≡ length z = ap length w₁ ∙ length-withWindow 0 screen z (omega arith) in
     record {
       long = ap length w₂ ∙ length-withWindow n source e₁ (omega arith) ∙ k₁;
@@ -272,6 +272,6 @@ copied a n b c m z e₁ e₂ la lb lz w₁ w₂ =
     }
 
 -- the copy is painted, and its screen put back
-pub copied-in : (a st h b c : ℕ) (d : List ℕ → Drawing) (m z e₂ e₃ e₄ : List ℕ) {r : Marks} → a + st * h ≤ length m → st * h ≤ length e₃ → Copied (st * h) b c (window a (st * h) m) m z e₂
+pub copied-in : (a st h b c : ℕ) (d : List ℕ → Drawing) (m z e₂ e₃ e₄ : List ℕ) {r : Marks} → a + st * h ≤ length m → st * h ≤ length e₃ → Copied a (st * h) b c m z e₂
     → DrawnIn 0 st h (d (window (st * h) c e₂)) r e₂ e₃ → e₄ ≡ withWindow a (window 0 (st * h) e₃) m → DrawnIn a st h (d (window b c m)) r m e₄
 copied-in a st h b c d m z e₂ e₃ e₄ l k o p w = window-in a st h (d (window b c m)) m e₄ (window 0 (st * h) e₃) l (length-window 0 (st * h) e₃ (omega arith)) w (cc (p .screen, o .screen-is, o .source-is))

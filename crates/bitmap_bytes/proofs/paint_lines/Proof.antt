@@ -17,7 +17,7 @@ abbrev μ-loop : tie.MeasureT-loop
 μ-loop canvas memory₀ screen picture source across mode to j₀ y₀ memory j y = to - y
 
 loop-holds : tie.Need-loop-holds Inv-loop μ-loop
-loop-holds c = (c .before .pre .0 .placed, refl, c .before .pre .1 .1, refl)
+loop-holds c = (c .before .pre .0 .placed, refl, c .before .pre .1 .2, refl)
 
 paint-line-requires : tie.Need-paint-line-requires Inv-loop μ-loop
 paint-line-requires c κs =
