@@ -2,8 +2,8 @@
 use mathlib.Core.Path.{_≡_, sym, ap, _∙_}
 use mathlib.Core.List.{List, []}
 use mathlib.Core.Bool.{Bool, true, false, _||_, _&&_}
-use Prim.Native.Nat.{ℕ, _+_, _-_, _*_, _/_, _%_, _<_, _≤_}
-use native.Mathlib.Nat.{mod-lt, div-lt-iff-lt-mul, mul-comm, mul-le-mul-left}
+use Prim.Native.Nat.{ℕ, _+_, _-_, _*_, _/_, _%_, _^_, _<_, _≤_}
+use native.Mathlib.Nat.{mod-lt, div-lt-iff-lt-mul, mul-le-mul-left, mul-le-mul-right}
 use native.Mathlib.Omega.{arith}
 use borrow.Author.Tests.{leb-true, ltb-true}
 use lib.Dec.{leb, ltb}
@@ -21,10 +21,12 @@ use Rattle.model.specs.Poke.{ignored, poked, byteRect, inScreen, pokeMark}
 use Rattle.model.specs.Calls.{writeByte, lent, answered, done}
 use Rattle.laws.specs.Tests.{and-true}
 use Rattle.laws.specs.Points.{both}
+use Rattle.laws.specs.Reciprocals.{line-of-byte, column-of-byte}
 use Rattle.laws.specs.Updates.{unmarked}
 use Rattle.record.specs.Update.{updated}
 use Rattle.record.proofs.Updating.{updated-for}
 use Rattle.record.specs.Given.{Given}
+use Rattle.accepted.specs.ScreenByte.{ScreenByte}
 
 pub is-ignored : (keys : List ℕ) (a : ℕ) {k : Bool} → k ≡ isKey keys a → (leb 57344 a || k) ≡ ignored keys a
 unfolding ignored
@@ -38,20 +40,39 @@ pub from-base : (v : Glass) (g a : ℕ) {b : Bool} → b ≡ inScreen (geometry 
 unfolding inScreen
 from-base v g a e f = leb-true g a (and-true (leb g a) (ltb a (g + screenBytes (geometry v))) (sym e ∙ f) .0)
 
-pub on-screen : (v : Glass) (g a : ℕ) {b : Bool} → Suits v → b ≡ inScreen (geometry v) g a → b ≡ true → (v .stride ≤ 32) × (a - g < v .stride * 256)
+pub on-screen : (v : Glass) (g a : ℕ) {b : Bool} → Suits v → b ≡ inScreen (geometry v) g a → b ≡ true → ScreenByte v (a - g)
 unfolding inScreen
 on-screen v g a z e f =
     let s = screenBytes (geometry v) in
-    let p = and-true (leb g a) (ltb a (g + s)) (sym e ∙ f) in
-    let l : a < g + s = ltb-true a (g + s) (p .1) in
-    let k : s ≤ v .stride * 256 = mul-le-mul-left (v .stride) (z .glass .high) in
-    (omega (arith, z .glass .cursor), omega arith)
+    let l : a < g + s = ltb-true a (g + s) (and-true (leb g a) (ltb a (g + s)) (sym e ∙ f) .1) in
+    record { suits = z; below = omega (arith, z .is-screen, from-base v g a e f) }
 
--- the column and the line of a screen byte
-pub byte-place : (st i : ℕ) → i < st * 256 → (i % st < st) × (i / st < 256)
-byte-place st i h =
-    let l : 0 < st = omega arith in
-    (mod-lt i l, div-lt-iff-lt-mul {k = st} l .1 (rw (mul-comm 256 st) h))
+-- ---- the line and the column of a screen byte
+
+module _ {v : Glass} {i : ℕ} (b : ScreenByte v i) where
+  -- a glass has up to 256 lines of up to 32 bytes
+  lines : (0 < v .stride) × (v .stride ≤ 32) × (i < v .stride * 256)
+  lines =
+      let z = b .suits in
+      omega (arith, b, z .is-screen, z .glass .columns, z .glass .cursor, mul-le-mul-left (v .stride) (z .glass .high))
+
+  pub product-fits : i * v .reciprocal < 2 ^ 64
+  product-fits =
+      let m = v .reciprocal in
+      let l : i ≤ 65535 = omega (arith, b, b .suits .is-screen, b .suits .glass .screen) in
+      omega (arith, lines, b .suits .is-reciprocal, mul-le-mul-right m l, mul-le-mul-right m (lines .0))
+
+  pub line-found : i * v .reciprocal / 2 ^ 18 ≡ i / v .stride
+  line-found = line-of-byte (b .suits .is-reciprocal) (lines .1) i (lines .2)
+
+  pub column-found : v .stride * (i * v .reciprocal / 2 ^ 18) + i % v .stride ≡ i
+  column-found = column-of-byte (b .suits .is-reciprocal) (lines .1) i (lines .2)
+
+  pub line-below : i / v .stride < 256
+  line-below = div-lt-iff-lt-mul (lines .0) .1 (omega (arith, lines))
+
+  pub column-below : i % v .stride < 32
+  column-below = omega (arith, mod-lt i (lines .0), lines)
 
 module _ {v : Glass} {r : List ℕ} {h : Head} {m : List ℕ} (w : Given v r h m) (a b : ℕ) where
   pub poke-ignored : {t : Bool} → t ≡ ignored (decode (geometry v) r .keys) a → t ≡ true

@@ -3,17 +3,19 @@ use marks::span::owed_as_is;
 use model::Head;
 use model::Rect;
 use model::glass::Glass;
+use model::glass::RECIPROCAL_BITS;
 use record::keys;
 use record::update;
 ghost use mathlib.Core.Path.{_≡_};
 ghost use mathlib.Core.List.{[]};
-ghost use Prim.Native.Nat.{_*_, _<_, _≤_};
+ghost use Prim.Native.Nat.{_+_, _*_, _/_, _%_};
 ghost use Rattle.model.specs.Glass.{geometry, Suits};
 ghost use Rattle.model.specs.Record.{decode};
 ghost use Rattle.model.specs.Poke.{ignored, inScreen, byteRect};
 ghost use Rattle.model.specs.Calls.{writeByte, lent, answered, done};
 ghost use Rattle.laws.specs.Panels.{Known};
 ghost use Rattle.record.specs.Given.{Given};
+ghost use Rattle.accepted.specs.ScreenByte.{ScreenByte};
 
 // Addresses from 0xe000 on and key addresses.
 fn is_ignored(rec: &[u8], glass: Glass, address: u16) -> bool
@@ -31,13 +33,29 @@ fn in_screen(glass: Glass, graphics: u16, address: u16) -> bool
     (graphics <= address) & ((address as usize) < end)
 }
 
-// The eight pixels of a screen byte.
-fn byte_rect(stride: usize, i: usize) -> Rect
-    requires { ⌜ (stride ≤ 32) × (i < stride * 256) ⌝ }
-    ensures { λ r. ⌜ r ≡ byteRect stride i ⌝ }
+// The line of screen byte i: a product and a shift.
+fn line_of(glass: Glass, i: usize) -> usize
+    requires { ⌜ ScreenByte glass i ⌝ }
+    ensures { λ r. ⌜ (r ≡ i / glass .stride) × (glass .stride * r + i % glass .stride ≡ i) ⌝ }
 {
-    let left = (8 * (i % stride)) as u16;
-    let top = (i / stride) as u16;
+    (i * glass.reciprocal) >> RECIPROCAL_BITS
+}
+
+// Its column: what is left of i.
+fn column_of(glass: Glass, i: usize) -> usize
+    requires { ⌜ ScreenByte glass i ⌝ }
+    ensures { λ r. ⌜ r ≡ i % glass .stride ⌝ }
+{
+    i - glass.stride * line_of(glass, i)
+}
+
+// The eight pixels of screen byte i.
+fn byte_rect(glass: Glass, i: usize) -> Rect
+    requires { ⌜ ScreenByte glass i ⌝ }
+    ensures { λ r. ⌜ r ≡ byteRect (glass .stride) i ⌝ }
+{
+    let left = (8 * column_of(glass, i)) as u16;
+    let top = line_of(glass, i) as u16;
     Rect {
         left: left,
         top: top,
@@ -58,6 +76,6 @@ pub fn write_byte(rec: &mut [u8], memory: &mut [u8], glass: Glass, h: Head, addr
     if !in_screen(glass, graphics, address) {
         return;
     }
-    let q = byte_rect(glass.stride, (address - graphics) as usize);
+    let q = byte_rect(glass, (address - graphics) as usize);
     update::mark_head(rec, h, owed_as_is(q));
 }

@@ -18,6 +18,7 @@ pub mod Panels
 pub mod StateTest
 pub mod Loops
 pub mod Glasses
+pub mod Reciprocals
 pub mod Updates
 pub mod Sending
 pub mod Opening

@@ -1,7 +1,7 @@
 -- The glass by value, as the code has it: the geometry that it stands for, and that its other numbers follow from it.
 use mathlib.Core.Path.{_≡_}
 use mathlib.Core.Bool.{true}
-use Prim.Native.Nat.{ℕ, _+_, _-_, _*_, _≤_, _<_}
+use Prim.Native.Nat.{ℕ, _+_, _-_, _*_, _^_, _≤_, _<_}
 use Rattle.model.specs.declared.glass.Glass.{Glass}
 use Rattle.model.specs.declared.Canvas.{Canvas}
 use Rattle.model.specs.Geometry.{Geometry, base, width, height, glyphHeight, rows, columns, cells, screenBytes}
@@ -36,9 +36,15 @@ geometry v = record { stride = v .stride; bands = v .bands; band = v .band; pane
 abbrev pub canvas : Glass → Canvas
 canvas v = record { stride = v .stride; height = v .height }
 
+-- m is p / n, rounded up
+pub record RoundedUp (p n m : ℕ) : Type 0 where
+  pub least : p ≤ n * m
+  pub most : n * m < p + n
+
 -- every number of a glass follows from its geometry
 pub record Suits (v : Glass) : Type 0 where
   pub glass : IsGlass (geometry v)
+  pub is-reciprocal : RoundedUp (2 ^ 18) (v .stride) (v .reciprocal)
   pub is-width : v .width ≡ width (geometry v)
   pub is-height : v .height ≡ height (geometry v)
   pub is-rows : v .rows ≡ rows (geometry v)

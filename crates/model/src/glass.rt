@@ -6,6 +6,8 @@ pub struct Glass {
     pub bands: usize,
     pub band: u16,
     pub panels: usize,
+    // two to RECIPROCAL_BITS by the stride, rounded up
+    pub reciprocal: usize,
     // the screen in pixels and in bytes, the text cells
     pub width: u16,
     pub height: u16,
@@ -30,6 +32,7 @@ pub const SMALL: Glass = Glass {
     bands: 1,
     band: 80,
     panels: 4,
+    reciprocal: 13108,
     width: 160,
     height: 80,
     screen: SCREEN_BYTES,
@@ -44,6 +47,9 @@ pub const SMALL: Glass = Glass {
     flags: 70,
     others: 170,
 };
+
+// The line of a screen byte is found by a product with the reciprocal and a shift by so many bits, which do for 256 lines of up to 32 bytes.
+pub const RECIPROCAL_BITS: usize = 18;
 
 // The head of the record, the same for every glass: the first panel's part follows it.
 pub const HEAD_BYTES: usize = 18;

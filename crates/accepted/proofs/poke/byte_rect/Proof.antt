@@ -1,33 +1,42 @@
 use native.Mathlib.Omega.{arith}
-use Rattle.accepted.proofs.Poking.{byte-place}
+use Rattle.accepted.proofs.Poking.{line-below, column-below}
 use borrow.Author.Needs.{needs}
 use Rattle.accepted.proofs.poke.byte_rect.Statement.{statement}
 use Rattle.accepted.proofs.poke.byte_rect.Tie as tie
 
-rem-left : tie.Need-rem-left
-rem-left c = search needs
+column-of-requires : tie.Need-column-of-requires
+column-of-requires c κs = search needs
 
 mul-left : tie.Need-mul-left
-mul-left c = omega (arith, c .pre, byte-place (c .args .stride) (c .args .i) (c .pre .1))
+mul-left c = omega (arith, column-below)
 
 cast-left : tie.Need-cast-left
-cast-left c = omega (arith, c .pre, byte-place (c .args .stride) (c .args .i) (c .pre .1))
+cast-left c = omega (arith, column-below)
 
-div-top : tie.Need-div-top
-div-top c = search needs
+line-of-requires : tie.Need-line-of-requires
+line-of-requires c κs = search needs
 
 cast-top : tie.Need-cast-top
-cast-top c = omega (arith, c .pre, byte-place (c .args .stride) (c .args .i) (c .pre .1))
+cast-top c = omega (arith, line-below)
 
 add-t7 : tie.Need-add-t7
-add-t7 c = omega (arith, c .pre, byte-place (c .args .stride) (c .args .i) (c .pre .1))
+add-t7 c = omega (arith, column-below)
 
 add-t8 : tie.Need-add-t8
-add-t8 c = omega (arith, c .pre, byte-place (c .args .stride) (c .args .i) (c .pre .1))
+add-t8 c = omega (arith, line-below)
 
 returns : tie.Need-returns
-returns c = search needs
+returns c = cc
 
 pub byte-rect-spec : {M : Type 1} → statement M
 byte-rect-spec =
-    tie.close (tie.spec rem-left mul-left cast-left div-top cast-top add-t7 add-t8 returns)
+    tie.close
+    (tie.spec
+    column-of-requires
+    mul-left
+    cast-left
+    line-of-requires
+    cast-top
+    add-t7
+    add-t8
+    returns)

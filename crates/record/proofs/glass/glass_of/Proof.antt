@@ -1,5 +1,6 @@
 -- Each number of the glass follows from the geometry by computing.
 use mathlib.Core.Path.{refl}
+use native.Mathlib.Omega.{arith}
 use Rattle.model.specs.Record.{total, offset}
 use Rattle.laws.specs.Glasses.{base-glass}
 use Rattle.record.proofs.glass.glass_of.Statement.{statement}
@@ -10,6 +11,7 @@ unfolding total offset
 returns c = record {
   suits = record {
     glass = base-glass;
+    is-reciprocal = omega arith;
     is-width = refl;
     is-height = refl;
     is-rows = refl;
