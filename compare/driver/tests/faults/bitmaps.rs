@@ -186,7 +186,7 @@ fn a_source_over_the_screen_that_is_taken_for_one_apart() {
     assert_both_found!(Fault::ReadsPaintedFromBefore, 3);
 }
 
-/// So seldom by chance that the exhaustive lists must find it; bitmaps are their first.
+/// So seldom by chance that the exhaustive lists must find it; bitmaps are among their first.
 #[test]
 fn a_source_that_shares_the_screens_first_byte_alone() {
     let core = |call: &Call, lent: Lent| Some(answer(call, lent, Fault::ReadsPaintedFirstByte));
