@@ -14,6 +14,7 @@ macro_rules! assert_both_found {
 mod bitmaps;
 mod gap;
 mod panels;
+mod pokes;
 
 use calls::layout::*;
 use calls::{Answer, Call, Lent};
