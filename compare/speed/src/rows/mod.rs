@@ -4,6 +4,7 @@ mod bitmaps;
 mod cues;
 mod drawings;
 mod flushes;
+mod pokes;
 mod sends;
 mod text;
 
@@ -31,6 +32,7 @@ pub fn rows(core: Option<Answering>) -> Vec<Row> {
         set_row("set_row, all owed, plain Rust with its tests", all_owed(), core),
     ];
     rows.extend(drawings::rows(core));
+    rows.extend(pokes::rows(core));
     rows.extend(bitmaps::rows(core));
     rows.extend(text::rows(core));
     rows.extend(flushes::rows(core));
