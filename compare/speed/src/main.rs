@@ -1,6 +1,7 @@
 //! How long calls take, core against reference, or against plain Rust or the core's own other calls where
 //! a row says so.
 
+mod before;
 mod limits;
 mod measure;
 mod plain;
@@ -30,6 +31,9 @@ fn main() {
         if !report(row) {
             over.push(name);
         }
+    }
+    if let (Some(before), Some(now)) = (before::linked(), core) {
+        before::report(before, now);
     }
     if !over.is_empty() {
         println!("over the limit: {}", over.join("; "));
@@ -61,10 +65,10 @@ fn report(row: Row) -> bool {
         return true;
     };
     let holds = |measured: &Measured| limit.is_none_or(|limit| measured.ratio <= limit);
-    let mut lowest = measure(&mut *rust, &mut *core);
+    let mut lowest = measure(&mut *rust, &mut core);
     for _ in 0..MORE_TRIES {
         if !holds(&lowest) {
-            lowest = lowest.or_lower(measure(&mut *rust, &mut *core));
+            lowest = lowest.or_lower(measure(&mut *rust, &mut core));
         }
     }
     println!("{name:<64}{:>10.1}{:>10.1}{:>8.2}{bound:>8}", lowest.rust, lowest.core, lowest.ratio);

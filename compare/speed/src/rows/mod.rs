@@ -10,7 +10,7 @@ mod text;
 
 use crate::limits;
 use crate::plain;
-use crate::side::{OnBytes, OnReference, Side};
+use crate::side::{ByCore, OnBytes, OnReference, Side};
 use calls::layout::*;
 use calls::{Buffers, Call};
 use driver::core_side::Answering;
@@ -21,7 +21,7 @@ pub struct Row {
     pub name: String,
     /// The reference, plain Rust, or the core itself, as the name says.
     pub rust: Box<dyn Side>,
-    pub core: Option<Box<dyn Side>>,
+    pub core: Option<ByCore>,
     pub limit: Option<f64>,
 }
 
@@ -57,9 +57,7 @@ impl Row {
         buffers: Buffers,
         work: impl Fn(Answering, &mut Buffers) + 'static,
     ) -> Self {
-        let side = core.map(|core| -> Box<dyn Side> {
-            Box::new(OnBytes { buffers, work: move |buffers: &mut Buffers| work(core, buffers) })
-        });
+        let side = core.map(|core| ByCore::new(buffers, move |buffers| work(core, buffers)));
         Self { core: side, ..self }
     }
 
