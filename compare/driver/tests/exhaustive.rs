@@ -1,11 +1,11 @@
 //! The exhaustive lists show every pair that a text can hold: outside the gap compared with the
 //! reference, in the gap both by the extra list and in hexadecimal. Both painters paint at every place
-//! in a byte, over the edges of the glass, and from sources over the screen.
+//! in a byte, over the edges of the glass, and from sources over the screen. Every screen byte is poked.
 
-use calls::layout::{SCREEN_MODE, VERSION};
-use calls::{Call, FontsLent, Painting};
+use calls::layout::*;
+use calls::{Buffers, Call, FontsLent, Painting};
 use driver::exhaustive;
-use driver::list::List;
+use driver::list::{Lending, List};
 use reference::{Reference, in_gap};
 use std::collections::HashSet;
 
@@ -111,4 +111,90 @@ fn sources_lie_over_the_screen_in_every_way() {
     // No order of lines is right here.
     let over_its_source = Painting { address: 4096 - 100, x: 0, y: 0, width: 255, height: 80, mode: 0 };
     assert!(exhaustive::paintings().any(|painting| painting == over_its_source));
+}
+
+/// Screens whose bytes are all taken: the first above all key addresses, an odd one, the last below 0xe000.
+const TAKEN: [u16; 3] = [256, 4_097, 55_744];
+
+/// Where the screen lies after a list's start and its first call.
+fn graphics_base(list: &List) -> Option<u16> {
+    match (&list.start.record, &list.steps[0].call) {
+        (Some(record), _) => Some(word(record, GRAPHICS_BASE)),
+        (None, Call::Open { graphics_base, .. }) => Some(*graphics_base),
+        _ => None,
+    }
+}
+
+/// The lists with each of these screens.
+fn lists_at_taken() -> [Vec<List>; 3] {
+    let mut found = [vec![], vec![], vec![]];
+    for list in exhaustive::lists() {
+        if let Some(place) = TAKEN.iter().position(|base| graphics_base(&list) == Some(*base)) {
+            found[place].push(list);
+        }
+    }
+    found
+}
+
+/// The screen's bytes, the one before and the one behind.
+fn due_at(base: u16) -> Vec<u16> {
+    (base - 1..=base + 1600).collect()
+}
+
+/// What the reference marks for this poke, on a record with nothing marked over zeros: on the screen the
+/// byte's eight pixels, beside it nothing. A screen byte is there then.
+fn assert_mark(reference: &mut Reference, record: &[u8], address: u16, byte: u8) {
+    reference.load(record, &[0; MEMORY]);
+    reference.call(&Call::WriteByte { address, byte });
+    let dirty = four(&reference.record(), DIRTY);
+    let place = address.wrapping_sub(word(record, GRAPHICS_BASE));
+    if place < 1600 {
+        let (left, top) = (8 * (place % 20), place / 20);
+        assert_eq!(dirty, [left, top, left + 8, top + 1], "{address}");
+        assert!(byte != 0 && reference.memory()[address as usize] == byte, "{address}");
+    } else {
+        assert_eq!(dirty, [0; 4], "{address}");
+    }
+}
+
+#[test]
+fn every_screen_byte_is_poked_and_its_mark_shows() {
+    let mut reference = Reference::default();
+    for (base, lists) in TAKEN.into_iter().zip(lists_at_taken()) {
+        let mut poked = HashSet::new();
+        for list in lists {
+            let Some(record) = list.start.record else { continue };
+            for step in list.steps {
+                if let (Call::WriteByte { address, byte }, Lending::Unmarked) = (step.call, step.lending) {
+                    assert_mark(&mut reference, &record, address, byte);
+                    poked.insert(address);
+                }
+            }
+        }
+        let missing: Vec<u16> = due_at(base).into_iter().filter(|due| !poked.contains(due)).collect();
+        assert!(missing.is_empty(), "screen at {base}: {missing:?} are not poked");
+    }
+}
+
+/// The addresses that a list pokes from an open, whose panels are level at its first poke.
+fn poked_from_level(list: &List) -> Vec<u16> {
+    let mut buffers = Buffers::zero();
+    let mut poked = vec![];
+    for step in &list.steps {
+        if let Call::WriteByte { address, .. } = step.call {
+            let pending = (0..PANELS).map(|panel| &buffers.record[part(panel)][..16]);
+            assert!(!poked.is_empty() || pending.into_iter().all(|rects| rects == [0; 16]), "{list}");
+            poked.push(address);
+        }
+        model::answer(&step.call, buffers.lend(&step.call));
+    }
+    poked
+}
+
+#[test]
+fn every_screen_byte_is_poked_from_level_panels() {
+    for (base, lists) in TAKEN.into_iter().zip(lists_at_taken()) {
+        let opened = lists.iter().filter(|list| list.start.record.is_none());
+        assert_eq!(opened.flat_map(poked_from_level).collect::<Vec<_>>(), due_at(base));
+    }
 }

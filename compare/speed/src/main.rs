@@ -1,6 +1,7 @@
 //! How long calls take, core against reference, or against plain Rust or the core's own other calls where
 //! a row says so.
 
+mod before;
 mod limits;
 mod measure;
 mod plain;
@@ -31,6 +32,9 @@ fn main() {
             over.push(name);
         }
     }
+    if let (Some(before), Some(now)) = (before::linked(), core) {
+        before::report(before, now);
+    }
     if !over.is_empty() {
         println!("over the limit: {}", over.join("; "));
         std::process::exit(1);
@@ -41,7 +45,7 @@ fn print_columns() {
     println!(
         "Each row: {PAIRS} pairs of slices of about {} microseconds, Rust and core in turn.
 Rust ns  one turn of the reference, or of what the name says: plain Rust, the core's pixel painter, its
-         set_row with a plain copy. The median
+         set_row with a plain copy or as often as there are calls. The median
 core ns  one turn of the core: the median
 ratio    core / Rust within a pair: the median
 limit    what the ratio may be at most, - where none was set. A row above it is measured up to
@@ -61,10 +65,10 @@ fn report(row: Row) -> bool {
         return true;
     };
     let holds = |measured: &Measured| limit.is_none_or(|limit| measured.ratio <= limit);
-    let mut lowest = measure(&mut *rust, &mut *core);
+    let mut lowest = measure(&mut *rust, &mut core);
     for _ in 0..MORE_TRIES {
         if !holds(&lowest) {
-            lowest = lowest.or_lower(measure(&mut *rust, &mut *core));
+            lowest = lowest.or_lower(measure(&mut *rust, &mut core));
         }
     }
     println!("{name:<64}{:>10.1}{:>10.1}{:>8.2}{bound:>8}", lowest.rust, lowest.core, lowest.ratio);

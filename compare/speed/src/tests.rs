@@ -1,9 +1,12 @@
 //! What is measured is the same work on both sides, here with the model in the place of the core.
 
+use crate::before::{Pair, pairs};
 use crate::plain;
 use crate::rows::{Row, rows};
+use crate::side::Side;
 use calls::layout::PANELS;
 use calls::{Answer, Buffers, Call, Lent};
+use driver::core_side::Answering;
 use driver::random::Random;
 
 fn model(call: &Call, lent: Lent) -> Option<Answer> {
@@ -17,8 +20,9 @@ fn both_sides_leave_the_same() {
         for turns in [1, 1, 2, 3] {
             row.rust.run(turns);
             core.run(turns);
-            assert!(row.rust.memory() == core.memory(), "{}: memory", row.name);
-            assert!(row.rust.panels() == core.panels(), "{}: panels", row.name);
+            let (by_rust, by_core) = (row.rust.left(), core.left());
+            assert!(by_rust.memory == by_core.memory, "{}: memory", row.name);
+            assert!(by_rust.panels == by_core.panels, "{}: panels", row.name);
         }
     }
 }
@@ -35,6 +39,48 @@ fn without_a_painter_by_bytes_nothing_of_it_is_measured() {
     assert_eq!(with.iter().filter(|row| of_core(row)).count(), 3);
     assert!(with.iter().all(|row| row.core.is_some()));
     assert!(!without.is_empty() && !without.iter().any(|row| of_core(row) || row.core.is_some()));
+}
+
+/// What each library before has in common with the model, by the rows' names: measured ones, and such as
+/// are not the same work.
+fn compared_with_model(before: Answering) -> [Vec<String>; 2] {
+    let (same, others): (Vec<Pair>, Vec<Pair>) = pairs(before, model).into_iter().partition(|pair| pair.same);
+    [same, others].map(|pairs| pairs.into_iter().map(|pair| pair.name).collect())
+}
+
+#[test]
+fn a_library_before_that_does_the_same() {
+    let all: Vec<String> = rows(Some(model)).into_iter().map(|row| row.name).collect();
+    assert_eq!(compared_with_model(model), [all, vec![]]);
+}
+
+#[test]
+fn rows_whose_call_the_library_before_lacks_are_left_out() {
+    let [same, others] = compared_with_model(|call, lent| {
+        let lacks = matches!(call, Call::Newline | Call::PaintBitmapByBytes { .. });
+        if lacks { None } else { model(call, lent) }
+    });
+    let without =
+        |name: &&String| !["newline", "cue", "bitmap by bytes"].iter().any(|of| name.starts_with(of));
+    let all: Vec<String> = rows(Some(model)).into_iter().map(|row| row.name).collect();
+    assert_eq!((same.iter().collect(), others.len()), (all.iter().filter(without).collect::<Vec<_>>(), 0));
+}
+
+#[test]
+fn other_bytes_or_answers_of_the_library_before_are_seen() {
+    let [_, other_bytes] = compared_with_model(|call, lent| match *call {
+        Call::WriteByte { address, byte } => model(&Call::WriteByte { address, byte: byte ^ 1 }, lent),
+        _ => model(call, lent),
+    });
+    assert!(
+        other_bytes.len() == 3 && other_bytes.iter().all(|name| name.contains("poke")),
+        "{other_bytes:?}"
+    );
+    let [_, other_answers] = compared_with_model(|call, lent| {
+        let answer = model(call, lent);
+        if *call == Call::Cls { answer.map(|_| Answer { code: 1, numbers: [0; 4] }) } else { answer }
+    });
+    assert_eq!(other_answers.len(), 3, "{other_answers:?}");
 }
 
 /// Bytes of any kind under a record that is valid, or has one byte changed.

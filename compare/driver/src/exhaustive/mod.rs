@@ -3,6 +3,7 @@
 mod bitmaps;
 mod drawing;
 mod numbers;
+mod pokes;
 mod records;
 mod text;
 
@@ -14,12 +15,13 @@ use calls::layout::*;
 
 /// All of them, one after another.
 pub fn lists() -> impl Iterator<Item = List> {
-    let drawn = bitmaps::lists().chain(drawing::lists());
-    drawn.chain(text::lists()).chain(records::lists()).chain(numbers::lists())
+    let drawn = pokes::screen_bytes().chain(bitmaps::lists()).chain(drawing::lists());
+    let others = text::lists().chain(records::lists()).chain(numbers::lists());
+    drawn.chain(others).chain(pokes::all_addresses())
 }
 
-/// Calls in a list at most: a multiple of 2, 3, 6 and 9, the numbers of calls that belong together,
-/// as setting a mode, printing and flushing do.
+/// Calls in a list at most, those that all lists start with not counted: a multiple of 2, 3, 6 and 9, the
+/// numbers of calls that belong together, as setting a mode, printing and flushing do.
 const CALLS: usize = 126;
 
 /// `panelrun`'s windows.
@@ -55,13 +57,18 @@ fn unmarked(calls: impl Iterator<Item = Call>) -> impl Iterator<Item = Step> {
 
 /// Cut a stream of calls into lists that each start with this open, so that demand 3 is due.
 fn opened(open: Call, calls: impl Iterator<Item = Call>) -> impl Iterator<Item = List> {
+    after(vec![open], calls)
+}
+
+/// The same, each list starting with these calls, the first of them an open.
+fn after(first: Vec<Call>, calls: impl Iterator<Item = Call>) -> impl Iterator<Item = List> {
     let mut calls = calls;
     let mut seed = 0;
     std::iter::from_fn(move || {
         let part: Vec<Call> = calls.by_ref().take(CALLS).collect();
         seed += 1;
         (!part.is_empty()).then(|| {
-            let all = std::iter::once(open.clone()).chain(part);
+            let all = first.iter().cloned().chain(part);
             List { start: Start::unopened(seed), steps: all.map(Step::from).collect() }
         })
     })

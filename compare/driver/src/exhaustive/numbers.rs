@@ -1,14 +1,14 @@
-//! Every number that a call can be told where it is one byte, every poked address, and points
-//! checked all over the glass and beside it.
+//! Every number that a call can be told where it is one byte, and points checked all over the glass and
+//! beside it.
 
-use super::{bytes, from_record, opened, record};
+use super::{bytes, from_record, record};
 use crate::list::{List, Step};
 use calls::{Call, Painting};
 
 pub fn lists() -> impl Iterator<Item = List> {
     let told = told().map(Step::from);
     let checked = checked_points().map(Step::from);
-    from_record(record(1, 0, 0), told).chain(from_record(record(1, 0, 0), checked)).chain(pokes())
+    from_record(record(1, 0, 0), told).chain(from_record(record(1, 0, 0), checked))
 }
 
 /// Every mode, version, flag, row, column and panel's number, listed or not.
@@ -51,23 +51,4 @@ fn checked_points() -> impl Iterator<Item = Call> {
     let far = [i32::MIN, i32::MIN + 5, -256, 255, 256, 65_536 + 5, i32::MAX - 5, i32::MAX];
     let beside = far.into_iter().flat_map(|n| [(n, 5), (5, n), (n, n)]);
     near.chain(beside).map(|(x, y)| Call::CheckPoint { x, y })
-}
-
-/// Every address poked, with the windows at both ends of memory, on key addresses and around
-/// 0xe000.
-fn pokes() -> impl Iterator<Item = List> {
-    let layouts = [
-        (0, 1600, [0x8000_0001; 8]),
-        (63_935, 0, [u32::MAX; 8]),
-        (0xe000 - 800, 0xe000 - 900, [0; 8]),
-        (100, 65_435, [0x00ff_ff00; 8]),
-    ];
-    layouts.into_iter().flat_map(|(graphics_base, text_base, keys)| {
-        let open = Call::Open { graphics_base, text_base, version: 0, keys };
-        let pokes = (0..=65_535).map(|address: u16| {
-            let byte = (address as u8).wrapping_mul(7) ^ (address >> 8) as u8 ^ 0xa5;
-            Call::WriteByte { address, byte }
-        });
-        opened(open, pokes)
-    })
 }

@@ -135,14 +135,6 @@ fn answer(call: &Call, mut lent: Lent, fault: Fault) -> Answer {
     answer
 }
 
-/// A macro, as core and model are plain functions.
-macro_rules! assert_both_found {
-    ($fault:expr, $most_steps:expr) => {
-        assert_found(|call, lent| Some(answer(call, lent, $fault)), $most_steps);
-        assert_model_found(|call, lent| answer(call, lent, $fault), $most_steps);
-    };
-}
-
 #[test]
 fn this_painter_by_bytes_without_a_fault() {
     let whole = |call: &Call, lent: Lent| Some(answer(call, lent, Fault::None));
@@ -151,42 +143,42 @@ fn this_painter_by_bytes_without_a_fault() {
 
 #[test]
 fn a_shift_the_wrong_way() {
-    assert_both_found!(Fault::ShiftsTheOtherWay, 3);
+    assert_both_found!(answer(Fault::ShiftsTheOtherWay), 3);
 }
 
 #[test]
 fn an_edge_byte_whose_other_bits_are_lost() {
-    assert_both_found!(Fault::LosesBitsBefore, 3);
-    assert_both_found!(Fault::LosesBitsBehind, 3);
+    assert_both_found!(answer(Fault::LosesBitsBefore), 3);
+    assert_both_found!(answer(Fault::LosesBitsBehind), 3);
 }
 
 #[test]
 fn bits_beside_the_sources_line_that_are_painted() {
-    assert_both_found!(Fault::PaintsByteBefore, 3);
-    assert_both_found!(Fault::PaintsPadding, 3);
+    assert_both_found!(answer(Fault::PaintsByteBefore), 3);
+    assert_both_found!(answer(Fault::PaintsPadding), 3);
 }
 
 #[test]
 fn the_last_source_byte_not_read() {
-    assert_both_found!(Fault::MissesLastByte, 3);
+    assert_both_found!(answer(Fault::MissesLastByte), 3);
 }
 
 #[test]
 fn a_source_read_while_it_is_painted_over() {
-    assert_both_found!(Fault::ReadsPainted, 3);
+    assert_both_found!(answer(Fault::ReadsPainted), 3);
 }
 
 #[test]
 fn an_order_of_lines_in_the_place_of_a_copy() {
-    assert_both_found!(Fault::ReadsPaintedUpwards, 3);
+    assert_both_found!(answer(Fault::ReadsPaintedUpwards), 3);
 }
 
 #[test]
 fn a_source_over_the_screen_that_is_taken_for_one_apart() {
-    assert_both_found!(Fault::ReadsPaintedFromBefore, 3);
+    assert_both_found!(answer(Fault::ReadsPaintedFromBefore), 3);
 }
 
-/// So seldom by chance that the exhaustive lists must find it; bitmaps are their first.
+/// So seldom by chance that the exhaustive lists must find it; bitmaps are among their first.
 #[test]
 fn a_source_that_shares_the_screens_first_byte_alone() {
     let core = |call: &Call, lent: Lent| Some(answer(call, lent, Fault::ReadsPaintedFirstByte));

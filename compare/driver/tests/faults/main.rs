@@ -2,9 +2,19 @@
 //! model with something spoiled. The same spoiled model in the place of the model itself, with no
 //! core beside it, is found by what the judge reckons from the list alone.
 
+/// A fault as a core's and as a model's: of a function that takes call and lent bytes, and what is wrong
+/// where there is a choice. A macro, as both are plain functions.
+macro_rules! assert_both_found {
+    ($answer:ident $(($fault:expr))?, $most_steps:expr) => {
+        assert_found(|call, lent| Some($answer(call, lent $(, $fault)?)), $most_steps);
+        assert_model_found(|call, lent| $answer(call, lent $(, $fault)?), $most_steps);
+    };
+}
+
 mod bitmaps;
 mod gap;
 mod panels;
+mod pokes;
 
 use calls::layout::*;
 use calls::{Answer, Call, Lent};

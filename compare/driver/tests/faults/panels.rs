@@ -12,14 +12,6 @@ fn named(call: &Call) -> Option<usize> {
     }
 }
 
-/// A fault as a core's and as a model's. A macro, as both are plain functions.
-macro_rules! assert_both_found {
-    ($answer:ident, $most_steps:expr) => {
-        assert_found(|call, lent| Some($answer(call, lent)), $most_steps);
-        assert_model_found($answer, $most_steps);
-    };
-}
-
 /// The model, and then the panels' parts of the record as they were, for some panels.
 fn parts_stay(call: &Call, lent: Lent, panels: impl Iterator<Item = usize>) -> Answer {
     let before = lent.record.to_vec();

@@ -1,4 +1,4 @@
-//! Drawings, bitmaps and pokes.
+//! Drawings, bitmaps and a poke.
 
 use super::{Row, opened};
 use crate::limits;

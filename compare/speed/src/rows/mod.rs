@@ -4,12 +4,13 @@ mod bitmaps;
 mod cues;
 mod drawings;
 mod flushes;
+mod pokes;
 mod sends;
 mod text;
 
 use crate::limits;
 use crate::plain;
-use crate::side::{OnBytes, OnReference, Side};
+use crate::side::{ByCore, OnBytes, OnReference, Side};
 use calls::layout::*;
 use calls::{Buffers, Call};
 use driver::core_side::Answering;
@@ -20,7 +21,7 @@ pub struct Row {
     pub name: String,
     /// The reference, plain Rust, or the core itself, as the name says.
     pub rust: Box<dyn Side>,
-    pub core: Option<Box<dyn Side>>,
+    pub core: Option<ByCore>,
     pub limit: Option<f64>,
 }
 
@@ -31,6 +32,7 @@ pub fn rows(core: Option<Answering>) -> Vec<Row> {
         set_row("set_row, all owed, plain Rust with its tests", all_owed(), core),
     ];
     rows.extend(drawings::rows(core));
+    rows.extend(pokes::rows(core));
     rows.extend(bitmaps::rows(core));
     rows.extend(text::rows(core));
     rows.extend(flushes::rows(core));
@@ -55,9 +57,7 @@ impl Row {
         buffers: Buffers,
         work: impl Fn(Answering, &mut Buffers) + 'static,
     ) -> Self {
-        let side = core.map(|core| -> Box<dyn Side> {
-            Box::new(OnBytes { buffers, work: move |buffers: &mut Buffers| work(core, buffers) })
-        });
+        let side = core.map(|core| ByCore::new(buffers, move |buffers| work(core, buffers)));
         Self { core: side, ..self }
     }
 

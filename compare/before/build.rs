@@ -1,0 +1,94 @@
+//! Links a copy of an earlier landing's static library, all its symbols renamed so that it can stand beside
+//! that of today, and copies core's source to call it by the new names.
+
+use calls::Call;
+use std::path::{Path, PathBuf};
+use std::process::Command;
+use std::{env, fs};
+
+const PREFIX: &str = "before_";
+
+fn main() {
+    let library = library();
+    let out = PathBuf::from(env::var("OUT_DIR").unwrap());
+    let symbols = defined_symbols(&library);
+    write_renamed(&library, &symbols, &out);
+    println!("cargo:rustc-link-search=native={}", out.display());
+    println!("cargo:rustc-link-lib=static:-bundle=caption_before");
+    say_calls(&symbols, &out);
+    copy_source(&out);
+}
+
+/// That of the folder which CAPTION_BEFORE names.
+fn library() -> PathBuf {
+    println!("cargo:rerun-if-env-changed=CAPTION_BEFORE");
+    let advice = "it names the folder of an earlier landing's libcaption.a, by its whole path";
+    let folder = env::var_os("CAPTION_BEFORE");
+    let library = Path::new(&folder.unwrap_or_else(|| panic!("CAPTION_BEFORE is not set: {advice}")))
+        .join("libcaption.a");
+    println!("cargo:rerun-if-changed={}", library.display());
+    assert!(library.exists(), "CAPTION_BEFORE: there is no {}: {advice}", library.display());
+    library
+}
+
+/// The symbols that other objects see.
+fn defined_symbols(library: &Path) -> Vec<String> {
+    let mut nm = Command::new("nm");
+    let listed = run(nm.args(["--defined-only", "--extern-only", "--format=posix"]).arg(library));
+    // A line is: name, kind, value; a member's name stands alone.
+    let names = listed.lines().filter_map(|line| line.split_once(' '));
+    let mut names: Vec<String> = names.map(|(name, _)| name.to_string()).collect();
+    names.sort();
+    names.dedup();
+    names
+}
+
+fn write_renamed(library: &Path, symbols: &[String], out: &Path) {
+    let list = out.join("symbols.txt");
+    let lines = symbols.iter().map(|name| format!("{name} {PREFIX}{name}\n"));
+    fs::write(&list, lines.collect::<String>()).unwrap();
+    let mut objcopy = Command::new("objcopy");
+    let by_list = format!("--redefine-syms={}", list.display());
+    run(objcopy.arg(by_list).arg(library).arg(out.join("libcaption_before.a")));
+}
+
+/// What a command of binutils prints.
+fn run(command: &mut Command) -> String {
+    let output = command.output().unwrap_or_else(|error| panic!("{command:?}: {error}"));
+    let [printed, errors] = [output.stdout, output.stderr].map(|bytes| String::from_utf8(bytes).unwrap());
+    assert!(output.status.success(), "{command:?}: {errors}");
+    printed
+}
+
+/// The calls that this library has, as core's source asks for them.
+fn say_calls(symbols: &[String], out: &Path) {
+    let names = Call::NAMES.map(|name| format!("{name:?}")).join(", ");
+    println!("cargo:rustc-check-cfg=cfg(has, values({names}))");
+    let mut calls = String::new();
+    for name in Call::NAMES.iter().filter(|name| symbols.contains(&format!("caption_{name}"))) {
+        println!("cargo:rustc-cfg=has=\"{name}\"");
+        calls += &format!("{name}\n");
+    }
+    fs::write(out.join("calls.txt"), calls).unwrap();
+}
+
+fn copy_source(out: &Path) {
+    let [answer, ffi] = ["../core/src/lib.rs", "../core/src/ffi.rs"].map(|path| {
+        println!("cargo:rerun-if-changed={path}");
+        fs::read_to_string(path).unwrap()
+    });
+    fs::create_dir_all(out.join("library")).unwrap();
+    fs::write(out.join("modules.rs"), "mod library;\n").unwrap();
+    fs::write(out.join("library/mod.rs"), answer).unwrap();
+    fs::write(out.join("library/ffi.rs"), with_new_names(&ffi)).unwrap();
+}
+
+/// The declarations of the C interface, each for the renamed symbol.
+fn with_new_names(ffi: &str) -> String {
+    let line = |line: &str| {
+        let function = line.trim_start().strip_prefix("pub fn ").and_then(|rest| rest.split_once('('));
+        let link_name = function.map(|(name, _)| format!("#[link_name = \"{PREFIX}{name}\"]\n"));
+        format!("{}{line}\n", link_name.unwrap_or_default())
+    };
+    ffi.lines().map(line).collect()
+}

@@ -1,0 +1,141 @@
+//! Faults of a poke that finds line and column of its byte by a product and a shift: the model with the
+//! mark found here in the place of its own. A wrong one lies mostly beside the glass.
+
+use super::{assert_found, assert_model_found, found, found_among, spoiled};
+use calls::layout::*;
+use calls::{Answer, Call, Lent};
+use driver::exhaustive;
+use driver::judge::Judge;
+use driver::list::List;
+
+/// Column and line of a screen byte.
+type Finding = fn(u16) -> [u16; 2];
+
+/// By this multiplier and shift; a line too far down makes the column wrap around.
+fn by_product(byte: u16, multiplier: u32, shift: u32) -> [u16; 2] {
+    let line = ((byte as u32 * multiplier) >> shift) as u16;
+    [byte.wrapping_sub(20 * line), line]
+}
+
+fn right(byte: u16) -> [u16; 2] {
+    by_product(byte, 13_108, 18)
+}
+
+/// 2^18 / 20 rounded down: wrong at the first byte of every line but line 0.
+fn multiplier_one_too_small(byte: u16) -> [u16; 2] {
+    by_product(byte, 13_107, 18)
+}
+
+fn shift_one_too_far(byte: u16) -> [u16; 2] {
+    by_product(byte, 13_108, 19)
+}
+
+/// 2^14 / 20 rounded up: wrong at the last byte of every line from line 51 on.
+fn too_few_bits(byte: u16) -> [u16; 2] {
+    by_product(byte, 820, 14)
+}
+
+/// The column from the line of the byte before: wrong at the first byte of every line but line 0.
+fn column_from_old_line(byte: u16) -> [u16; 2] {
+    let [_, old_line] = right(byte.saturating_sub(1));
+    [byte - 20 * old_line, right(byte)[1]]
+}
+
+fn column_always_0(byte: u16) -> [u16; 2] {
+    [0, right(byte)[1]]
+}
+
+/// Its place on the screen, if this is a poke of a screen byte that is taken.
+fn poked(call: &Call, record: &[u8]) -> Option<u16> {
+    let Call::WriteByte { address, .. } = *call else { return None };
+    let key = address < 256 && record[KEYS + address as usize / 8] >> (address % 8) & 1 == 1;
+    let place = address.checked_sub(word(record, GRAPHICS_BASE))?;
+    (address < 0xe000 && !key && place < SCREEN as u16).then_some(place)
+}
+
+/// The model, with a poke's mark where `finding` finds its byte.
+fn answer(call: &Call, lent: Lent, finding: Finding) -> Answer {
+    let before = lent.record.to_vec();
+    spoiled(call, lent, |answer, lent| {
+        if !answer.accepted() {
+            return;
+        }
+        if let Some(byte) = poked(call, &before) {
+            let [column, line] = finding(byte);
+            let left = column.wrapping_mul(8);
+            mark(lent.record, &before, [left, line, left.wrapping_add(8), line + 1]);
+        }
+    })
+}
+
+/// Dirty and what every panel is owed: as before, with this rectangle added.
+fn mark(record: &mut [u8], before: &[u8], rect: [u16; 4]) {
+    for place in [DIRTY].into_iter().chain((0..PANELS).map(owed)) {
+        let sides = join(four(before, place), rect).map(u16::to_le_bytes);
+        record[place..place + 8].copy_from_slice(&sides.concat());
+    }
+}
+
+fn join(marked: [u16; 4], rect: [u16; 4]) -> [u16; 4] {
+    if marked == [0; 4] {
+        return rect;
+    }
+    let [left, top, right, bottom] = marked;
+    [left.min(rect[0]), top.min(rect[1]), right.max(rect[2]), bottom.max(rect[3])]
+}
+
+/// The exhaustive lists that poke every screen byte are the first: 26 for each of three bases.
+fn pokes() -> impl Iterator<Item = List> {
+    exhaustive::lists().take(78)
+}
+
+/// The first byte whose line is wrong with 2^shift / 20 rounded up.
+fn first_wrong(shift: u32) -> Option<u16> {
+    let multiplier = (1_u32 << shift).div_ceil(20);
+    (0..1600).find(|byte| by_product(*byte, multiplier, shift)[1] != byte / 20)
+}
+
+#[test]
+fn fifteen_bits_are_the_fewest() {
+    assert!((15..=18).all(|shift| first_wrong(shift).is_none()));
+    assert!((0..15).all(|shift| first_wrong(shift).is_some()));
+    assert_eq!(first_wrong(14), Some(1_039));
+    assert_eq!((too_few_bits(1_039)[1], 1_039 / 20), (52, 51));
+}
+
+#[test]
+fn this_poke_without_a_fault() {
+    let whole = |call: &Call, lent: Lent| Some(answer(call, lent, right));
+    assert!(found(|thorough| Judge::new(Some(whole), thorough)).is_none());
+    assert!(found_among(pokes(), |thorough| Judge::new(Some(whole), thorough)).is_none());
+}
+
+#[test]
+fn a_multiplier_one_too_small() {
+    assert_both_found!(answer(multiplier_one_too_small), 2);
+}
+
+#[test]
+fn a_shift_one_too_far() {
+    assert_both_found!(answer(shift_one_too_far), 2);
+}
+
+#[test]
+fn a_column_from_the_line_before() {
+    assert_both_found!(answer(column_from_old_line), 2);
+}
+
+#[test]
+fn a_column_that_is_always_0() {
+    assert_both_found!(answer(column_always_0), 2);
+}
+
+/// Shown at the first byte that it finds wrongly, as the exhaustive lists poke in address order.
+#[test]
+fn a_multiplier_with_too_few_bits() {
+    assert_both_found!(answer(too_few_bits), 2);
+    let core = |call: &Call, lent: Lent| Some(answer(call, lent, too_few_bits));
+    let list = found_among(pokes(), |thorough| Judge::new(Some(core), thorough)).expect("the fault is found");
+    let calls: Vec<Call> = list.steps.into_iter().map(|step| step.call).collect();
+    assert_eq!(calls, [Call::WriteByte { address: 256 + 1_039, byte: 0 }]);
+}
