@@ -65,14 +65,23 @@ module _ {v : Glass} {i : ℕ} (b : ScreenByte v i) where
   pub line-found : i * v .reciprocal / 2 ^ 18 ≡ i / v .stride
   line-found = line-of-byte (b .suits .is-reciprocal) (lines .1) i (lines .2)
 
-  pub column-found : v .stride * (i * v .reciprocal / 2 ^ 18) + i % v .stride ≡ i
-  column-found = column-of-byte (b .suits .is-reciprocal) (lines .1) i (lines .2)
+  -- x is the part of a line in l lines
+  module _ {x l : ℕ} (e : l ≡ i * v .reciprocal) (f : x ≡ l % 2 ^ 18) where
+    pub part-fits : x * v .stride < 2 ^ 64
+    part-fits = omega (arith, mul-le-mul-left x (lines .1))
+
+    pub column-found : x * v .stride / 2 ^ 18 ≡ i % v .stride
+    column-found = rw (f, e) (column-of-byte (b .suits .is-reciprocal) (lines .1) i (lines .2))
 
   pub line-below : i / v .stride < 256
   line-below = div-lt-iff-lt-mul (lines .0) .1 (omega (arith, lines))
 
   pub column-below : i % v .stride < 32
   column-below = omega (arith, mod-lt i (lines .0), lines)
+
+pub eight-pixels : (st i : ℕ) {l t r b : ℕ} → l ≡ 8 * (i % st) → t ≡ i / st → r ≡ l + 8 → b ≡ t + 1
+    → record { left = l; top = t; right = r; bottom = b } ≡ byteRect st i
+eight-pixels st i p q e f = λ j. record { left = p j; top = q j; right = (e ∙ (λ k. p k + 8)) j; bottom = (f ∙ (λ k. q k + 1)) j }
 
 module _ {v : Glass} {r : List ℕ} {h : Head} {m : List ℕ} (w : Given v r h m) (a b : ℕ) where
   pub poke-ignored : {t : Bool} → t ≡ ignored (decode (geometry v) r .keys) a → t ≡ true

@@ -4,11 +4,12 @@ use model::Head;
 use model::Rect;
 use model::glass::Glass;
 use model::glass::RECIPROCAL_BITS;
+use model::glass::RECIPROCAL_MASK;
 use record::keys;
 use record::update;
 ghost use mathlib.Core.Path.{_≡_};
 ghost use mathlib.Core.List.{[]};
-ghost use Prim.Native.Nat.{_+_, _*_, _/_, _%_};
+ghost use Prim.Native.Nat.{_*_, _/_, _%_, _^_};
 ghost use Rattle.model.specs.Glass.{geometry, Suits};
 ghost use Rattle.model.specs.Record.{decode};
 ghost use Rattle.model.specs.Poke.{ignored, inScreen, byteRect};
@@ -33,20 +34,34 @@ fn in_screen(glass: Glass, graphics: u16, address: u16) -> bool
     (graphics <= address) & ((address as usize) < end)
 }
 
-// The line of screen byte i: a product and a shift.
-fn line_of(glass: Glass, i: usize) -> usize
+// Screen byte i counted in lines, by a product: whole ones in the bits from RECIPROCAL_BITS on, the part of a line in those below.
+fn in_lines(glass: Glass, i: usize) -> usize
     requires { ⌜ ScreenByte glass i ⌝ }
-    ensures { λ r. ⌜ (r ≡ i / glass .stride) × (glass .stride * r + i % glass .stride ≡ i) ⌝ }
+    ensures { λ r. ⌜ r ≡ i * glass .reciprocal ⌝ }
 {
-    (i * glass.reciprocal) >> RECIPROCAL_BITS
+    i * glass.reciprocal
 }
 
-// Its column: what is left of i.
+fn part_of(lines: usize) -> usize
+    ensures { λ r. ⌜ r ≡ lines % 2 ^ 18 ⌝ }
+{
+    lines & RECIPROCAL_MASK
+}
+
+// The whole lines before it.
+fn line_of(glass: Glass, i: usize) -> usize
+    requires { ⌜ ScreenByte glass i ⌝ }
+    ensures { λ r. ⌜ r ≡ i / glass .stride ⌝ }
+{
+    in_lines(glass, i) >> RECIPROCAL_BITS
+}
+
+// The part of its line before it, in bytes.
 fn column_of(glass: Glass, i: usize) -> usize
     requires { ⌜ ScreenByte glass i ⌝ }
     ensures { λ r. ⌜ r ≡ i % glass .stride ⌝ }
 {
-    i - glass.stride * line_of(glass, i)
+    (part_of(in_lines(glass, i)) * glass.stride) >> RECIPROCAL_BITS
 }
 
 // The eight pixels of screen byte i.

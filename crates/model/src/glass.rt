@@ -48,8 +48,10 @@ pub const SMALL: Glass = Glass {
     others: 170,
 };
 
-// The line of a screen byte is found by a product with the reciprocal and a shift by so many bits, which do for 256 lines of up to 32 bytes.
+// The bits after the point of a reciprocal, and of what is counted in lines by it: they do for 256 lines of up to 32 bytes.
 pub const RECIPROCAL_BITS: usize = 18;
+
+pub const RECIPROCAL_MASK: usize = 262143;
 
 // The head of the record, the same for every glass: the first panel's part follows it.
 pub const HEAD_BYTES: usize = 18;

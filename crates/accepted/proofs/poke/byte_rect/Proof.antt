@@ -1,5 +1,5 @@
 use native.Mathlib.Omega.{arith}
-use Rattle.accepted.proofs.Poking.{line-below, column-below}
+use Rattle.accepted.proofs.Poking.{line-below, column-below, eight-pixels}
 use borrow.Author.Needs.{needs}
 use Rattle.accepted.proofs.poke.byte_rect.Statement.{statement}
 use Rattle.accepted.proofs.poke.byte_rect.Tie as tie
@@ -26,7 +26,7 @@ add-t8 : tie.Need-add-t8
 add-t8 c = omega (arith, line-below)
 
 returns : tie.Need-returns
-returns c = cc
+returns c = let a = c .before .before .args in eight-pixels (a .glass .stride) (a .i) (omega arith) (omega arith) (omega arith) (omega arith)
 
 pub byte-rect-spec : {M : Type 1} → statement M
 byte-rect-spec =
