@@ -13,7 +13,7 @@ use Rattle.model.specs.declared.Head.{Head}
 use Rattle.model.specs.declared.Marks.{Marks}
 use Rattle.model.specs.declared.glass.Glass.{Glass}
 use Rattle.model.specs.Geometry.{screenBytes}
-use Rattle.model.specs.Glass.{geometry, Suits}
+use Rattle.model.specs.Glass.{geometry, lineParts, Suits}
 use Rattle.model.specs.Record.{decode, encode, withHead}
 use Rattle.model.specs.Marks.{marked}
 use Rattle.model.specs.Open.{isKey}
@@ -62,15 +62,15 @@ module _ {v : Glass} {i : ℕ} (b : ScreenByte v i) where
       let l : i ≤ 65535 = omega (arith, b, b .suits .is-screen, b .suits .glass .screen) in
       omega (arith, lines, b .suits .is-reciprocal, mul-le-mul-right m l, mul-le-mul-right m (lines .0))
 
-  pub line-found : i * v .reciprocal / 2 ^ 18 ≡ i / v .stride
+  pub line-found : i * v .reciprocal / lineParts ≡ i / v .stride
   line-found = line-of-byte (b .suits .is-reciprocal) (lines .1) i (lines .2)
 
   -- x is the part of a line in l lines
-  module _ {x l : ℕ} (e : l ≡ i * v .reciprocal) (f : x ≡ l % 2 ^ 18) where
+  module _ {x l : ℕ} (e : l ≡ i * v .reciprocal) (f : x ≡ l % lineParts) where
     pub part-fits : x * v .stride < 2 ^ 64
     part-fits = omega (arith, mul-le-mul-left x (lines .1))
 
-    pub column-found : x * v .stride / 2 ^ 18 ≡ i % v .stride
+    pub column-found : x * v .stride / lineParts ≡ i % v .stride
     column-found = rw (f, e) (column-of-byte (b .suits .is-reciprocal) (lines .1) i (lines .2))
 
   pub line-below : i / v .stride < 256

@@ -9,8 +9,8 @@ use record::keys;
 use record::update;
 ghost use mathlib.Core.Path.{_≡_};
 ghost use mathlib.Core.List.{[]};
-ghost use Prim.Native.Nat.{_*_, _/_, _%_, _^_};
-ghost use Rattle.model.specs.Glass.{geometry, Suits};
+ghost use Prim.Native.Nat.{_*_, _/_, _%_};
+ghost use Rattle.model.specs.Glass.{geometry, lineParts, Suits};
 ghost use Rattle.model.specs.Record.{decode};
 ghost use Rattle.model.specs.Poke.{ignored, inScreen, byteRect};
 ghost use Rattle.model.specs.Calls.{writeByte, lent, answered, done};
@@ -34,7 +34,7 @@ fn in_screen(glass: Glass, graphics: u16, address: u16) -> bool
     (graphics <= address) & ((address as usize) < end)
 }
 
-// Screen byte i counted in lines, by a product: whole ones in the bits from RECIPROCAL_BITS on, the part of a line in those below.
+// Screen byte i counted in lines: whole ones in the bits from RECIPROCAL_BITS on, the part of one in those below.
 fn in_lines(glass: Glass, i: usize) -> usize
     requires { ⌜ ScreenByte glass i ⌝ }
     ensures { λ r. ⌜ r ≡ i * glass .reciprocal ⌝ }
@@ -42,13 +42,14 @@ fn in_lines(glass: Glass, i: usize) -> usize
     i * glass.reciprocal
 }
 
+// The part of a line.
 fn part_of(lines: usize) -> usize
-    ensures { λ r. ⌜ r ≡ lines % 2 ^ 18 ⌝ }
+    ensures { λ r. ⌜ r ≡ lines % lineParts ⌝ }
 {
     lines & RECIPROCAL_MASK
 }
 
-// The whole lines before it.
+// Its line: the whole ones.
 fn line_of(glass: Glass, i: usize) -> usize
     requires { ⌜ ScreenByte glass i ⌝ }
     ensures { λ r. ⌜ r ≡ i / glass .stride ⌝ }
@@ -56,7 +57,7 @@ fn line_of(glass: Glass, i: usize) -> usize
     in_lines(glass, i) >> RECIPROCAL_BITS
 }
 
-// The part of its line before it, in bytes.
+// Its column: the bytes of that part.
 fn column_of(glass: Glass, i: usize) -> usize
     requires { ⌜ ScreenByte glass i ⌝ }
     ensures { λ r. ⌜ r ≡ i % glass .stride ⌝ }

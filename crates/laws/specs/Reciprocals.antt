@@ -1,10 +1,10 @@
 -- Quotient and remainder without a division. With m for p / n, rounded up, i * m is i / n in parts of p: whole and fraction. The rounding adds less than i * n
 -- to n times it. While that is below p it reaches neither the next whole nor, in n times the fraction, the next number: the whole is i / n, and n times the fraction is i % n.
 use mathlib.Core.Path.{_≡_, sym, ap, _∙_}
-use Prim.Native.Nat.{ℕ, _+_, _*_, _/_, _%_, _^_, _<_, _≤_}
+use Prim.Native.Nat.{ℕ, _+_, _*_, _/_, _%_, _<_, _≤_}
 use native.Mathlib.Nat.{div-eq-of-lt-le, div-add-mod, mod-lt, le-of-mul-le-mul-left, lt-of-mul-lt-mul-left, mul-le-mul-left, mul-le-mul-right, add-mul, mul-add}
 use native.Mathlib.Omega.{arith}
-use Rattle.model.specs.Glass.{RoundedUp}
+use Rattle.model.specs.Glass.{lineParts, RoundedUp}
 
 module _ {p n m : ℕ} (r : RoundedUp p n m) (i : ℕ) (b : i * n < p) where
   some : 0 < n
@@ -32,25 +32,25 @@ module _ {p n m : ℕ} (r : RoundedUp p n m) (i : ℕ) (b : i * n < p) where
       let split : i * p ≡ n * q * p + i % n * p = ap (λ (k : ℕ). k * p) (sym (div-add-mod i n)) ∙ add-mul (n * q) (i % n) p in
       div-eq-of-lt-le p (omega (arith, product, times, split)) (omega (arith, product, times, split, add-mul (i % n) 1 p))
 
--- ---- screen bytes: 2 ^ 18 is 256 * 32 * 32
+-- ---- screen bytes: a line has 256 * 32 * 32 parts
 
-module _ {st m : ℕ} (r : RoundedUp (2 ^ 18) st m) (h : st ≤ 32) (i : ℕ) (k : i < st * 256) where
-  bound : i * st < 2 ^ 18
+module _ {st m : ℕ} (r : RoundedUp lineParts st m) (h : st ≤ 32) (i : ℕ) (k : i < st * 256) where
+  bound : i * st < lineParts
   bound = omega (arith, mul-le-mul-left i h)
 
-  pub line-of-byte : i * m / 2 ^ 18 ≡ i / st
+  pub line-of-byte : i * m / lineParts ≡ i / st
   line-of-byte = quotient r i bound
 
-  pub column-of-byte : i * m % 2 ^ 18 * st / 2 ^ 18 ≡ i % st
+  pub column-of-byte : i * m % lineParts * st / lineParts ≡ i % st
   column-of-byte = remainder r i bound
 
 -- 160 by 80, and 240 by 160
-pub byte-of-20 : (i : ℕ) → i < 1600 → (i * 13108 / 2 ^ 18 ≡ i / 20) × (i * 13108 % 2 ^ 18 * 20 / 2 ^ 18 ≡ i % 20)
+pub byte-of-20 : (i : ℕ) → i < 1600 → (i * 13108 / lineParts ≡ i / 20) × (i * 13108 % lineParts * 20 / lineParts ≡ i % 20)
 byte-of-20 i k =
-    let r : RoundedUp (2 ^ 18) 20 13108 = omega arith in
+    let r : RoundedUp lineParts 20 13108 = omega arith in
     (line-of-byte r (omega arith) i (omega arith), column-of-byte r (omega arith) i (omega arith))
 
-pub byte-of-30 : (i : ℕ) → i < 4800 → (i * 8739 / 2 ^ 18 ≡ i / 30) × (i * 8739 % 2 ^ 18 * 30 / 2 ^ 18 ≡ i % 30)
+pub byte-of-30 : (i : ℕ) → i < 4800 → (i * 8739 / lineParts ≡ i / 30) × (i * 8739 % lineParts * 30 / lineParts ≡ i % 30)
 byte-of-30 i k =
-    let r : RoundedUp (2 ^ 18) 30 8739 = omega arith in
+    let r : RoundedUp lineParts 30 8739 = omega arith in
     (line-of-byte r (omega arith) i (omega arith), column-of-byte r (omega arith) i (omega arith))

@@ -36,6 +36,10 @@ geometry v = record { stride = v .stride; bands = v .bands; band = v .band; pane
 abbrev pub canvas : Glass → Canvas
 canvas v = record { stride = v .stride; height = v .height }
 
+-- the parts of a line in which code counts, 256 * 32 * 32: enough for 256 lines of up to 32 bytes (laws/specs/Reciprocals.antt)
+abbrev pub lineParts : ℕ
+lineParts = 2 ^ 18
+
 -- m is p / n, rounded up
 pub record RoundedUp (p n m : ℕ) : Type 0 where
   pub least : p ≤ n * m
@@ -44,7 +48,7 @@ pub record RoundedUp (p n m : ℕ) : Type 0 where
 -- every number of a glass follows from its geometry
 pub record Suits (v : Glass) : Type 0 where
   pub glass : IsGlass (geometry v)
-  pub is-reciprocal : RoundedUp (2 ^ 18) (v .stride) (v .reciprocal)
+  pub is-reciprocal : RoundedUp lineParts (v .stride) (v .reciprocal)
   pub is-width : v .width ≡ width (geometry v)
   pub is-height : v .height ≡ height (geometry v)
   pub is-rows : v .rows ≡ rows (geometry v)

@@ -6,7 +6,7 @@ pub struct Glass {
     pub bands: usize,
     pub band: u16,
     pub panels: usize,
-    // two to RECIPROCAL_BITS by the stride, rounded up
+    // a byte's part of a line: two to RECIPROCAL_BITS by the stride, rounded up
     pub reciprocal: usize,
     // the screen in pixels and in bytes, the text cells
     pub width: u16,
@@ -48,7 +48,7 @@ pub const SMALL: Glass = Glass {
     others: 170,
 };
 
-// The bits after the point of a reciprocal, and of what is counted in lines by it: they do for 256 lines of up to 32 bytes.
+// The bits after the point where bytes are counted in lines: they do for 256 lines of up to 32 bytes.
 pub const RECIPROCAL_BITS: usize = 18;
 
 pub const RECIPROCAL_MASK: usize = 262143;

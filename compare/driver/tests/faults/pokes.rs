@@ -11,10 +11,11 @@ use driver::list::List;
 /// Column and line of a screen byte.
 type Finding = fn(u16) -> [u16; 2];
 
-/// By this multiplier and shift; a line too far down makes the column wrap around.
+/// The byte counted in lines with so many places after the point: whole lines, and the part of one.
 fn by_product(byte: u16, multiplier: u32, shift: u32) -> [u16; 2] {
-    let line = ((byte as u32 * multiplier) >> shift) as u16;
-    [byte.wrapping_sub(20 * line), line]
+    let lines = byte as u32 * multiplier;
+    let part = lines & ((1 << shift) - 1);
+    [(part * 20) >> shift, lines >> shift].map(|number| number as u16)
 }
 
 fn right(byte: u16) -> [u16; 2] {
@@ -30,9 +31,15 @@ fn shift_one_too_far(byte: u16) -> [u16; 2] {
     by_product(byte, 13_108, 19)
 }
 
-/// 2^14 / 20 rounded up: wrong at the last byte of every line from line 51 on.
+/// 2^14 / 20 rounded up: wrong from byte 1,024 on.
 fn too_few_bits(byte: u16) -> [u16; 2] {
     by_product(byte, 820, 14)
+}
+
+/// The column from the quotient that still has its whole lines: wrong from line 1 on.
+fn column_from_old_quotient(byte: u16) -> [u16; 2] {
+    let lines = byte as u32 * 13_108;
+    [((lines * 20) >> 18) as u16, right(byte)[1]]
 }
 
 /// The column from the line of the byte before: wrong at the first byte of every line but line 0.
@@ -89,18 +96,17 @@ fn pokes() -> impl Iterator<Item = List> {
     exhaustive::lists().take(78)
 }
 
-/// The first byte whose line is wrong with 2^shift / 20 rounded up.
+/// The first byte that 2^shift / 20 rounded up finds wrongly.
 fn first_wrong(shift: u32) -> Option<u16> {
     let multiplier = (1_u32 << shift).div_ceil(20);
-    (0..1600).find(|byte| by_product(*byte, multiplier, shift)[1] != byte / 20)
+    (0..1600).find(|byte| by_product(*byte, multiplier, shift) != [byte % 20, byte / 20])
 }
 
 #[test]
 fn fifteen_bits_are_the_fewest() {
     assert!((15..=18).all(|shift| first_wrong(shift).is_none()));
     assert!((0..15).all(|shift| first_wrong(shift).is_some()));
-    assert_eq!(first_wrong(14), Some(1_039));
-    assert_eq!((too_few_bits(1_039)[1], 1_039 / 20), (52, 51));
+    assert_eq!((first_wrong(14), too_few_bits(1_024)), (Some(1_024), [5, 51]));
 }
 
 #[test]
@@ -121,6 +127,11 @@ fn a_shift_one_too_far() {
 }
 
 #[test]
+fn a_column_from_the_old_quotient() {
+    assert_both_found!(answer(column_from_old_quotient), 2);
+}
+
+#[test]
 fn a_column_from_the_line_before() {
     assert_both_found!(answer(column_from_old_line), 2);
 }
@@ -137,5 +148,5 @@ fn a_multiplier_with_too_few_bits() {
     let core = |call: &Call, lent: Lent| Some(answer(call, lent, too_few_bits));
     let list = found_among(pokes(), |thorough| Judge::new(Some(core), thorough)).expect("the fault is found");
     let calls: Vec<Call> = list.steps.into_iter().map(|step| step.call).collect();
-    assert_eq!(calls, [Call::WriteByte { address: 256 + 1_039, byte: 0 }]);
+    assert_eq!(calls, [Call::WriteByte { address: 256 + 1_024, byte: 0 }]);
 }
