@@ -1,4 +1,4 @@
--- A byte of the screen: its place there.
+-- The place of a byte on the screen of a glass.
 use Prim.Native.Nat.{ℕ, _<_}
 use Rattle.model.specs.declared.glass.Glass.{Glass}
 use Rattle.model.specs.Glass.{Suits}

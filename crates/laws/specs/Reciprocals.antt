@@ -1,5 +1,5 @@
--- Quotient and remainder without a division. With m for p / n, rounded up, i * m is i / n in parts of p: whole and fraction. The rounding adds less than i * n
--- to n times it. While that is below p it reaches neither the next whole nor, in n times the fraction, the next number: the whole is i / n, and n times the fraction is i % n.
+-- Quotient and remainder without a division. With m for p / n, rounded up, i * m is i / n in parts, p to a whole, and n * (i * m) is i * p and less than i * n more.
+-- While i * n is below p, that more makes no whole: the wholes of i * m are i / n, and n times its other parts make i % n wholes.
 use mathlib.Core.Path.{_≡_, sym, ap, _∙_}
 use Prim.Native.Nat.{ℕ, _+_, _*_, _/_, _%_, _<_, _≤_}
 use native.Mathlib.Nat.{div-eq-of-lt-le, div-add-mod, mod-lt, le-of-mul-le-mul-left, lt-of-mul-lt-mul-left, mul-le-mul-left, mul-le-mul-right, add-mul, mul-add}
