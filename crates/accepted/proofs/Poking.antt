@@ -79,6 +79,7 @@ module _ {v : Glass} {i : ℕ} (b : ScreenByte v i) where
   pub column-below : i % v .stride < 32
   column-below = omega (arith, mod-lt i (lines .0), lines)
 
+-- its eight pixels, number by number
 pub eight-pixels : (st i : ℕ) {l t r b : ℕ} → l ≡ 8 * (i % st) → t ≡ i / st → r ≡ l + 8 → b ≡ t + 1
     → record { left = l; top = t; right = r; bottom = b } ≡ byteRect st i
 eight-pixels st i p q e f = λ j. record { left = p j; top = q j; right = (e ∙ (λ k. p k + 8)) j; bottom = (f ∙ (λ k. q k + 1)) j }

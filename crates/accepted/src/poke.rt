@@ -42,14 +42,14 @@ fn in_lines(glass: Glass, i: usize) -> usize
     i * glass.reciprocal
 }
 
-// The part of a line.
+// The part of a line in such a count.
 fn part_of(lines: usize) -> usize
     ensures { λ r. ⌜ r ≡ lines % lineParts ⌝ }
 {
     lines & RECIPROCAL_MASK
 }
 
-// Its line: the whole ones.
+// The line of screen byte i: the whole lines before it.
 fn line_of(glass: Glass, i: usize) -> usize
     requires { ⌜ ScreenByte glass i ⌝ }
     ensures { λ r. ⌜ r ≡ i / glass .stride ⌝ }
@@ -57,7 +57,7 @@ fn line_of(glass: Glass, i: usize) -> usize
     in_lines(glass, i) >> RECIPROCAL_BITS
 }
 
-// Its column: the bytes of that part.
+// Its column: the stride times the part of a line before it.
 fn column_of(glass: Glass, i: usize) -> usize
     requires { ⌜ ScreenByte glass i ⌝ }
     ensures { λ r. ⌜ r ≡ i % glass .stride ⌝ }
