@@ -11,41 +11,44 @@ use driver::list::List;
 /// Column and line of a screen byte.
 type Finding = fn(u16) -> [u16; 2];
 
-/// The byte counted in lines with so many places after the point: whole lines, and the part of one.
-fn by_product(byte: u16, multiplier: u32, shift: u32) -> [u16; 2] {
+const STRIDE: u32 = LINE as u32;
+
+/// The byte counted in lines of this stride, with so many places after the point: the part of a line makes
+/// its column, the whole ones are its line.
+fn by_product(byte: u16, stride: u32, multiplier: u32, shift: u32) -> [u16; 2] {
     let lines = byte as u32 * multiplier;
     let part = lines & ((1 << shift) - 1);
-    [(part * 20) >> shift, lines >> shift].map(|number| number as u16)
+    [(part * stride) >> shift, lines >> shift].map(|number| number as u16)
 }
 
 fn right(byte: u16) -> [u16; 2] {
-    by_product(byte, 13_108, 18)
+    by_product(byte, STRIDE, 13_108, 18)
 }
 
-/// 2^18 / 20 rounded down: wrong at the first byte of every line but line 0.
+/// 2^18 / 20 rounded down: every byte but the first is found one too far left, or at the end of the line above.
 fn multiplier_one_too_small(byte: u16) -> [u16; 2] {
-    by_product(byte, 13_107, 18)
+    by_product(byte, STRIDE, 13_107, 18)
 }
 
 fn shift_one_too_far(byte: u16) -> [u16; 2] {
-    by_product(byte, 13_108, 19)
+    by_product(byte, STRIDE, 13_108, 19)
 }
 
 /// 2^14 / 20 rounded up: wrong from byte 1,024 on.
 fn too_few_bits(byte: u16) -> [u16; 2] {
-    by_product(byte, 820, 14)
+    by_product(byte, STRIDE, 820, 14)
 }
 
 /// The column from the quotient that still has its whole lines: wrong from line 1 on.
 fn column_from_old_quotient(byte: u16) -> [u16; 2] {
     let lines = byte as u32 * 13_108;
-    [((lines * 20) >> 18) as u16, right(byte)[1]]
+    [((lines * STRIDE) >> 18) as u16, right(byte)[1]]
 }
 
 /// The column from the line of the byte before: wrong at the first byte of every line but line 0.
 fn column_from_old_line(byte: u16) -> [u16; 2] {
     let [_, old_line] = right(byte.saturating_sub(1));
-    [byte - 20 * old_line, right(byte)[1]]
+    [byte - LINE as u16 * old_line, right(byte)[1]]
 }
 
 fn column_always_0(byte: u16) -> [u16; 2] {
@@ -96,17 +99,27 @@ fn pokes() -> impl Iterator<Item = List> {
     exhaustive::lists().take(78)
 }
 
-/// The first byte that 2^shift / 20 rounded up finds wrongly.
-fn first_wrong(shift: u32) -> Option<u16> {
-    let multiplier = (1_u32 << shift).div_ceil(20);
-    (0..1600).find(|byte| by_product(*byte, multiplier, shift) != [byte % 20, byte / 20])
+/// The first byte of so many lines that 2^shift / stride rounded up finds wrongly.
+fn first_wrong(stride: u16, lines: u16, shift: u32) -> Option<u16> {
+    let multiplier = (1_u32 << shift).div_ceil(stride as u32);
+    let is_wrong =
+        |byte: u16| by_product(byte, stride as u32, multiplier, shift) != [byte % stride, byte / stride];
+    (0..stride * lines).find(|byte| is_wrong(*byte))
 }
 
 #[test]
-fn fifteen_bits_are_the_fewest() {
-    assert!((15..=18).all(|shift| first_wrong(shift).is_none()));
-    assert!((0..15).all(|shift| first_wrong(shift).is_some()));
-    assert_eq!((first_wrong(14), too_few_bits(1_024)), (Some(1_024), [5, 51]));
+fn fifteen_bits_are_the_fewest_for_this_glass() {
+    assert!((15..=18).all(|shift| first_wrong(20, 80, shift).is_none()));
+    assert!((0..15).all(|shift| first_wrong(20, 80, shift).is_some()));
+    assert_eq!((first_wrong(20, 80, 14), too_few_bits(1_024)), (Some(1_024), [5, 51]));
+}
+
+/// 256 lines of up to 32 bytes; the lobby glass has 160 of 30.
+#[test]
+fn eighteen_bits_are_the_fewest_for_every_glass() {
+    assert!((1..=32).all(|stride| first_wrong(stride, 256, 18).is_none()));
+    assert_eq!(first_wrong(26, 256, 17), Some(6_554));
+    assert_eq!([16, 17, 18].map(|shift| first_wrong(30, 160, shift)), [Some(4_682), Some(4_682), None]);
 }
 
 #[test]
