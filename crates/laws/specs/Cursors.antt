@@ -9,6 +9,8 @@ use lib.Dec.{eqb, leb}
 use lib.ListN.{getD}
 use lib.Seq.{getD-take, getD-drop}
 use borrow.Author.Tests.{eq-eqb, ne-eqb, le-leb, lt-leb}
+use Rattle.model.specs.declared.Edge.{Edge}
+use Rattle.model.specs.declared.Edge.the-variants.{Clamp, Stop}
 use Rattle.model.specs.declared.DrawMode.the-variants.{Xor}
 use Rattle.model.specs.declared.Head.{Head}
 use Rattle.model.specs.Geometry.{Geometry, glyphHeight, columns, cells}
@@ -19,6 +21,7 @@ use Rattle.model.specs.Boxes.{box}
 use Rattle.model.specs.Cursor.{cursorFor, blinkOf, blinkNext, cursorBox, underCursor}
 use Rattle.laws.specs.Tests.{if-cases, tests}
 use Rattle.laws.specs.Record.{Numbers}
+use Rattle.laws.specs.Boxes.{box-either}
 
 -- ---- where it stands
 
@@ -39,10 +42,16 @@ module _ {g : Geometry} {h : Head} (n : Numbers g h) where
   box-right z = omega (arith, n .column, z .cursor)
 
 -- with the right end as a byte: the box's width may be 256
-pub is-cursor-box : (st y row column cursor : ℕ) (s : List ℕ) → 1 ≤ cursor
-    → drawnOn st y (box st y (8 * column) (glyphHeight * row) (8 * column + (8 * cursor - 1)) (glyphHeight * row + (glyphHeight - 1)) true Xor) s ≡ drawnOn st y (cursorBox st y row column cursor) s
+pub is-cursor-box : (st y : ℕ) (edge : Edge) (row column cursor : ℕ) (s : List ℕ) → 1 ≤ cursor
+    → drawnOn st y (box st y edge (8 * column) (glyphHeight * row) (8 * column + (8 * cursor - 1)) (glyphHeight * row + (glyphHeight - 1)) true Xor) s ≡ drawnOn st y (cursorBox st y edge row column cursor) s
 unfolding cursorBox
-is-cursor-box st y row column cursor s h = let e : 8 * column + (8 * cursor - 1) ≡ 8 * column + 8 * cursor - 1 = omega arith in rw e
+is-cursor-box st y edge row column cursor s h = let e : 8 * column + (8 * cursor - 1) ≡ 8 * column + 8 * cursor - 1 = omega arith in rw e
+
+-- it is the same with both edge flags: it stands on the screen, and what a full one has beyond the last column is not drawn clamped either
+pub cursor-either : (st h row column cursor : ℕ) (s : List ℕ) → 1 ≤ cursor → column < st → glyphHeight * row + glyphHeight ≤ h
+    → drawnOn st h (cursorBox st h Stop row column cursor) s ≡ drawnOn st h (cursorBox st h Clamp row column cursor) s
+unfolding cursorBox box
+cursor-either st h row column cursor s a b c = box-either st h _ _ _ _ Xor (omega arith) (omega arith) (omega arith) (omega arith) true s
 
 -- ---- which it is
 

@@ -8,20 +8,21 @@ use native.Mathlib.Omega.{arith}
 use lib.Dec.{ltb, leb, eqb}
 use borrow.Author.Tests.{le-ltb}
 use Rattle.model.specs.declared.Rect.{Rect}
+use Rattle.model.specs.declared.Edge.{Edge}
 use Rattle.model.specs.declared.DrawMode.{DrawMode}
 use Rattle.model.specs.Pixels.{PixelWrite, onScreen, seen, draw}
-use Rattle.model.specs.Rects.{none, fits, lowered, In}
+use Rattle.model.specs.Rects.{none, fits, In}
 use Rattle.model.specs.Marks.{whole, within, owes, drawn, drawnOn}
 use Rattle.model.specs.Points.{point, pointWrite}
 use Rattle.model.specs.Ellipses.{Part, parts, up, down, corners, chord, chords, partWrites, partsWrites, wraps, ellipseMark, ellipseDrawn, isPoint, isNothing, ellipse, radiiFit, stepsFit, part}
 use Rattle.model.specs.declared.Marks.{Marks}
-use Rattle.model.specs.Lines.{horizontal}
+use Rattle.model.specs.Lines.{horizontal, owedBy}
 use Rattle.laws.specs.Tests.{tests, if-cases, by-test, either, and-true, and-false, or-right, neither, clash}
 use Rattle.laws.specs.Rects.{fits-passes}
 use Rattle.laws.specs.Pixels.{Each}
 use Rattle.laws.specs.Writes.{within-none, within-more, within-append, within-seen, OwesItsMark, drawn-append}
-use Rattle.laws.specs.Points.{on-true, point-within, point-fits, both, bothLowered}
-use Rattle.laws.specs.Lines.{horizontal-within, solid, horizontal-solid, solid-known}
+use Rattle.laws.specs.Points.{on-true, point-within, point-fits, both, marksBy}
+use Rattle.laws.specs.Lines.{horizontal-within, owed-holds, solid, horizontal-solid, solid-known}
 use Rattle.laws.specs.Ellipses.{Round, Inner, parts-in, never-endless}
 use Rattle.laws.specs.EllipseWalks.{painted}
 
@@ -64,38 +65,38 @@ whole-within st h r (w ∷ ws) k =
     (λ e. let o = on-true st h (w .x) (w .y) e in within-more r w (seen st h ws) (k (w .x) (w .y) (o .0) (o .1)) (whole-within st h r ws k))
     (λ e. whole-within st h r ws k)
 
-module _ (st h x y rx ry : ℕ) (d : DrawMode) (i : Inside x y rx ry) where
-  chord-within : (a z : ℕ) → a ≤ rx → y - ry ≤ z → z ≤ y + ry → within (lowered (8 * st) h (around st h x y rx ry)) (chord st h x a z d) ≡ true
+module _ (st h : ℕ) (edge : Edge) (x y rx ry : ℕ) (d : DrawMode) (i : Inside x y rx ry) where
+  chord-within : (a z : ℕ) → a ≤ rx → y - ry ≤ z → z ≤ y + ry → within (owedBy st h edge (around st h x y rx ry)) (chord st h edge x a z d) ≡ true
   unfolding chord
   chord-within a z l u v =
       rw (le-ltb (up x a) (down x a) (omega arith))
-      (horizontal-within st h (around st h x y rx ry) (down x a) (up x a) z d (omega arith) (omega arith) (omega arith) (omega arith) (omega arith))
+      (horizontal-within st h edge (around st h x y rx ry) (down x a) (up x a) z d (omega arith) (omega arith) (omega arith) (omega arith) (omega arith))
 
   part-within : (fill : Bool) (q : Part) → Inner rx ry q
-      → within (cond fill (lowered (8 * st) h (around st h x y rx ry)) (around st h x y rx ry)) (partWrites st h x y fill d q) ≡ true
+      → within (cond fill (owedBy st h edge (around st h x y rx ry)) (around st h x y rx ry)) (partWrites st h edge x y fill d q) ≡ true
   unfolding partWrites chords corners
   part-within true q n =
-      within-append _ (chord st h x (q .a) (down y (q .b)) d) (chord st h x (q .a) (up y (q .b)) d)
+      within-append _ (chord st h edge x (q .a) (down y (q .b)) d) (chord st h edge x (q .a) (up y (q .b)) d)
       (chord-within (q .a) (down y (q .b)) (n .0) (omega arith) (omega arith)) (chord-within (q .a) (up y (q .b)) (n .0) (omega arith) (omega arith))
   part-within false q n =
       within-more _ _ _ (omega arith) (within-more _ _ _ (omega arith) (within-more _ _ _ (omega arith) (within-more _ _ _ (omega arith) (within-none _))))
 
   parts-within : (fill : Bool) (qs : List Part) → Each (Inner rx ry) qs
-      → within (cond fill (lowered (8 * st) h (around st h x y rx ry)) (around st h x y rx ry)) (partsWrites st h x y fill d qs) ≡ true
+      → within (cond fill (owedBy st h edge (around st h x y rx ry)) (around st h x y rx ry)) (partsWrites st h edge x y fill d qs) ≡ true
   unfolding partsWrites
   parts-within fill [] n = within-none _
   parts-within fill (q ∷ qs) n =
-      within-append _ (partWrites st h x y fill d q) (partsWrites st h x y fill d qs) (part-within fill q (n .0)) (parts-within fill qs (n .1))
+      within-append _ (partWrites st h edge x y fill d q) (partsWrites st h edge x y fill d qs) (part-within fill q (n .0)) (parts-within fill qs (n .1))
 
 -- ---- an ellipse with parts
 
-drawn-within : (st h x y rx ry : ℕ) (fill : Bool) (d : DrawMode) → Round rx ry
-    → within (ellipseDrawn st h x y rx ry fill d .owed) (seen st h (ellipseDrawn st h x y rx ry fill d .writes)) ≡ true
-unfolding ellipseDrawn ellipseMark lowered
-drawn-within st h x y rx ry fill d o =
+drawn-within : (st h : ℕ) (edge : Edge) (x y rx ry : ℕ) (fill : Bool) (d : DrawMode) → Round rx ry
+    → within (ellipseDrawn st h edge x y rx ry fill d .owed) (seen st h (ellipseDrawn st h edge x y rx ry fill d .writes)) ≡ true
+unfolding ellipseDrawn ellipseMark
+drawn-within st h edge x y rx ry fill d o =
     by-test (wraps x y rx ry)
-    (λ e. rw e (whole-within st h _ _ (λ x y hx hy. if-cases (λ (r : Rect). In r x y) fill (λ f. omega arith) (λ f. omega arith))))
-    (λ e. rw e (within-seen st h _ _ (parts-within st h x y rx ry d (unwrapped x y rx ry e) fill (parts rx ry) (parts-in rx ry o))))
+    (λ e. rw e (whole-within st h _ _ (λ x y hx hy. if-cases (λ (r : Rect). In r x y) fill (λ f. let q = owed-holds st h edge (whole st h) in omega arith) (λ f. omega arith))))
+    (λ e. rw e (within-seen st h _ _ (parts-within st h edge x y rx ry d (unwrapped x y rx ry e) fill (parts rx ry) (parts-in rx ry o))))
 
 -- ---- what RADIUS lets pass
 
@@ -119,20 +120,20 @@ always-ends rx ry fill d e = shape rx ry fill d e (λ p. rw p) (λ p n. rw (p, n
 
 -- ---- every ellipse
 
-module _ (st h x y rx ry : ℕ) (fill : Bool) (d : DrawMode) where
+module _ (st h : ℕ) (edge : Edge) (x y rx ry : ℕ) (fill : Bool) (d : DrawMode) where
   pub ellipse-within : radiiFit rx ry fill d ≡ true
-      → within (ellipse st h x y rx ry fill d .owed) (seen st h (ellipse st h x y rx ry fill d .writes)) ≡ true
+      → within (ellipse st h edge x y rx ry fill d .owed) (seen st h (ellipse st h edge x y rx ry fill d .writes)) ≡ true
   unfolding ellipse point
   ellipse-within e =
       shape rx ry fill d e (λ p. rw p (point-within st h x y d)) (λ p n. rw (p, n) (within-seen st h none [] (within-none none)))
-      (λ p n o. rw (p, n) (drawn-within st h x y rx ry fill d o))
+      (λ p n o. rw (p, n) (drawn-within st h edge x y rx ry fill d o))
 
   -- so the last clause of Marks never applies
-  pub ellipse-owes : radiiFit rx ry fill d ≡ true → OwesItsMark st h (ellipse st h x y rx ry fill d)
+  pub ellipse-owes : radiiFit rx ry fill d ≡ true → OwesItsMark st h (ellipse st h edge x y rx ry fill d)
   unfolding owes
   ellipse-owes e = rw (ellipse-within e)
 
-  pub ellipse-fits : 0 < st → st ≤ 32 → 0 < h → h ≤ 256 → x < 256 → y < 256 → fits 256 0 256 (ellipse st h x y rx ry fill d .dirty) ≡ true
+  pub ellipse-fits : 0 < st → st ≤ 32 → 0 < h → h ≤ 256 → x < 256 → y < 256 → fits 256 0 256 (ellipse st h edge x y rx ry fill d .dirty) ≡ true
   unfolding ellipse ellipseDrawn point
   ellipse-fits a b c e hx hy =
       by-test (isPoint rx ry)
@@ -155,40 +156,40 @@ corners-drawn st h x y a b d s s₁ e {l} {r} {t} {m} pl pr pt pm k₁ k =
 pub chord-order : (left right : ℕ) {l : ℕ} → l ≡ cond (ltb right left) 0 left → l ≤ right
 chord-order left right e = rw e (if-cases (λ (n : ℕ). n ≤ right) (ltb right left) (λ t. omega arith) (λ t. omega (arith, tests)))
 
-pub chord-drawn : (st h x a y : ℕ) (d : DrawMode) (s e : List ℕ) {l f r : ℕ} → r ≡ up x a → l ≡ down x a → f ≡ cond (ltb r l) 0 l
-    → e ≡ draw st (seen st h (horizontal st h f r y d)) s → e ≡ draw st (seen st h (chord st h x a y d)) s
+pub chord-drawn : (st h : ℕ) (edge : Edge) (x a y : ℕ) (d : DrawMode) (s e : List ℕ) {l f r : ℕ} → r ≡ up x a → l ≡ down x a → f ≡ cond (ltb r l) 0 l
+    → e ≡ draw st (seen st h (horizontal st h edge f r y d)) s → e ≡ draw st (seen st h (chord st h edge x a y d)) s
 unfolding chord
-chord-drawn st h x a y d s e pr pl pf k = cc
+chord-drawn st h edge x a y d s e pr pl pf k = cc
 
-pub chords-drawn : (st h x y a b : ℕ) (d : DrawMode) (s s₁ e : List ℕ) {t m : ℕ} → t ≡ down y b → m ≡ up y b
-    → s₁ ≡ draw st (seen st h (chord st h x a t d)) s → e ≡ draw st (seen st h (chord st h x a m d)) s₁
-    → e ≡ draw st (seen st h (chords st h x y d (part a b))) s
+pub chords-drawn : (st h : ℕ) (edge : Edge) (x y a b : ℕ) (d : DrawMode) (s s₁ e : List ℕ) {t m : ℕ} → t ≡ down y b → m ≡ up y b
+    → s₁ ≡ draw st (seen st h (chord st h edge x a t d)) s → e ≡ draw st (seen st h (chord st h edge x a m d)) s₁
+    → e ≡ draw st (seen st h (chords st h edge x y d (part a b))) s
 unfolding chords
-chords-drawn st h x y a b d s s₁ e {t} {m} pt pm k₁ k = cc (drawn-append st h _ _ s)
+chords-drawn st h edge x y a b d s s₁ e {t} {m} pt pm k₁ k = cc (drawn-append st h _ _ s)
 
-pub part-filled : (st h x y : ℕ) (d : DrawMode) (q : Part) (s e : List ℕ) {fill : Bool} → fill ≡ true
-    → e ≡ draw st (seen st h (chords st h x y d q)) s → e ≡ draw st (seen st h (partWrites st h x y fill d q)) s
+pub part-filled : (st h : ℕ) (edge : Edge) (x y : ℕ) (d : DrawMode) (q : Part) (s e : List ℕ) {fill : Bool} → fill ≡ true
+    → e ≡ draw st (seen st h (chords st h edge x y d q)) s → e ≡ draw st (seen st h (partWrites st h edge x y fill d q)) s
 unfolding partWrites
-part-filled st h x y d q s e f k = rw f k
+part-filled st h edge x y d q s e f k = rw f k
 
-pub part-outlined : (st h x y : ℕ) (d : DrawMode) (q : Part) (s e : List ℕ) {fill : Bool} → fill ≡ false
-    → e ≡ draw st (seen st h (corners x y d q)) s → e ≡ draw st (seen st h (partWrites st h x y fill d q)) s
+pub part-outlined : (st h : ℕ) (edge : Edge) (x y : ℕ) (d : DrawMode) (q : Part) (s e : List ℕ) {fill : Bool} → fill ≡ false
+    → e ≡ draw st (seen st h (corners x y d q)) s → e ≡ draw st (seen st h (partWrites st h edge x y fill d q)) s
 unfolding partWrites
-part-outlined st h x y d q s e f k = rw f k
+part-outlined st h edge x y d q s e f k = rw f k
 
 -- ---- a filled one is the same in Unknown and in Xor
 
-parts-solid : (st h x y : ℕ) (d : DrawMode) (qs : List Part) → partsWrites st h x y true (solid d) qs ≡ partsWrites st h x y true d qs
+parts-solid : (st h : ℕ) (edge : Edge) (x y : ℕ) (d : DrawMode) (qs : List Part) → partsWrites st h edge x y true (solid d) qs ≡ partsWrites st h edge x y true d qs
 unfolding partsWrites partWrites chords chord
-parts-solid st h x y d [] = refl
-parts-solid st h x y d (q ∷ qs) = ap₂ _++_ (ap₂ _++_ (horizontal-solid st h _ _ _ d) (horizontal-solid st h _ _ _ d)) (parts-solid st h x y d qs)
+parts-solid st h edge x y d [] = refl
+parts-solid st h edge x y d (q ∷ qs) = ap₂ _++_ (ap₂ _++_ (horizontal-solid st h edge _ _ _ d) (horizontal-solid st h edge _ _ _ d)) (parts-solid st h edge x y d qs)
 
 -- an ellipse that is drawn: filled, or in a known mode
-pub painted-solid : (st h x y : ℕ) (fill : Bool) (d : DrawMode) (qs : List Part) (s : List ℕ) → isNothing fill d ≡ false
-    → painted st h x y fill (solid d) qs s ≡ painted st h x y fill d qs s
+pub painted-solid : (st h : ℕ) (edge : Edge) (x y : ℕ) (fill : Bool) (d : DrawMode) (qs : List Part) (s : List ℕ) → isNothing fill d ≡ false
+    → painted st h edge x y fill (solid d) qs s ≡ painted st h edge x y fill d qs s
 unfolding isNothing
-painted-solid st h x y true d qs s k = ap (λ (l : List PixelWrite). draw st (seen st h l) s) (parts-solid st h x y d qs)
-painted-solid st h x y false d qs s k = ap (λ (m : DrawMode). painted st h x y false m qs s) (solid-known d k)
+painted-solid st h edge x y true d qs s k = ap (λ (l : List PixelWrite). draw st (seen st h l) s) (parts-solid st h edge x y d qs)
+painted-solid st h edge x y false d qs s k = ap (λ (m : DrawMode). painted st h edge x y false m qs s) (solid-known d k)
 
 -- ---- marks
 
@@ -213,33 +214,33 @@ pub is-round : (rx ry : ℕ) (fill : Bool) (d : DrawMode) {t u : Bool} → radii
 is-round rx ry fill d f p q n o =
     shape rx ry fill d f (λ e. clash (isPoint rx ry) e (sym p ∙ q)) (λ e g. clash (isNothing fill d) g (sym n ∙ o)) (λ e g r. r)
 
-module _ (st h x y rx ry : ℕ) (fill : Bool) (d : DrawMode) (s e : List ℕ) (m : Marks) where
+module _ (st h : ℕ) (edge : Edge) (x y rx ry : ℕ) (fill : Bool) (d : DrawMode) (s e : List ℕ) (m : Marks) where
   pub ellipse-point : {t : Bool} → t ≡ isPoint rx ry → t ≡ true → drawn m e ≡ drawnOn st h (point st h x y d) s
-      → drawn m e ≡ drawnOn st h (ellipse st h x y rx ry fill d) s
+      → drawn m e ≡ drawnOn st h (ellipse st h edge x y rx ry fill d) s
   unfolding ellipse
   ellipse-point p q k = rw (sym p ∙ q) k
 
   pub ellipse-nothing : {t u : Bool} → t ≡ isPoint rx ry → t ≡ false → u ≡ isNothing fill d → u ≡ true → m ≡ both none
-      → drawn m s ≡ drawnOn st h (ellipse st h x y rx ry fill d) s
+      → drawn m s ≡ drawnOn st h (ellipse st h edge x y rx ry fill d) s
   unfolding ellipse drawn drawnOn owes within seen draw
   ellipse-nothing p q n o k = rw (sym p ∙ q, sym n ∙ o) (λ i. record { dirty = k i .dirty; owed = k i .owed; screen = s })
 
   -- neither a point nor nothing
   ellipse-marked : {t u : Bool} → radiiFit rx ry fill d ≡ true → t ≡ isPoint rx ry → t ≡ false → u ≡ isNothing fill d → u ≡ false
-      → m .dirty ≡ ellipseMark st h x y rx ry → m .owed ≡ cond fill (lowered (8 * st) h (ellipseMark st h x y rx ry)) (ellipseMark st h x y rx ry)
-      → (k : DrawMode) → k ≡ solid d → e ≡ painted st h x y fill k (parts rx ry) s → drawn m e ≡ drawnOn st h (ellipse st h x y rx ry fill d) s
+      → m .dirty ≡ ellipseMark st h x y rx ry → m .owed ≡ cond fill (owedBy st h edge (ellipseMark st h x y rx ry)) (ellipseMark st h x y rx ry)
+      → (k : DrawMode) → k ≡ solid d → e ≡ painted st h edge x y fill k (parts rx ry) s → drawn m e ≡ drawnOn st h (ellipse st h edge x y rx ry fill d) s
   unfolding drawn drawnOn ellipse ellipseDrawn
   ellipse-marked f p q n o a b k same w =
-      let u : OwesItsMark st h (ellipseDrawn st h x y rx ry fill d) = rw (sym p ∙ q, sym n ∙ o) at (ellipse-owes st h x y rx ry fill d f) in
-      let v : e ≡ painted st h x y fill d (parts rx ry) s = cc (painted-solid st h x y fill d (parts rx ry) s (sym n ∙ o)) in
+      let u : OwesItsMark st h (ellipseDrawn st h edge x y rx ry fill d) = rw (sym p ∙ q, sym n ∙ o) at (ellipse-owes st h edge x y rx ry fill d f) in
+      let v : e ≡ painted st h edge x y fill d (parts rx ry) s = cc (painted-solid st h edge x y fill d (parts rx ry) s (sym n ∙ o)) in
       rw (sym p ∙ q, sym n ∙ o) (λ i. record { dirty = a i; owed = (b ∙ sym u) i; screen = v i })
 
-  pub ellipse-filled : {t u : Bool} {k : DrawMode} {q : Rect} → fill ≡ true → m ≡ bothLowered st h q → q ≡ ellipseMark st h x y rx ry
+  pub ellipse-filled : {t u : Bool} {k : DrawMode} {q : Rect} → fill ≡ true → m ≡ marksBy st h edge q → q ≡ ellipseMark st h x y rx ry
       → radiiFit rx ry fill d ≡ true → t ≡ isPoint rx ry → t ≡ false → u ≡ isNothing fill d → u ≡ false
-      → k ≡ solid d → e ≡ painted st h x y fill k (parts rx ry) s → drawn m e ≡ drawnOn st h (ellipse st h x y rx ry fill d) s
-  ellipse-filled g b a f p q n o same w = ellipse-marked f p q n o ((λ i. b i .dirty) ∙ a) (rw g ((λ i. b i .owed) ∙ ap (lowered (8 * st) h) a)) _ same w
+      → k ≡ solid d → e ≡ painted st h edge x y fill k (parts rx ry) s → drawn m e ≡ drawnOn st h (ellipse st h edge x y rx ry fill d) s
+  ellipse-filled g b a f p q n o same w = ellipse-marked f p q n o ((λ i. b i .dirty) ∙ a) (rw g ((λ i. b i .owed) ∙ ap (owedBy st h edge) a)) _ same w
 
   pub ellipse-outlined : {t u : Bool} {k : DrawMode} {q : Rect} → fill ≡ false → m ≡ both q → q ≡ ellipseMark st h x y rx ry
       → radiiFit rx ry fill d ≡ true → t ≡ isPoint rx ry → t ≡ false → u ≡ isNothing fill d → u ≡ false
-      → k ≡ solid d → e ≡ painted st h x y fill k (parts rx ry) s → drawn m e ≡ drawnOn st h (ellipse st h x y rx ry fill d) s
+      → k ≡ solid d → e ≡ painted st h edge x y fill k (parts rx ry) s → drawn m e ≡ drawnOn st h (ellipse st h edge x y rx ry fill d) s
   ellipse-outlined g b a f p q n o same w = ellipse-marked f p q n o ((λ i. b i .dirty) ∙ a) (rw g ((λ i. b i .owed) ∙ a)) _ same w

@@ -2,7 +2,7 @@
 use mathlib.Core.Path.{_≡_}
 use native.Mathlib.Omega.{arith}
 use Rattle.model.specs.Geometry.{base}
-use Rattle.model.specs.Record.{head, panel, keys, flags, has, distinct, total, offset, at, recordBytes}
+use Rattle.model.specs.Record.{head, panel, keys, flags, edge, has, distinct, total, offset, at, recordBytes}
 use Rattle.model.specs.Glass.{IsGlass}
 
 pub base-glass : IsGlass base
@@ -17,7 +17,8 @@ pub record RecordTable : Type 0 where
   pub panel-1-at : at base (panel 1) ≡ 170
   pub panel-2-at : at base (panel 2) ≡ 190
   pub panel-3-at : at base (panel 3) ≡ 210
-  pub bytes : recordBytes base ≡ 230
+  pub edge-at : at base edge ≡ 230
+  pub bytes : recordBytes base ≡ 231
 
 pub record-table : RecordTable
 unfolding offset total

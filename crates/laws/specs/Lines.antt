@@ -1,27 +1,29 @@
 -- Horizontal and vertical lines: where their writes lie, and which of them fall on the screen.
-use mathlib.Core.Path.{_≡_, refl, ap, ap₂}
-use mathlib.Core.Bool.{true, false}
+use mathlib.Core.Path.{_≡_, refl, sym, ap, ap₂, _∙_}
+use mathlib.Core.Bool.{Bool, true, false, not}
 use mathlib.Core.List.{List, _∷_, _++_, []}
 use mathlib.Core.Logic.{inr, inl, _⊎_}
 use Prim.Native.Nat.{ℕ, zero, suc, _+_, _-_, _*_, _≤_, _<_}
 use native.Mathlib.Omega.{arith}
 use native.Mathlib.Numerals.{add-one}
 use lib.Dec.{ltb}
-use borrow.Author.Tests.{lt-ltb, le-ltb}
+use borrow.Author.Tests.{lt-ltb, le-ltb, not-true, not-false}
+use Rattle.model.specs.declared.Edge.{Edge}
+use Rattle.model.specs.declared.Edge.the-variants.{Clamp, Stop}
 use Rattle.model.specs.declared.DrawMode.{DrawMode}
 use Rattle.model.specs.declared.DrawMode.the-variants.{Clear, Or, Xor, Unknown}
 use Rattle.model.specs.Pixels.{PixelWrite, draw, seen, Screen, onScreen, writePixel}
-use Rattle.model.specs.Lines.{isUnknown, runOp, pixelRun, horizontal, spanRect, clamp, horizontalLine, pixelColumn, vertical, verticalLine}
+use Rattle.model.specs.Lines.{isUnknown, runOp, pixelRun, clamped, stopped, horizontal, owedBy, spanRect, clamp, horizontalLine, pixelColumn, vertical, verticalLine}
 use Rattle.model.specs.Boxes.{boxRows, filledBox}
 use Rattle.model.specs.declared.Rect.{Rect}
 use Rattle.model.specs.declared.Marks.{Marks}
 use Rattle.model.specs.Rects.{lowered, fits, inside}
 use Rattle.model.specs.Marks.{within, drawn, drawnOn, whole}
 use Rattle.model.specs.Points.{pointWrite}
-use Rattle.laws.specs.Tests.{clash, by-test, by-lt, either, and-true}
+use Rattle.laws.specs.Tests.{tests, clash, by-test, by-lt, either, and-true, and-false}
 use Rattle.laws.specs.Rects.{fits-passes, inside-in}
 use Rattle.laws.specs.Writes.{within-none, within-more, drawn-is}
-use Rattle.laws.specs.Points.{both, bothLowered}
+use Rattle.laws.specs.Points.{on-true, both, marksBy}
 
 -- Horizontals and fills draw Unknown as Xor: what is made of them is the same drawing in either mode.
 
@@ -40,14 +42,15 @@ run-solid x y (suc n) Or = refl
 run-solid x y (suc n) Xor = refl
 run-solid x y (suc n) Unknown = ap (λ (l : List PixelWrite). record { x = x; y = y; op = runOp Unknown } ∷ l) (run-solid (suc x) y n Unknown)
 
-pub horizontal-solid : (st h left right y : ℕ) (d : DrawMode) → horizontal st h left right y (solid d) ≡ horizontal st h left right y d
-unfolding horizontal
-horizontal-solid st h left right y d = run-solid _ _ _ d
+pub horizontal-solid : (st h : ℕ) (edge : Edge) (left right y : ℕ) (d : DrawMode) → horizontal st h edge left right y (solid d) ≡ horizontal st h edge left right y d
+unfolding horizontal clamped stopped
+horizontal-solid st h Clamp left right y d = run-solid _ _ _ d
+horizontal-solid st h Stop left right y d = run-solid _ _ _ d
 
-rows-solid : (st h left right y n : ℕ) (d : DrawMode) → boxRows st h left right y n (solid d) ≡ boxRows st h left right y n d
+rows-solid : (st h : ℕ) (edge : Edge) (left right y n : ℕ) (d : DrawMode) → boxRows st h edge left right y n (solid d) ≡ boxRows st h edge left right y n d
 unfolding boxRows
-rows-solid st h left right y zero d = refl
-rows-solid st h left right y (suc n) d = ap₂ _++_ (horizontal-solid st h left right y d) (rows-solid st h left right (suc y) n d)
+rows-solid st h edge left right y zero d = refl
+rows-solid st h edge left right y (suc n) d = ap₂ _++_ (horizontal-solid st h edge left right y d) (rows-solid st h edge left right (suc y) n d)
 
 -- a known mode is itself
 pub solid-known : (d : DrawMode) → isUnknown d ≡ false → solid d ≡ d
@@ -59,14 +62,14 @@ solid-known Unknown k = absurd (clash true refl k)
 
 -- ---- as the code draws them, in the mode k of its two bytes
 
-module _ (st h : ℕ) {k : DrawMode} (d : DrawMode) (s e : List ℕ) (same : k ≡ solid d) where
-  pub horizontal-in : (left right y : ℕ) → e ≡ draw st (seen st h (horizontal st h left right y k)) s → e ≡ draw st (seen st h (horizontal st h left right y d)) s
-  horizontal-in left right y w = cc (horizontal-solid st h left right y d)
+module _ (st h : ℕ) (edge : Edge) {k : DrawMode} (d : DrawMode) (s e : List ℕ) (same : k ≡ solid d) where
+  pub horizontal-in : (left right y : ℕ) → e ≡ draw st (seen st h (horizontal st h edge left right y k)) s → e ≡ draw st (seen st h (horizontal st h edge left right y d)) s
+  horizontal-in left right y w = cc (horizontal-solid st h edge left right y d)
 
-  pub filled-in : (left top right bottom : ℕ) → e ≡ draw st (seen st h (filledBox st h left top right bottom k)) s
-      → e ≡ draw st (seen st h (filledBox st h left top right bottom d)) s
+  pub filled-in : (left top right bottom : ℕ) → e ≡ draw st (seen st h (filledBox st h edge left top right bottom k)) s
+      → e ≡ draw st (seen st h (filledBox st h edge left top right bottom d)) s
   unfolding filledBox
-  filled-in left top right bottom w = cc (rows-solid st h left right top (suc (bottom - top)) d)
+  filled-in left top right bottom w = cc (rows-solid st h edge left right top (suc (bottom - top)) d)
 
 -- Horizontal and vertical lines: where their writes lie, and which of them fall on the screen.
 
@@ -102,14 +105,68 @@ unfolding pixelRun
 run-within r x y zero d a b e f = within-none r
 run-within r x y (suc n) d a b e f = within-more r _ (pixelRun (suc x) y n d) (omega arith) (run-within r (suc x) y n d (omega arith) (omega arith) e f)
 
+run-off : (st h x y n : ℕ) (d : DrawMode) → (8 * st ≤ x) ⊎ (h ≤ y) → seen st h (pixelRun x y n d) ≡ []
+unfolding pixelRun seen
+run-off st h x y zero d o = refl
+run-off st h x y (suc n) d o = rw (off-is st h x y o) (run-off st h (suc x) y n d (either o (λ l. inl (omega arith)) inr))
+
+-- m of the n pixels lie on the screen
+run-cut : (st h x y n m : ℕ) (d : DrawMode) → y < h → m ≤ n → x + m ≤ 8 * st → (m < n → x + m ≡ 8 * st) → seen st h (pixelRun x y n d) ≡ pixelRun x y m d
+unfolding pixelRun seen
+run-cut st h x y n zero d a b e f = by-lt 0 n (λ l. run-off st h x y n d (inl (omega (arith, f l)))) (λ l. let z : n ≡ zero = omega arith in rw z)
+run-cut st h x y zero (suc m) d a b e f = absurd (omega arith)
+run-cut st h x y (suc n) (suc m) d a b e f =
+    rw (on-is st h x y (omega arith) a)
+    (ap (λ (l : List PixelWrite). record { x = x; y = y; op = runOp d } ∷ l) (run-cut st h (suc x) y n m d a (omega arith) (omega arith) (λ k. omega (arith, f (omega arith)))))
+
 -- ---- a horizontal
 
--- it lies in any rectangle that reaches, lowered, from its left to its right and has its line
-pub horizontal-within : (st h : ℕ) (r : Rect) (left right y : ℕ) (d : DrawMode) → left ≤ right
-    → r .left ≤ left → right < r .right → r .top ≤ y → y < r .bottom → within (lowered (8 * st) h r) (horizontal st h left right y d) ≡ true
-unfolding horizontal lowered
-horizontal-within st h r left right y d o a b e f =
+-- what is owed for a mark has what the mark has
+pub owed-holds : (st h : ℕ) (edge : Edge) (r : Rect) → let q = owedBy st h edge r in (q .left ≤ r .left) × (q .top ≤ r .top) × (q .right ≡ r .right) × (q .bottom ≡ r .bottom)
+unfolding owedBy lowered
+owed-holds st h Clamp r = omega arith
+owed-holds st h Stop r = omega arith
+
+-- it lies in what is owed for any mark that reaches from its left to its right and has its line
+pub horizontal-within : (st h : ℕ) (edge : Edge) (r : Rect) (left right y : ℕ) (d : DrawMode) → left ≤ right
+    → r .left ≤ left → right < r .right → r .top ≤ y → y < r .bottom → within (owedBy st h edge r) (horizontal st h edge left right y d) ≡ true
+unfolding horizontal clamped stopped owedBy lowered
+horizontal-within st h Clamp r left right y d o a b e f =
     run-within _ (clamp left (8 * st)) (clamp y h) (suc (clamp right (8 * st) - clamp left (8 * st))) d (omega arith) (omega arith) (omega arith) (omega arith)
+horizontal-within st h Stop r left right y d o a b e f = run-within r left y (suc (right - left)) d a (omega arith) e f
+
+-- Stopped, it draws nothing below the screen or right of it, and else it is cut at the last column.
+
+pub stopped-beyond : (st h left right y : ℕ) (d : DrawMode) → (8 * st ≤ left) ⊎ (h ≤ y) → seen st h (stopped left right y d) ≡ []
+unfolding stopped
+stopped-beyond st h left right y d o = run-off st h left y (suc (right - left)) d o
+
+pub stopped-cut : (st h left right y : ℕ) (d : DrawMode) → left < 8 * st → y < h → left ≤ right
+    → seen st h (stopped left right y d) ≡ pixelRun left y (suc (clamp right (8 * st) - left)) d
+unfolding stopped
+stopped-cut st h left right y d a b o = run-cut st h left y (suc (right - left)) (suc (clamp right (8 * st) - left)) d b (omega arith) (omega arith) (λ k. omega arith)
+
+-- on the screen it is the clamped one
+pub stopped-clamped : (st h left right y : ℕ) (d : DrawMode) → left < 8 * st → y < h → left ≤ right → seen st h (stopped left right y d) ≡ seen st h (clamped st h left right y d)
+unfolding clamped
+stopped-clamped st h left right y d a b o =
+    let i : clamp left (8 * st) ≡ left = omega arith in
+    let j : clamp y h ≡ y = omega arith in
+    cc (stopped-cut st h left right y d a b o, all-seen st h (pixelRun left y (suc (clamp right (8 * st) - left)) d) (run-within (whole st h) left y (suc (clamp right (8 * st) - left)) d (omega arith) (omega arith) (omega arith) b))
+
+-- nothing is drawn from (x, y) on: lines stop at the edge, and it lies off the screen
+unfoldable pub beyond : ℕ → ℕ → Edge → ℕ → ℕ → Bool
+beyond st h Clamp x y = false
+beyond st h Stop x y = not (onScreen st h x y)
+
+pub beyond-off : (st h x y : ℕ) → beyond st h Stop x y ≡ true → (8 * st ≤ x) ⊎ (h ≤ y)
+unfolding beyond onScreen
+beyond-off st h x y e = either (and-false (ltb x (8 * st)) (ltb y h) (not-true (onScreen st h x y) e)) (λ t. inl (omega (arith, tests))) (λ t. inr (omega (arith, tests)))
+
+pub beyond-on : (st h x y : ℕ) → beyond st h Stop x y ≡ false → (x < 8 * st) × (y < h)
+unfolding beyond
+beyond-on st h x y e = on-true st h x y (not-false (onScreen st h x y) e)
+
 
 -- ---- a column
 
@@ -150,12 +207,26 @@ vertical-below st h x top bottom d s a b = rw (column-off st h x top (suc (botto
 -- ---- as the code draws them
 
 -- clamped, a horizontal never lies beside or below the screen
-pub horizontal-drawn : (st h left right y : ℕ) (d : DrawMode) (s e : List ℕ) {a b l : ℕ} → Screen st h s → left ≤ right
+pub clamped-drawn : (st h left right y : ℕ) (d : DrawMode) (s e : List ℕ) {a b l : ℕ} → Screen st h s → left ≤ right
     → a ≡ clamp left (8 * st) → b ≡ clamp right (8 * st) → l ≡ clamp y h → e ≡ draw st (pixelRun a l (suc (b - a)) d) s
-    → e ≡ draw st (seen st h (horizontal st h left right y d)) s
-unfolding horizontal
-horizontal-drawn st h left right y d s e {a} {b} {l} r o p q k w =
+    → e ≡ draw st (seen st h (clamped st h left right y d)) s
+unfolding clamped
+clamped-drawn st h left right y d s e {a} {b} {l} r o p q k w =
     cc (all-seen st h (pixelRun a l (suc (b - a)) d) (run-within (whole st h) a l (suc (b - a)) d (omega arith) (omega arith) (omega arith) (omega arith)))
+
+-- stopped, it draws nothing, or what it draws clamped
+pub horizontal-beyond : (st h : ℕ) (edge : Edge) (left right y : ℕ) (d : DrawMode) (s : List ℕ) {t : Bool} → t ≡ beyond st h edge left y → t ≡ true
+    → s ≡ draw st (seen st h (horizontal st h edge left right y d)) s
+unfolding beyond horizontal draw
+horizontal-beyond st h Clamp left right y d s p q = clash _ q p
+horizontal-beyond st h Stop left right y d s p q = rw (stopped-beyond st h left right y d (beyond-off st h left y (sym p ∙ q)))
+
+pub horizontal-on : (st h : ℕ) (edge : Edge) (left right y : ℕ) (d : DrawMode) (s e : List ℕ) {t : Bool} → left ≤ right → t ≡ beyond st h edge left y → t ≡ false
+    → e ≡ draw st (seen st h (clamped st h left right y d)) s → e ≡ draw st (seen st h (horizontal st h edge left right y d)) s
+unfolding horizontal
+horizontal-on st h Clamp left right y d s e o p q w = w
+horizontal-on st h Stop left right y d s e o p q w =
+    let on = beyond-on st h left y (sym p ∙ q) in cc (stopped-clamped st h left right y d (on .0) (on .1) o)
 
 -- of a vertical, the pixels down to the screen's last line are seen
 pub vertical-drawn : (st h x top bottom : ℕ) (d : DrawMode) (s e : List ℕ) {last : ℕ} → x < 8 * st → top < h → top ≤ bottom → last ≡ clamp bottom h
@@ -175,13 +246,13 @@ column-end st x y n d s t h q = let z : n ≡ zero = omega arith in rw z at q
 
 -- ---- with their marks
 
-pub horizontal-marked : (st h left right y : ℕ) (d : DrawMode) (s e : List ℕ) {m : Marks} {k : DrawMode} → left ≤ right → k ≡ solid d
-    → m ≡ bothLowered st h (spanRect left y right y) → e ≡ draw st (seen st h (horizontal st h left right y k)) s
-    → drawn m e ≡ drawnOn st h (horizontalLine st h left right y d) s
+pub horizontal-marked : (st h : ℕ) (edge : Edge) (left right y : ℕ) (d : DrawMode) (s e : List ℕ) {m : Marks} {k : DrawMode} → left ≤ right → k ≡ solid d
+    → m ≡ marksBy st h edge (spanRect left y right y) → e ≡ draw st (seen st h (horizontal st h edge left right y k)) s
+    → drawn m e ≡ drawnOn st h (horizontalLine st h edge left right y d) s
 unfolding horizontalLine
-horizontal-marked st h left right y d s e l same p w =
-    let lies = horizontal-within st h (spanRect left y right y) left right y d l (omega arith) (omega arith) (omega arith) (omega arith) in
-    drawn-is st h (horizontalLine st h left right y d) s e lies p (horizontal-in st h d s e same left right y w)
+horizontal-marked st h edge left right y d s e l same p w =
+    let lies = horizontal-within st h edge (spanRect left y right y) left right y d l (omega arith) (omega arith) (omega arith) (omega arith) in
+    drawn-is st h (horizontalLine st h edge left right y d) s e lies p (horizontal-in st h edge d s e same left right y w)
 
 pub vertical-marked : (st h x top bottom : ℕ) (d : DrawMode) (s e : List ℕ) {m : Marks} → top ≤ bottom
     → m ≡ both (spanRect x top x bottom) → e ≡ draw st (seen st h (vertical x top bottom d)) s

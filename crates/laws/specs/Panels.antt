@@ -12,7 +12,7 @@ use Rattle.model.specs.Geometry.{Geometry, width}
 use Rattle.model.specs.Glass.{geometry, IsGlass, Suits}
 use Rattle.model.specs.Memory.{window}
 use Rattle.model.specs.Bytes.{rectsAt, rectBytes, rectsBytes, fourBytes}
-use Rattle.model.specs.Record.{headBytes, panel, offset, at, recordBytes, pendingBytes, Pending, State, decode, encode, partBytes, panelOf, nothingPending, withPanel, withPanels, WellPending}
+use Rattle.model.specs.Record.{headBytes, panel, edge, offset, at, recordBytes, pendingBytes, Pending, State, decode, encode, partBytes, panelOf, nothingPending, withPanel, withPanels, WellPending}
 use Rattle.model.specs.Marks.{joinOwed, owing}
 use Rattle.laws.specs.Layout.{rects-from, length-rects}
 use Rattle.laws.specs.Record.{Passing, Sized, later, panel-from, owed-back, has-panel, part-in, part-encode, put-panel, encode-decode, sized-decode, count-decode, sized-panel}
@@ -93,7 +93,7 @@ pub is-others-at : (v : Glass) (k : ℕ) → Suits v → k < v .panels → (k �
 is-others-at v zero z h n = absurd (n refl)
 is-others-at v (suc k) z h n =
     let g = geometry v in
-    cc (later g k .1, panel-from g (suc k) 1 (g .panels - 1) (omega arith) (omega arith) .1)
+    cc (later g k .1, panel-from g (suc k) 1 (g .panels - 1) (edge ∷ []) (omega arith) (omega arith) .1)
 
 -- a panel's part ends within the record, which is short
 pub panel-room : (v : Glass) (k : ℕ) → Suits v → k < v .panels → at (geometry v) (panel k) + pendingBytes (geometry v) ≤ recordBytes (geometry v)

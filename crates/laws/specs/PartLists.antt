@@ -9,19 +9,20 @@ use lib.ListN.{length, getD, take, drop, length-drop, length-append, take-append
 use lib.Seq.{take-at, drop-at, drop-append-add, take-append-add, drop-drop}
 use borrow.Author.Tests.{eqb-true, eq-eqb, ne-eqb, not-true}
 use Rattle.model.specs.Memory.{window, withWindow}
-use Rattle.model.specs.Record.{RecordPart, head, panel, keys, flags, tag, samePart, has, distinct, written, total, offset, all}
+use Rattle.model.specs.Record.{RecordPart, head, panel, keys, flags, edge, tag, samePart, has, distinct, written, total, offset, all}
 use Rattle.laws.specs.Tests.{tests, by-test, clash, and-true, or-left, or-right}
 
 -- ---- parts with one number are one part
 
 untag : ℕ → RecordPart
-untag n = getD (head ∷ keys ∷ flags ∷ []) n (panel (n - 3))
+untag n = getD (head ∷ keys ∷ flags ∷ edge ∷ []) n (panel (n - 4))
 
 untag-tag : (p : RecordPart) → untag (tag p) ≡ p
 unfolding untag
 untag-tag head = refl
 untag-tag keys = refl
 untag-tag flags = refl
+untag-tag edge = refl
 untag-tag (panel k) = ap panel (omega arith)
 
 pub same-part : (p q : RecordPart) → samePart p q ≡ true → p ≡ q

@@ -12,14 +12,16 @@ use lib.ListN.{length, getD, set}
 use borrow.Author.Tests.{eqb-true, lt-ltb, le-ltb}
 use Rattle.model.specs.declared.Rect.{Rect}
 use Rattle.model.specs.declared.Marks.{Marks}
+use Rattle.model.specs.declared.Edge.{Edge}
 use Rattle.model.specs.declared.DrawMode.{DrawMode}
 use Rattle.model.specs.declared.DrawMode.the-variants.{Clear, Or, Xor, Unknown}
 use Rattle.model.specs.Bits.{bitAt, withBit}
 use Rattle.model.specs.Pixels.{Screen, place, bit, put, onScreen, writePixel, draw, seen}
 use Rattle.model.specs.Bytes.{Bytes}
-use Rattle.model.specs.Rects.{none, fits, lowered}
+use Rattle.model.specs.Rects.{none, fits}
 use Rattle.model.specs.Marks.{drawn, drawnOn, within, owes}
 use Rattle.model.specs.Points.{pointOp, pixelRect, pointWrite, pointRect, point, isSet}
+use Rattle.model.specs.Lines.{owedBy}
 use Rattle.laws.specs.Tests.{if-cases, by-test, by-lt, and-true, tests}
 use Rattle.laws.specs.Pixels.{place-lt}
 use Rattle.laws.specs.Bits.{every-at, see-is, every₂-at}
@@ -77,12 +79,9 @@ place-in st h x y r o = omega (arith, place-lt st h x y (o .0) (o .1), r .sized)
 abbrev pub both : Rect → Marks
 both r = record { dirty = r; owed = r }
 
--- a mark that is owed lowered
-abbrev pub bothLowered : ℕ → ℕ → Rect → Marks
-bothLowered st h r = record { dirty = r; owed = lowered (8 * st) h r }
-
-pub lowered-both : (st h : ℕ) {r m o : Rect} → m ≡ r → o ≡ lowered (8 * st) h m → _≡_ {A = Marks} (record { dirty = m; owed = o }) (bothLowered st h r)
-lowered-both st h {r} {m} {o} p q = let k : o ≡ lowered (8 * st) h r = q ∙ ap (lowered (8 * st) h) p in λ i. record { dirty = p i; owed = k i }
+-- the mark of horizontals, owed by the edge flag
+abbrev pub marksBy : ℕ → ℕ → Edge → Rect → Marks
+marksBy st h edge r = record { dirty = r; owed = owedBy st h edge r }
 
 -- STATE lets a point's mark pass in dirty
 pub point-fits : (st h x y : ℕ) → x < 256 → y < 256 → fits 256 0 256 (pointRect st h x y) ≡ true

@@ -13,9 +13,9 @@ use Rattle.model.specs.Memory.{window, withWindow}
 use Rattle.model.specs.Rects.{none, fits}
 use Rattle.model.specs.Bytes.{four, rectAt, rectsAt, rectBytes, rectsBytes, wordsBytes, fourBytes, Bytes, Words}
 use Rattle.model.specs.Flags.{flagsIn, bytesOfFlags, flagBytes}
-use Rattle.model.specs.Record.{RecordPart, head, panel, keys, flags, tag, samePart, has, total, offset, panelsFrom, layout, size, at, partIn, recordBytes, pendingBytes, Pending, State, decode, encode, listing, headOf, pendingOf, bytesOfHead, bytesOfPending, partBytes, panelOf, nothingPending, windows, windowTests, headTests, headFits, partFits, valid, withHead, withPanel, withKeyWords, withFlags, WellPending, WellFormed}
+use Rattle.model.specs.Record.{RecordPart, head, panel, keys, flags, edge, tag, samePart, has, total, offset, panelsFrom, layout, size, at, partIn, recordBytes, pendingBytes, Pending, State, decode, encode, listing, headOf, pendingOf, bytesOfHead, bytesOfPending, partBytes, panelOf, nothingPending, windows, windowTests, headTests, headFits, partFits, valid, edgeByte, withHead, withPanel, withKeyWords, withFlags, withEdge, WellPending, WellFormed}
 use Rattle.model.specs.Glass.{IsGlass}
-use Rattle.laws.specs.Tests.{tests, by-test, by-lt, by-eq, clash, all-true}
+use Rattle.laws.specs.Tests.{tests, by-test, by-lt, by-eq, clash, or-right, all-true}
 use Rattle.laws.specs.Rects.{passes-fits}
 use Rattle.laws.specs.Memory.{length-window}
 use Rattle.laws.specs.Bands.{owed-fits, hand-fits}
@@ -25,20 +25,21 @@ use Rattle.laws.specs.Layout.{getD-listing, length-listing, bytes-drop, 
 
 -- ---- which parts there are
 
--- among n panels from k on stands the panel i, after those before it
-pub panel-from : (g : Geometry) (i k n : ℕ) → k ≤ i → i < k + n
-    → (has (panel i) (panelsFrom k n) ≡ true) × (offset (size g) (panel i) (panelsFrom k n) ≡ (i - k) * pendingBytes g)
+-- among n panels from k on, with the parts ps behind them, stands the panel i, after those before it
+pub panel-from : (g : Geometry) (i k n : ℕ) (ps : List RecordPart) → k ≤ i → i < k + n
+    → (has (panel i) (panelsFrom k n ++ ps) ≡ true) × (offset (size g) (panel i) (panelsFrom k n ++ ps) ≡ (i - k) * pendingBytes g)
 unfolding has offset
-panel-from g i k zero l u = absurd (omega arith)
-panel-from g i k (suc n) l u =
+panel-from g i k zero ps l u = absurd (omega arith)
+panel-from g i k (suc n) ps l u =
     by-test (samePart (panel i) (panel k))
     (λ e. let z : i - k ≡ 0 = omega (arith, tests) in rw (e, z) (refl, omega arith))
     (λ e. let z : i - k ≡ suc (i - suc k) = omega (arith, tests) in
-    let r = panel-from g i (suc k) n (omega (arith, tests)) (omega arith) in rw (e, z) (r .0, omega (arith, r .1)))
+    let r = panel-from g i (suc k) n ps (omega (arith, tests)) (omega arith) in rw (e, z) (r .0, omega (arith, r .1)))
 
-from-has : (i k n : ℕ) → has (panel i) (panelsFrom k n) ≡ true → i < k + n
+-- and no other
+from-has : (i k n : ℕ) → has (panel i) (panelsFrom k n ++ (edge ∷ [])) ≡ true → i < k + n
 unfolding has
-from-has i k zero h = clash false h refl
+from-has i k zero h = clash false (rw (ne-eqb (tag (panel i)) (tag edge) (λ e. omega arith)) at h) refl
 from-has i k (suc n) h = by-test (samePart (panel i) (panel k)) (λ e. omega (arith, tests)) (λ e. omega (arith, from-has i (suc k) n (rw e at h)))
 
 module _ (g : Geometry) where
@@ -54,18 +55,26 @@ module _ (g : Geometry) where
   unfolding has
   has-flags = refl
 
+  pub has-edge : has edge (layout g) ≡ true
+  unfolding has
+  has-edge = edge-from 1 (g .panels - 1)
+    where
+      edge-from : (k n : ℕ) → has edge (panelsFrom k n ++ (edge ∷ [])) ≡ true
+      edge-from k zero = refl
+      edge-from k (suc n) = or-right (samePart edge (panel k)) (edge-from (suc k) n)
+
   -- the panels after the first stand after the flags
-  pub later : (k : ℕ) → let rest = panelsFrom 1 (g .panels - 1) in
+  pub later : (k : ℕ) → let rest = panelsFrom 1 (g .panels - 1) ++ (edge ∷ []) in
       (has (panel (suc k)) (layout g) ≡ has (panel (suc k)) rest) × (at g (panel (suc k)) ≡ at g flags + flagBytes (cells g) + offset (size g) (panel (suc k)) rest)
   unfolding has offset
   later k =
       let t = tag (panel (suc k)) in
-      rw (ne-eqb t 0 (λ e. omega arith), ne-eqb t 3 (λ e. omega arith), ne-eqb t 1 (λ e. omega arith), ne-eqb t 2 (λ e. omega arith)) (refl, omega arith)
+      rw (ne-eqb t 0 (λ e. omega arith), ne-eqb t 4 (λ e. omega arith), ne-eqb t 1 (λ e. omega arith), ne-eqb t 2 (λ e. omega arith)) (refl, omega arith)
 
   pub has-panel : (k : ℕ) → k < g .panels → has (panel k) (layout g) ≡ true
   unfolding has
   has-panel zero h = refl
-  has-panel (suc k) h = later k .0 ∙ panel-from g (suc k) 1 (g .panels - 1) (omega arith) (omega arith) .0
+  has-panel (suc k) h = later k .0 ∙ panel-from g (suc k) 1 (g .panels - 1) (edge ∷ []) (omega arith) (omega arith) .0
 
   pub panel-has : (k : ℕ) → 1 ≤ g .panels → has (panel k) (layout g) ≡ true → k < g .panels
   panel-has zero l h = l
@@ -126,6 +135,7 @@ module _ (g : Geometry) (r : List ℕ) (k : Passing g r) where
       let b = bytes-part g keys r (k .bytes) in
       all-again (size g keys) _ (partIn g keys r) (length-part g keys r h (k .sized)) (simp (byte0, byte1, byte2, byte3, b))
   part-again flags h = flags-read (cells g) (partIn g flags r) (length-part g flags r h (k .sized)) (part-passes flags h)
+  part-again edge h = all-again (size g edge) _ (partIn g edge r) (length-part g edge r h (k .sized)) refl
 
   pub encode-decode : encode g (decode g r) ≡ r
   unfolding encode
@@ -147,6 +157,7 @@ sizes g s z (panel k) =
     omega (arith, length-append (rectsBytes (p .owed)) (rectBytes (p .hand) ++ fourBytes (p .sent)), length-rects (p .owed), z .owed k)
 sizes g s z keys = cc (length-words (s .keys))
 sizes g s z flags = length-flags (s .flags) ∙ z .flags
+sizes g s z edge = refl
 
 pub count-decode : (g : Geometry) (r : List ℕ) → length (decode g r .panels) ≡ g .panels
 unfolding decode
@@ -237,6 +248,7 @@ decode-encode g s k f =
       panels = panels i;
       keys = keys-back g s z (f .keys) i;
       flags = (ap (flagsIn (cells g)) (b flags (has-flags g)) ∙ flags-written (cells g) (s .flags) (f .flags)) i;
+      edge = ap edgeByte (b edge (has-edge g)) i;
     }
 
 pub sized-panel : (g : Geometry) (k : ℕ) (p : Pending) (s : State) → Sized g s → k < length (s .panels) → length (p .owed) ≡ g .bands → Sized g (withPanel k p s)
@@ -251,27 +263,33 @@ sized-panel g k p s z h n = record {
 -- the bytes of the part q of t stored in the bytes of s, where the other parts of the two states are the same
 put-part : (g : Geometry) (q : RecordPart) (s t : State) → IsGlass g → has q (layout g) ≡ true → Sized g s → length (partBytes g t q) ≡ size g q
     → (samePart head q ≡ false → s .head ≡ t .head) → ((k : ℕ) → samePart (panel k) q ≡ false → panelOf g s k ≡ panelOf g t k)
-    → (samePart keys q ≡ false → s .keys ≡ t .keys) → (samePart flags q ≡ false → s .flags ≡ t .flags) → withWindow (at g q) (partBytes g t q) (encode g s) ≡ encode g t
+    → (samePart keys q ≡ false → s .keys ≡ t .keys) → (samePart flags q ≡ false → s .flags ≡ t .flags) → (samePart edge q ≡ false → s .edge ≡ t .edge)
+    → withWindow (at g q) (partBytes g t q) (encode g s) ≡ encode g t
 unfolding encode partBytes
-put-part g q s t l h z n a b c d = part-stored (size g) (partBytes g s) (partBytes g t) q (layout g) (sizes g s z) n but h (l .apart)
+put-part g q s t l h z n a b c d e = part-stored (size g) (partBytes g s) (partBytes g t) q (layout g) (sizes g s z) n but h (l .apart)
   where
     but : (p : RecordPart) → samePart p q ≡ false → partBytes g s p ≡ partBytes g t p
     but head e = ap bytesOfHead (a e)
     but (panel k) e = ap bytesOfPending (b k e)
     but keys e = ap wordsBytes (c e)
     but flags e = ap bytesOfFlags (d e)
+    but edge i = ap (λ (n : ℕ). n ∷ []) (e i)
 
 pub put-head : (g : Geometry) (h : Head) (s : State) → IsGlass g → Sized g s → withWindow 0 (bytesOfHead h) (encode g s) ≡ encode g (withHead h s)
 unfolding partBytes offset
-put-head g h s l z = put-part g head s (withHead h s) l (has-head g) z refl (λ e. clash true refl e) (λ k e. refl) (λ e. refl) (λ e. refl)
+put-head g h s l z = put-part g head s (withHead h s) l (has-head g) z refl (λ e. clash true refl e) (λ k e. refl) (λ e. refl) (λ e. refl) (λ e. refl)
 
 pub put-keys : (g : Geometry) (ks : List ℕ) (s : State) → IsGlass g → Sized g s → length ks ≡ 8 → withWindow (at g keys) (wordsBytes ks) (encode g s) ≡ encode g (withKeyWords ks s)
 unfolding partBytes
-put-keys g ks s l z n = put-part g keys s (withKeyWords ks s) l (has-keys g) z (cc (length-words ks)) (λ e. refl) (λ k e. refl) (λ e. clash true refl e) (λ e. refl)
+put-keys g ks s l z n = put-part g keys s (withKeyWords ks s) l (has-keys g) z (cc (length-words ks)) (λ e. refl) (λ k e. refl) (λ e. clash true refl e) (λ e. refl) (λ e. refl)
 
 pub put-flags : (g : Geometry) (fs : List Bool) (s : State) → IsGlass g → Sized g s → length fs ≡ cells g → withWindow (at g flags) (bytesOfFlags fs) (encode g s) ≡ encode g (withFlags fs s)
 unfolding partBytes
-put-flags g fs s l z n = put-part g flags s (withFlags fs s) l (has-flags g) z (length-flags fs ∙ n) (λ e. refl) (λ k e. refl) (λ e. refl) (λ e. clash true refl e)
+put-flags g fs s l z n = put-part g flags s (withFlags fs s) l (has-flags g) z (length-flags fs ∙ n) (λ e. refl) (λ k e. refl) (λ e. refl) (λ e. clash true refl e) (λ e. refl)
+
+pub put-edge : (g : Geometry) (n : ℕ) (s : State) → IsGlass g → Sized g s → withWindow (at g edge) (n ∷ []) (encode g s) ≡ encode g (withEdge n s)
+unfolding partBytes
+put-edge g n s l z = put-part g edge s (withEdge n s) l (has-edge g) z refl (λ e. refl) (λ k e. refl) (λ e. refl) (λ e. refl) (λ e. clash true refl e)
 
 pub put-panel : (g : Geometry) (k : ℕ) (p : Pending) (s : State) → IsGlass g → Sized g s → k < g .panels → length (s .panels) ≡ g .panels → length (p .owed) ≡ g .bands
     → withWindow (at g (panel k)) (bytesOfPending p) (encode g s) ≡ encode g (withPanel k p s)
@@ -280,4 +298,4 @@ put-panel g k p s l z h c n =
     let t = withPanel k p s in
     let here : panelOf g t k ≡ p = getD-set-same (s .panels) k p (nothingPending g) (omega arith) in
     cc (put-part g (panel k) s t l (has-panel g k h) z (sizes g t (sized-panel g k p s z (omega arith) n) (panel k)) (λ e. refl)
-    (λ i e. sym (getD-set-other (s .panels) k i p (nothingPending g) (λ q. omega (arith, tests)))) (λ e. refl) (λ e. refl))
+    (λ i e. sym (getD-set-other (s .panels) k i p (nothingPending g) (λ q. omega (arith, tests)))) (λ e. refl) (λ e. refl) (λ e. refl))

@@ -12,6 +12,7 @@ use native.Mathlib.Nat.{mul-le-mul-left, mul-le-mul-right}
 use native.Mathlib.Numerals.{add-one}
 use lib.Dec.{leb, ltb, eqb}
 use borrow.Author.Tests.{lt-ltb, le-ltb, leb-true, le-leb, eq-eqb, ne-eqb}
+use Rattle.model.specs.declared.Edge.{Edge}
 use Rattle.model.specs.declared.DrawMode.{DrawMode}
 use Rattle.model.specs.Pixels.{draw, seen}
 use Rattle.model.specs.Lines.{isUnknown, spanRect, horizontalLine, verticalLine, Slope, slopeOf, errorSum, stepped, nextError, slope, sloped, slopedLine, line}
@@ -164,26 +165,26 @@ sloped-marked st h x1 y1 x2 y2 d s e o hx h1 h2 p q r w =
 
 -- ---- case by case, as the code tells the cases apart
 
-module _ (st h x1 y1 x2 y2 : ℕ) (d : DrawMode) (s : List ℕ) where
-  pub line-horizontal : {a b : ℕ} {o : Drawn} → y1 ≡ y2 → a ≡ min x1 x2 → b ≡ max x1 x2 → o ≡ drawnOn st h (horizontalLine st h a b y1 d) s
-      → o ≡ drawnOn st h (line st h x1 y1 x2 y2 d) s
+module _ (st h : ℕ) (edge : Edge) (x1 y1 x2 y2 : ℕ) (d : DrawMode) (s : List ℕ) where
+  pub line-horizontal : {a b : ℕ} {o : Drawn} → y1 ≡ y2 → a ≡ min x1 x2 → b ≡ max x1 x2 → o ≡ drawnOn st h (horizontalLine st h edge a b y1 d) s
+      → o ≡ drawnOn st h (line st h edge x1 y1 x2 y2 d) s
   unfolding line
-  line-horizontal e p q w = rw (eq-eqb y1 y2 e) (w ∙ (λ i. drawnOn st h (horizontalLine st h (p i) (q i) y1 d) s))
+  line-horizontal e p q w = rw (eq-eqb y1 y2 e) (w ∙ (λ i. drawnOn st h (horizontalLine st h edge (p i) (q i) y1 d) s))
 
   pub line-unknown : {t : Bool} {m : Marks} → (y1 ≡ y2 → ⊥) → t ≡ isUnknown d → t ≡ true → m ≡ both none
-      → drawn m s ≡ drawnOn st h (line st h x1 y1 x2 y2 d) s
+      → drawn m s ≡ drawnOn st h (line st h edge x1 y1 x2 y2 d) s
   unfolding line drawn drawnOn owes within seen draw
   line-unknown n p q w = rw (ne-eqb y1 y2 n, ← p, q, w)
 
   pub line-vertical : {t : Bool} {a b : ℕ} {o : Drawn} → (y1 ≡ y2 → ⊥) → t ≡ isUnknown d → t ≡ false → x1 ≡ x2 → a ≡ min y1 y2 → b ≡ max y1 y2
-      → o ≡ drawnOn st h (verticalLine x1 a b d) s → o ≡ drawnOn st h (line st h x1 y1 x2 y2 d) s
+      → o ≡ drawnOn st h (verticalLine x1 a b d) s → o ≡ drawnOn st h (line st h edge x1 y1 x2 y2 d) s
   unfolding line
   line-vertical n p q e k l w = rw (ne-eqb y1 y2 n, ← p, q, eq-eqb x1 x2 e) (w ∙ (λ i. drawnOn st h (verticalLine x1 (k i) (l i) d) s))
 
   -- from its left end on
   pub line-slopes : {t : Bool} {a b c e : ℕ} {o : Drawn} → (y1 ≡ y2 → ⊥) → t ≡ isUnknown d → t ≡ false → (x1 ≡ x2 → ⊥)
       → a ≡ min x1 x2 → b ≡ cond (ltb x2 x1) y2 y1 → c ≡ max x1 x2 → e ≡ cond (ltb x2 x1) y1 y2
-      → o ≡ drawnOn st h (slopedLine a b c e d) s → o ≡ drawnOn st h (line st h x1 y1 x2 y2 d) s
+      → o ≡ drawnOn st h (slopedLine a b c e d) s → o ≡ drawnOn st h (line st h edge x1 y1 x2 y2 d) s
   unfolding line
   line-slopes n p q k pa pb pc pe w =
       rw (ne-eqb y1 y2 n, ← p, q, ne-eqb x1 x2 k)
@@ -194,15 +195,15 @@ module _ (st h x1 y1 x2 y2 : ℕ) (d : DrawMode) (s : List ℕ) where
 
 -- ---- every line: its mark passes STATE, and no write lies outside what it owes
 
-module _ (st h x1 y1 x2 y2 : ℕ) (d : DrawMode) (hx1 : x1 < 256) (hy1 : y1 < 256) (hx2 : x2 < 256) (hy2 : y2 < 256) where
+module _ (st h : ℕ) (edge : Edge) (x1 y1 x2 y2 : ℕ) (d : DrawMode) (hx1 : x1 < 256) (hy1 : y1 < 256) (hx2 : x2 < 256) (hy2 : y2 < 256) where
   -- both at once, case by case
-  line-lies : (fits 256 0 256 (line st h x1 y1 x2 y2 d .dirty) ≡ true) × (within (line st h x1 y1 x2 y2 d .owed) (line st h x1 y1 x2 y2 d .writes) ≡ true)
+  line-lies : (fits 256 0 256 (line st h edge x1 y1 x2 y2 d .dirty) ≡ true) × (within (line st h edge x1 y1 x2 y2 d .owed) (line st h edge x1 y1 x2 y2 d .writes) ≡ true)
   unfolding line horizontalLine verticalLine slopedLine
   line-lies =
       if-cases P (eqb y1 y2)
       (λ e. (
         span-fits (min x1 x2) y1 (max x1 x2) y1 (omega arith) (omega arith) (omega arith) (omega arith),
-        horizontal-within st h (spanRect (min x1 x2) y1 (max x1 x2) y1) (min x1 x2) (max x1 x2) y1 d (omega arith) (omega arith) (omega arith) (omega arith) (omega arith),
+        horizontal-within st h edge (spanRect (min x1 x2) y1 (max x1 x2) y1) (min x1 x2) (max x1 x2) y1 d (omega arith) (omega arith) (omega arith) (omega arith) (omega arith),
       ))
       (λ e. if-cases P (isUnknown d) (λ t. (fits-passes 256 0 256 none (inl refl), within-none none))
       (λ t. if-cases P (eqb x1 x2)
@@ -218,8 +219,8 @@ module _ (st h x1 y1 x2 y2 : ℕ) (d : DrawMode) (hx1 : x1 < 256) (hy1 : y1 < 25
       slope-lies : (a b c e : ℕ) → a < c → c < 256 → b < 256 → e < 256 → P (slopedLine a b c e d)
       slope-lies a b c e o hc hb he = (span-fits a (min b e) c (max b e) (omega arith) (omega arith) (omega arith) (omega arith), sloped-within a b c e d o hc hb he)
 
-  pub line-fits : fits 256 0 256 (line st h x1 y1 x2 y2 d .dirty) ≡ true
+  pub line-fits : fits 256 0 256 (line st h edge x1 y1 x2 y2 d .dirty) ≡ true
   line-fits = line-lies .0
 
-  pub line-owes : OwesItsMark st h (line st h x1 y1 x2 y2 d)
-  line-owes = owes-mark st h (line st h x1 y1 x2 y2 d .owed) (line st h x1 y1 x2 y2 d .writes) (line-lies .1)
+  pub line-owes : OwesItsMark st h (line st h edge x1 y1 x2 y2 d)
+  line-owes = owes-mark st h (line st h edge x1 y1 x2 y2 d .owed) (line st h edge x1 y1 x2 y2 d .writes) (line-lies .1)

@@ -1,12 +1,12 @@
 -- STATE as the code tests it, part after part in an order of its own: it is `valid`.
 use mathlib.Core.Path.{_≡_, refl, sym, ap, _∙_}
 use mathlib.Core.Bool.{Bool, true, false, not, _&&_, _||_}
-use mathlib.Core.List.{List}
+use mathlib.Core.List.{List, [], _∷_, _++_}
 use Prim.Native.Nat.{ℕ, zero, suc, _+_, _-_, _*_, _<_, _≤_}
 use native.Mathlib.Omega.{arith}
 use native.Mathlib.Numerals.{add-one}
 use lib.Dec.{leb, ltb}
-use lib.ListN.{length, take, drop}
+use lib.ListN.{length, getD, take, drop}
 use borrow.Author.Tests.{not-true, not-false}
 use Rattle.model.specs.declared.Rect.{Rect}
 use Rattle.model.specs.declared.Head.{Head}
@@ -17,13 +17,17 @@ use Rattle.model.specs.Memory.{window}
 use Rattle.model.specs.Rects.{fits}
 use Rattle.model.specs.Bytes.{rectAt, rectsAt}
 use Rattle.model.specs.Flags.{flagBytes, flagsFit}
-use Rattle.model.specs.Record.{panelsFrom, panel, flags, recordBytes, all, at, partIn, headOf, pendingOf, windows, headFits, bandsFit, pendingFits, partFits, valid}
-use Rattle.laws.specs.Record.{has-flags, part-in, length-part}
-use Rattle.laws.specs.Windows.{head-part, pending-part}
+use Rattle.model.specs.Record.{panelsFrom, panel, flags, edge, recordBytes, edgeFits, edgeByte, decode, all, at, partIn, headOf, pendingOf, windows, headFits, bandsFit, pendingFits, partFits, valid}
+use Rattle.laws.specs.Record.{has-flags, has-edge, part-in, length-part}
+use Rattle.laws.specs.Windows.{head-part, pending-part, edge-part}
 
-and-last : (s : Bool) → (s && true) ≡ s
+pub and-last : (s : Bool) → (s && true) ≡ s
 and-last true = refl
 and-last false = refl
+
+pub and-assoc : (a b c : Bool) → ((a && b) && c) ≡ (a && (b && c))
+and-assoc true b c = refl
+and-assoc false b c = refl
 
 -- ---- the panels' parts, from k on, n of them
 
@@ -31,30 +35,37 @@ unfoldable pub panelsFit : Geometry → List ℕ → ℕ → ℕ → Bool
 panelsFit g r k zero = true
 panelsFit g r k (suc n) = pendingFits g (pendingOf g r (at g (panel k))) && panelsFit g r (suc k) n
 
-panels-all : (g : Geometry) (r : List ℕ) (k n : ℕ) → panelsFit g r k n ≡ all (λ p. partFits g p (partIn g p r)) (panelsFrom k n)
+panels-all : (g : Geometry) (r : List ℕ) (k n : ℕ)
+    → (panelsFit g r k n && edgeFits (getD r (at g edge) 0)) ≡ all (λ p. partFits g p (partIn g p r)) (panelsFrom k n ++ (edge ∷ []))
 unfolding panelsFit all partFits
-panels-all g r k zero = refl
-panels-all g r k (suc n) = λ i. pendingFits g (sym (pending-part g r k) i) && panels-all g r (suc k) n i
+panels-all g r k zero = cc (and-last (edgeFits (getD r (at g edge) 0)), edge-part g r)
+panels-all g r k (suc n) =
+    let first = pendingFits g (pendingOf g r (at g (panel k))) in
+    cc (and-assoc first (panelsFit g r (suc k) n) (edgeFits (getD r (at g edge) 0)), pending-part g r k, panels-all g r (suc k) n)
 
 -- ---- the whole
 
--- the flags' test stands before those of the other panels
-flags-first : (a b c d : Bool) → ((a && (b && d)) && c) ≡ (a && (b && (c && d)))
-flags-first false b c d = refl
-flags-first true false c d = refl
-flags-first true true true d = and-last d
-flags-first true true false true = refl
-flags-first true true false false = refl
+-- the flags' test stands before those of the other panels, and the edge flag's behind them
+flags-first : (a b c d e : Bool) → (((a && e) && (b && d)) && c) ≡ (a && (b && (c && (d && e))))
+flags-first false b c d e = refl
+flags-first true false c d true = refl
+flags-first true false c d false = refl
+flags-first true true true d true = refl
+flags-first true true true true false = refl
+flags-first true true true false false = refl
+flags-first true true false true true = refl
+flags-first true true false false true = refl
+flags-first true true false d false = refl
 
-pub valid-is : (g : Geometry) (r : List ℕ) {a b c : Bool} → IsGlass g → a ≡ headFits g (headOf r) → b ≡ panelsFit g r 0 (g .panels)
-    → c ≡ flagsFit (cells g) (partIn g flags r) → ((a && b) && c) ≡ valid g r
+pub valid-is : (g : Geometry) (r : List ℕ) {a b c e : Bool} → IsGlass g → a ≡ headFits g (headOf r) → b ≡ panelsFit g r 0 (g .panels)
+    → c ≡ flagsFit (cells g) (partIn g flags r) → e ≡ edgeFits (getD r (at g edge) 0) → (((a && e) && b) && c) ≡ valid g r
 unfolding valid partFits all panelsFit
-valid-is g r {a} {b} {c} l fa fb fc =
+valid-is g r {a} {b} {c} {e} l fa fb fc fe =
     let n = g .panels - 1 in
     let some : g .panels ≡ suc n = omega (arith, l .one) in
     let first = pendingFits g (pendingOf g r (at g (panel 0))) in
     let two : b ≡ (first && panelsFit g r 1 n) = cc in
-    cc (flags-first a first c (panelsFit g r 1 n), head-part g r, pending-part g r 0, panels-all g r 1 n)
+    cc (flags-first a first c (panelsFit g r 1 n) e, head-part g r, pending-part g r 0, panels-all g r 1 n)
 
 -- ---- as the code goes, with the glass by value
 
@@ -121,27 +132,45 @@ flags-part v r z =
 pub flags-sized : (v : Glass) (r : List ℕ) → Suits v → length r ≡ recordBytes (geometry v) → length (take (v .others - v .flags) (drop (v .flags) r)) ≡ flagBytes (v .cells)
 flags-sized v r z l = cc (flags-part v r z, length-part (geometry v) flags r (has-flags (geometry v)) l, z .is-cells)
 
--- the head fails, or a panel does, or the flags decide
+-- the head fails, or the edge flag does, or a panel, or the flags decide
 module _ (v : Glass) (r : List ℕ) {h : Head} {a : Bool} (z : Suits v) (e : h ≡ headOf r) (f : a ≡ headFits (geometry v) h) where
   heads : a ≡ headFits (geometry v) (headOf r)
   heads = f ∙ ap (headFits (geometry v)) e
 
+  -- with the panels' test, the flags' and the edge flag's as they are
+  tested : {b c x : Bool} → b ≡ panelsFit (geometry v) r 0 (v .panels) → c ≡ flagsFit (cells (geometry v)) (partIn (geometry v) flags r) → x ≡ edgeFits (getD r (v .edge) 0)
+      → (((a && x) && b) && c) ≡ valid (geometry v) r
+  tested p q y = valid-is (geometry v) r (z .glass) heads p q (y ∙ ap (λ (i : ℕ). edgeFits (getD r i 0)) (z .is-edge))
+
   pub head-fails : not a ≡ true → false ≡ valid (geometry v) r
-  head-fails n =
-      let g = geometry v in
-      let y = not-true a n in
-      cc (valid-is g r {b = panelsFit g r 0 (g .panels)} {c = flagsFit (cells g) (partIn g flags r)} (z .glass) heads refl refl)
+  head-fails n = let y = not-true a n in cc (tested refl refl refl)
 
-  module _ (n : not a ≡ false) {b : Bool} (p : b ≡ panelsFit (geometry v) r 0 (v .panels)) where
-    pub panel-fails : not b ≡ true → false ≡ valid (geometry v) r
-    panel-fails m =
-        let g = geometry v in
-        let x = not-false a n in
-        let y = not-true b m in
-        cc (valid-is g r {c = flagsFit (cells g) (partIn g flags r)} (z .glass) heads p refl)
+  module _ (n : not a ≡ false) {x : Bool} (y : x ≡ edgeFits (getD r (v .edge) 0)) where
+    pub edge-fails : not x ≡ true → false ≡ valid (geometry v) r
+    edge-fails m =
+        let i = not-false a n in
+        let j = not-true x m in
+        cc (tested refl refl y)
 
-    pub flags-decide : {c : Bool} → not b ≡ false → c ≡ flagsFit (v .cells) (take (v .others - v .flags) (drop (v .flags) r)) → c ≡ valid (geometry v) r
-    flags-decide {c} m q =
-        let x = not-false a n in
-        let y = not-false b m in
-        cc (valid-is (geometry v) r (z .glass) heads p (q ∙ (λ i. flagsFit (z .is-cells i) (flags-part v r z i))))
+    module _ (m : not x ≡ false) {b : Bool} (p : b ≡ panelsFit (geometry v) r 0 (v .panels)) where
+      pub panel-fails : not b ≡ true → false ≡ valid (geometry v) r
+      panel-fails l =
+          let i = not-false a n in
+          let j = not-false x m in
+          let k = not-true b l in
+          cc (tested p refl y)
+
+      pub flags-decide : {c : Bool} → not b ≡ false → c ≡ flagsFit (v .cells) (take (v .others - v .flags) (drop (v .flags) r)) → c ≡ valid (geometry v) r
+      flags-decide {c} l q =
+          let i = not-false a n in
+          let j = not-false x m in
+          let k = not-false b l in
+          cc (tested p (q ∙ (λ i. flagsFit (z .is-cells i) (flags-part v r z i))) y)
+
+-- the edge flag is the record's last part, and lies in it
+pub edge-room : (v : Glass) → Suits v → v .edge + 1 ≤ recordBytes (geometry v)
+edge-room v z = let p = part-in (geometry v) edge (has-edge (geometry v)) in omega (arith, z .is-edge)
+
+pub edge-decoded : (v : Glass) (r : List ℕ) → Suits v → getD r (v .edge) 0 ≡ decode (geometry v) r .edge
+unfolding decode
+edge-decoded v r z = cc (edge-part (geometry v) r, z .is-edge)

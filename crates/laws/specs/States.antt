@@ -7,12 +7,13 @@ use native.Mathlib.Omega.{arith}
 use Rattle.model.specs.declared.Rect.{Rect}
 use Rattle.model.specs.Geometry.{Geometry, cells}
 use Rattle.model.specs.Bytes.{wordsAt, four, rectBytes, rectsBytes, wordsBytes, fourBytes, Bytes, Words}
-use Rattle.model.specs.Record.{RecordPart, written, head, panel, keys, flags, has, layout, size, partIn, State, decode, encode, bytesOfHead, partBytes, panelOf, partFits, valid, WellFormed}
+use Rattle.model.specs.Record.{RecordPart, written, head, panel, keys, flags, edge, has, layout, size, partIn, State, decode, encode, bytesOfHead, partBytes, panelOf, partFits, valid, WellFormed}
 use Rattle.model.specs.Glass.{IsGlass}
+use Rattle.laws.specs.Tests.{tests}
 use Rattle.laws.specs.Layout.{bytes-cons, bytes-nil, bytes-append, length-rectsAt}
 use Rattle.laws.specs.PartLists.{length-written, all-of}
 use Rattle.laws.specs.Flags.{length-flagsIn, flags-fit, flags-bytes}
-use Rattle.laws.specs.Record.{Passing, head-tells, part-passes, has-head, has-flags, has-panel, panel-has, length-part, bytes-part, panel-decoded, count-decode, well-sized, sizes, part-encode, head-back, pending-back}
+use Rattle.laws.specs.Record.{Passing, head-tells, part-passes, has-head, has-flags, has-edge, has-panel, panel-has, length-part, bytes-part, panel-decoded, count-decode, well-sized, sizes, part-encode, head-back, pending-back}
 
 -- ---- a record that passes
 
@@ -37,6 +38,7 @@ well-formed g r p = record {
   words = refl;
   keys = words 8 (partIn g keys r) 0 (bytes-part g keys r (p .bytes));
   flags = length-flagsIn (cells g) (partIn g flags r) (length-part g flags r (has-flags g) (p .sized));
+  edge = part-passes g r p edge (has-edge g);
 }
 
 -- ---- a well formed state
@@ -72,6 +74,7 @@ module _ (g : Geometry) (k : IsGlass g) (s : State) (f : WellFormed g s) where
       bytes-append (rectsBytes (p .owed)) rest (rects-bytes (p .owed)) (bytes-all rest (omega arith))
   part-bytes keys = words-bytes (s .keys)
   part-bytes flags = flags-bytes (s .flags)
+  part-bytes edge = bytes-all (s .edge ∷ []) (omega (arith, tests, f .edge))
 
   part-fits : (p : RecordPart) → has p (layout g) ≡ true → partFits g p (partBytes g s p) ≡ true
   unfolding partBytes partFits
@@ -79,6 +82,7 @@ module _ (g : Geometry) (k : IsGlass g) (s : State) (f : WellFormed g s) where
   part-fits (panel i) h = let w = f .panels i (panel-has g i (k .one) h) in cc (pending-back g (panelOf g s i) k w)
   part-fits keys h = refl
   part-fits flags h = cc (flags-fit (s .flags))
+  part-fits edge h = f .edge
 
   pub encode-passing : Passing g (encode g s)
   unfolding encode valid

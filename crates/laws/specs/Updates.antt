@@ -84,7 +84,7 @@ unmarked g r k = ap (encode g) (unmarked-state g (decode g r)) ∙ encode-decode
 
 -- other flags in a well formed state
 pub flags-formed : (g : Geometry) (fs : List Bool) (s : State) → WellFormed g s → length fs ≡ cells g → WellFormed g (withFlags fs s)
-flags-formed g fs s w n = record { head = w .head; count = w .count; panels = w .panels; words = w .words; keys = w .keys; flags = n }
+flags-formed g fs s w n = record { head = w .head; count = w .count; panels = w .panels; words = w .words; keys = w .keys; flags = n; edge = w .edge }
 
 -- the flags' part was lent and came back as fs
 module _ {v : Glass} {r : List ℕ} (k : Known v r) (fs : List Bool) (n : length fs ≡ cells (geometry v)) {c : List ℕ} (e : c ≡ bytesOfFlags fs) where

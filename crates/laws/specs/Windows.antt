@@ -9,7 +9,7 @@ use lib.Seq.{getD-take, getD-drop}
 use Rattle.model.specs.Geometry.{Geometry}
 use Rattle.model.specs.Memory.{window}
 use Rattle.model.specs.Bytes.{wordsAt}
-use Rattle.model.specs.Record.{head, panel, keys, offset, at, partIn, pendingBytes, headOf, pendingOf, keysOf}
+use Rattle.model.specs.Record.{head, panel, keys, edge, offset, at, partIn, pendingBytes, headOf, pendingOf, keysOf, edgeByte}
 use Rattle.laws.specs.Layout.{Alike, four-alike, rect-alike, rects-alike, words-alike}
 
 window-alike : (a m : ℕ) (r : List ℕ) → Alike m (window a m r) 0 r a
@@ -18,6 +18,9 @@ window-alike a m r = record { each = λ k h. rw (zero-add k, getD-take m (drop a
 
 pub keys-part : (g : Geometry) (r : List ℕ) → keysOf (partIn g keys r) ≡ wordsAt 8 r (at g keys)
 keys-part g r = cc (words-alike (window-alike (at g keys) 32 r) 8 0 (omega arith), add-zero (at g keys))
+
+pub edge-part : (g : Geometry) (r : List ℕ) → edgeByte (partIn g edge r) ≡ getD r (at g edge) 0
+edge-part g r = cc (window-alike (at g edge) 1 r .each 0 (omega arith), add-zero (at g edge))
 
 pub pending-part : (g : Geometry) (r : List ℕ) (k : ℕ) → pendingOf g (partIn g (panel k) r) 0 ≡ pendingOf g r (at g (panel k))
 pending-part g r k =

@@ -6,18 +6,19 @@ use lib.Dec.{leb, ltb, eqb}
 use lib.IntN.{ℤ}
 use lib.ListN.{length}
 use Rattle.model.specs.declared.Head.{Head}
+use Rattle.model.specs.declared.Edge.{Edge}
 use Rattle.model.specs.declared.Value.{Value}
 use Rattle.model.specs.declared.Area.{Area}
 use Rattle.model.specs.declared.Sent.{Sent}
 use Rattle.model.specs.Geometry.{Geometry, height, rows, columns, screenBytes, memoryBytes}
 use Rattle.model.specs.Rects.{Rect, none}
 use Rattle.model.specs.Memory.{window, screenOf, withScreen}
-use Rattle.model.specs.Record.{decode, encode, valid, windows, recordBytes, panelOf, withHead, withPanel}
+use Rattle.model.specs.Record.{decode, encode, valid, windows, edgeFits, recordBytes, panelOf, withHead, withPanel}
 use Rattle.model.specs.Refusals.{LENT, STATE, WINDOW, VALUE, SOURCE, RADIUS, GLYPH, ENDLESS, PANEL, Test, test, refusal, ruled}
 use Rattle.model.specs.Marks.{Drawing, whole, drawnOn, marked, withDirty}
 use Rattle.model.specs.Open.{clearMemory, openState, resetState}
 use Rattle.model.specs.Points.{drawMode, point, isSet}
-use Rattle.model.specs.Lines.{line}
+use Rattle.model.specs.Lines.{edgeOf, line}
 use Rattle.model.specs.Boxes.{box}
 use Rattle.model.specs.Ellipses.{ellipse, circle, radiiFit, stepsFit}
 use Rattle.model.specs.Bitmaps.{paintMode, sourceBytes, sourceFits, bitmap}
@@ -31,8 +32,8 @@ use Rattle.model.specs.Sends.{sendPending, sendNumbers, sendPanel}
 
 -- every exported call that is lent the record, with the numbers that it is told
 pub data Call : Type 0 where
-  -- graphics base, text base, version, key words
-  opening : ℕ → ℕ → ℕ → List ℕ → Call
+  -- graphics base, text base, version, key words, edge flag
+  opening : ℕ → ℕ → ℕ → List ℕ → ℕ → Call
   reset : Call
   -- x, y, mode
   drawPoint : ℕ → ℕ → ℕ → Call
@@ -105,7 +106,7 @@ pub data Lending : Type 0 where
   with-panel : ℕ → Lending
 
 abbrev pub takes : Call → Lending
-takes (opening graphics text version keys) = to-open
+takes (opening graphics text version keys edge) = to-open
 takes reset = with-memory
 takes (drawPoint x y mode) = with-memory
 takes (drawLine x1 y1 x2 y2 mode) = with-memory
@@ -180,7 +181,7 @@ ellipseTests rx ry fill mode =
     test ENDLESS (stepsFit rx ry (filled fill) (drawMode mode)) ∷ []
 
 abbrev pub ownTests : Geometry → Call → Lent → List Test
-ownTests g (opening graphics text version keys) l = test WINDOW (windows g graphics text) ∷ test VALUE (leb version 1) ∷ []
+ownTests g (opening graphics text version keys edge) l = test WINDOW (windows g graphics text) ∷ test VALUE (leb version 1 && edgeFits edge) ∷ []
 ownTests g reset l = []
 ownTests g (drawPoint x y mode) l = test VALUE (leb mode 3) ∷ []
 ownTests g (drawLine x1 y1 x2 y2 mode) l = test VALUE (leb mode 3) ∷ []
@@ -210,7 +211,7 @@ refusals g c l = lentTest g (l .rec) (lengthsFit g (takes c) l) ∷ (stateTests 
 
 -- how many numbers stand beside the code in a call's result
 abbrev pub numbers : Call → ℕ
-numbers (opening graphics text version keys) = 0
+numbers (opening graphics text version keys edge) = 0
 numbers reset = 0
 numbers (drawPoint x y mode) = 0
 numbers (drawLine x1 y1 x2 y2 mode) = 0
@@ -236,6 +237,10 @@ numbers takeDirtyArea = 4
 numbers (send k) = 4
 
 -- ---- what an accepted call does
+
+-- what horizontal lines do at the edge, by the record that is lent
+abbrev pub edgeIn : Geometry → Lent → Edge
+edgeIn g l = edgeOf (decode g (l .rec) .edge)
 
 -- a drawing over the screen in memory, and the head that f makes
 unfoldable pub drawingWith : Geometry → (Head → Head) → Drawing → Lent → Lent
@@ -263,7 +268,7 @@ withPage g p l = let s = decode g (l .rec) in lent (encode g (stateWithPage g p 
 unfoldable pub blinked : Geometry → Lent → Lent
 blinked g l =
     let h = decode g (l .rec) .head in
-    cond (eqb (h .screen) 0) (drawingWith g (blinkHead g (l .memory)) (blinkDrawing g h (l .memory)) l) l
+    cond (eqb (h .screen) 0) (drawingWith g (blinkHead g (l .memory)) (blinkDrawing g (edgeIn g l) h (l .memory)) l) l
 
 -- without a cursor nothing; else a blink, which in Text leaves none shown, and in Graph none is shown all the same
 unfoldable pub cursorCleared : Geometry → Lent → Lent
@@ -278,16 +283,16 @@ abbrev pub rectNumbers : Rect → List ℕ
 rectNumbers q = q .left ∷ q .top ∷ q .right ∷ q .bottom ∷ []
 
 unfoldable pub done : Geometry → Call → Lent → Outcome
-done g (opening graphics text version keys) l =
-    answered 0 [] (lent (encode g (openState g graphics text version keys)) (clearMemory keys) (l .panel))
+done g (opening graphics text version keys edge) l =
+    answered 0 [] (lent (encode g (openState g graphics text version keys edge)) (clearMemory keys) (l .panel))
 done g reset l =
     let s = decode g (l .rec) in
     answered 0 [] (lent (encode g (resetState g s)) (clearMemory (s .keys)) (l .panel))
 done g (drawPoint x y mode) l = answered 0 [] (drawing g (point (g .stride) (height g) x y (drawMode mode)) l)
-done g (drawLine x1 y1 x2 y2 mode) l = answered 0 [] (drawing g (line (g .stride) (height g) x1 y1 x2 y2 (drawMode mode)) l)
-done g (drawBox x1 y1 x2 y2 fill mode) l = answered 0 [] (drawing g (box (g .stride) (height g) x1 y1 x2 y2 (filled fill) (drawMode mode)) l)
-done g (drawCircle x y r fill mode) l = answered 0 [] (drawing g (circle (g .stride) (height g) x y r (filled fill) (drawMode mode)) l)
-done g (drawEllipse x y rx ry fill mode) l = answered 0 [] (drawing g (ellipse (g .stride) (height g) x y rx ry (filled fill) (drawMode mode)) l)
+done g (drawLine x1 y1 x2 y2 mode) l = answered 0 [] (drawing g (line (g .stride) (height g) (edgeIn g l) x1 y1 x2 y2 (drawMode mode)) l)
+done g (drawBox x1 y1 x2 y2 fill mode) l = answered 0 [] (drawing g (box (g .stride) (height g) (edgeIn g l) x1 y1 x2 y2 (filled fill) (drawMode mode)) l)
+done g (drawCircle x y r fill mode) l = answered 0 [] (drawing g (circle (g .stride) (height g) (edgeIn g l) x y r (filled fill) (drawMode mode)) l)
+done g (drawEllipse x y rx ry fill mode) l = answered 0 [] (drawing g (ellipse (g .stride) (height g) (edgeIn g l) x y rx ry (filled fill) (drawMode mode)) l)
 done g (checkPoint x y) l =
     answered 0 (flag (isSet (g .stride) (height g) (screenOf g (decode g (l .rec) .head .graphics) (l .memory)) x y) ∷ []) l
 done g (paintBitmap a x y w n mode) l =

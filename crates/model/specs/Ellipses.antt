@@ -3,12 +3,13 @@ use mathlib.Core.Bool.{Bool, true, false, not, cond, _&&_, _||_}
 use mathlib.Core.List.{List, [], _∷_, _++_}
 use Prim.Native.Nat.{ℕ, zero, suc, _+_, _-_, _*_, _%_, max}
 use lib.Dec.{ltb, leb, eqb}
+use Rattle.model.specs.declared.Edge.{Edge}
 use Rattle.model.specs.declared.DrawMode.{DrawMode}
 use Rattle.model.specs.Pixels.{PixelWrite}
-use Rattle.model.specs.Rects.{Rect, lowered}
+use Rattle.model.specs.Rects.{Rect}
 use Rattle.model.specs.Marks.{Drawing, whole}
 use Rattle.model.specs.Points.{pointWrite, point}
-use Rattle.model.specs.Lines.{isUnknown, nothing, horizontal}
+use Rattle.model.specs.Lines.{isUnknown, nothing, horizontal, owedBy}
 
 -- ---- the walk, of the radii rx and ry, the larger of which is r
 
@@ -165,18 +166,18 @@ corners x y d q =
     pointWrite (down x (q .a)) (up y (q .b)) d ∷ pointWrite (up x (q .a)) (up y (q .b)) d ∷ []
 
 -- a horizontal from corner to corner; where the left one lies right of the right one, it starts at 0
-unfoldable pub chord : ℕ → ℕ → ℕ → ℕ → ℕ → DrawMode → List PixelWrite
-chord st h x a y d = horizontal st h (cond (ltb (up x a) (down x a)) 0 (down x a)) (up x a) y d
+unfoldable pub chord : ℕ → ℕ → Edge → ℕ → ℕ → ℕ → DrawMode → List PixelWrite
+chord st h e x a y d = horizontal st h e (cond (ltb (up x a) (down x a)) 0 (down x a)) (up x a) y d
 
-unfoldable pub chords : ℕ → ℕ → ℕ → ℕ → DrawMode → Part → List PixelWrite
-chords st h x y d q = chord st h x (q .a) (down y (q .b)) d ++ chord st h x (q .a) (up y (q .b)) d
+unfoldable pub chords : ℕ → ℕ → Edge → ℕ → ℕ → DrawMode → Part → List PixelWrite
+chords st h e x y d q = chord st h e x (q .a) (down y (q .b)) d ++ chord st h e x (q .a) (up y (q .b)) d
 
-unfoldable pub partWrites : ℕ → ℕ → ℕ → ℕ → Bool → DrawMode → Part → List PixelWrite
-partWrites st h x y fill d q = cond fill (chords st h x y d q) (corners x y d q)
+unfoldable pub partWrites : ℕ → ℕ → Edge → ℕ → ℕ → Bool → DrawMode → Part → List PixelWrite
+partWrites st h e x y fill d q = cond fill (chords st h e x y d q) (corners x y d q)
 
-unfoldable pub partsWrites : ℕ → ℕ → ℕ → ℕ → Bool → DrawMode → List Part → List PixelWrite
-partsWrites st h x y fill d [] = []
-partsWrites st h x y fill d (q ∷ qs) = partWrites st h x y fill d q ++ partsWrites st h x y fill d qs
+unfoldable pub partsWrites : ℕ → ℕ → Edge → ℕ → ℕ → Bool → DrawMode → List Part → List PixelWrite
+partsWrites st h e x y fill d [] = []
+partsWrites st h e x y fill d (q ∷ qs) = partWrites st h e x y fill d q ++ partsWrites st h e x y fill d qs
 
 -- ---- marks
 
@@ -192,10 +193,10 @@ ellipseMark st h x y rx ry =
 
 -- ---- `draw_ellipse`
 
-unfoldable pub ellipseDrawn : ℕ → ℕ → ℕ → ℕ → ℕ → ℕ → Bool → DrawMode → Drawing
-ellipseDrawn st h x y rx ry fill d =
+unfoldable pub ellipseDrawn : ℕ → ℕ → Edge → ℕ → ℕ → ℕ → ℕ → Bool → DrawMode → Drawing
+ellipseDrawn st h e x y rx ry fill d =
     let m = ellipseMark st h x y rx ry in
-    record { writes = partsWrites st h x y fill d (parts rx ry); dirty = m; owed = cond fill (lowered (8 * st) h m) m }
+    record { writes = partsWrites st h e x y fill d (parts rx ry); dirty = m; owed = cond fill (owedBy st h e m) m }
 
 -- the two early returns: two zero radii are a point, and an outline in Unknown is nothing
 unfoldable pub isPoint : ℕ → ℕ → Bool
@@ -204,15 +205,15 @@ isPoint rx ry = eqb rx 0 && eqb ry 0
 unfoldable pub isNothing : Bool → DrawMode → Bool
 isNothing fill d = not fill && isUnknown d
 
-unfoldable pub ellipse : ℕ → ℕ → ℕ → ℕ → ℕ → ℕ → Bool → DrawMode → Drawing
-ellipse st h x y rx ry fill d =
+unfoldable pub ellipse : ℕ → ℕ → Edge → ℕ → ℕ → ℕ → ℕ → Bool → DrawMode → Drawing
+ellipse st h e x y rx ry fill d =
     cond (isPoint rx ry) (point st h x y d)
     (cond (isNothing fill d) nothing
-    (ellipseDrawn st h x y rx ry fill d))
+    (ellipseDrawn st h e x y rx ry fill d))
 
 -- `draw_circle`
-abbrev pub circle : ℕ → ℕ → ℕ → ℕ → ℕ → Bool → DrawMode → Drawing
-circle st h x y r fill d = ellipse st h x y r r fill d
+abbrev pub circle : ℕ → ℕ → Edge → ℕ → ℕ → ℕ → Bool → DrawMode → Drawing
+circle st h e x y r fill d = ellipse st h e x y r r fill d
 
 -- ---- RADIUS and ENDLESS: tested only after these returns
 

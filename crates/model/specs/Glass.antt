@@ -6,7 +6,7 @@ use Rattle.model.specs.declared.glass.Glass.{Glass}
 use Rattle.model.specs.declared.Canvas.{Canvas}
 use Rattle.model.specs.Geometry.{Geometry, base, width, height, glyphHeight, rows, columns, cells, screenBytes}
 use Rattle.model.specs.Flags.{flagBytes}
-use Rattle.model.specs.Record.{keys, flags, distinct, layout, at, pendingBytes, recordBytes}
+use Rattle.model.specs.Record.{keys, flags, edge, distinct, layout, at, pendingBytes, recordBytes}
 
 -- the glass that a record of n bytes is for: there is one
 abbrev pub glassOf : ℕ → Geometry
@@ -62,3 +62,4 @@ pub record Suits (v : Glass) : Type 0 where
   pub is-keys : v .keys ≡ at (geometry v) keys
   pub is-flags : v .flags ≡ at (geometry v) flags
   pub is-others : v .others ≡ at (geometry v) flags + flagBytes (cells (geometry v))
+  pub is-edge : v .edge ≡ at (geometry v) edge

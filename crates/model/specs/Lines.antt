@@ -3,6 +3,8 @@ use mathlib.Core.Bool.{Bool, true, false, not, cond}
 use mathlib.Core.List.{List, [], _∷_}
 use Prim.Native.Nat.{ℕ, zero, suc, _+_, _-_, _*_, _%_, min, max}
 use lib.Dec.{ltb, leb, eqb}
+use Rattle.model.specs.declared.Edge.{Edge}
+use Rattle.model.specs.declared.Edge.the-variants.{Clamp, Stop}
 use Rattle.model.specs.declared.DrawMode.{DrawMode}
 use Rattle.model.specs.declared.DrawMode.the-variants.{Clear, Or, Xor, Unknown}
 use Rattle.model.specs.Pixels.{PixelWrite}
@@ -43,15 +45,33 @@ abbrev pub clamp : ℕ → ℕ → ℕ
 clamp z n = min z (n - 1)
 
 -- `draw_hor_line`: left to right of line y, clamped to the screen and not clipped
-unfoldable pub horizontal : ℕ → ℕ → ℕ → ℕ → ℕ → DrawMode → List PixelWrite
-horizontal st h left right y d =
+unfoldable pub clamped : ℕ → ℕ → ℕ → ℕ → ℕ → DrawMode → List PixelWrite
+clamped st h left right y d =
     pixelRun (clamp left (8 * st)) (clamp y h) (suc (clamp right (8 * st) - clamp left (8 * st))) d
 
-unfoldable pub horizontalLine : ℕ → ℕ → ℕ → ℕ → ℕ → DrawMode → Drawing
-horizontalLine st h left right y d = record {
-  writes = horizontal st h left right y d;
+-- left to right of line y as they are: off the screen it draws nothing
+unfoldable pub stopped : ℕ → ℕ → ℕ → DrawMode → List PixelWrite
+stopped left right y d = pixelRun left y (suc (right - left)) d
+
+-- the edge flag: 0 clamp, 1 stop
+unfoldable pub edgeOf : ℕ → Edge
+edgeOf n = cond (eqb n 0) Clamp Stop
+
+-- the one or the other, by the edge flag: boxes and filled ellipses are made of these
+unfoldable pub horizontal : ℕ → ℕ → Edge → ℕ → ℕ → ℕ → DrawMode → List PixelWrite
+horizontal st h Clamp left right y d = clamped st h left right y d
+horizontal st h Stop left right y d = stopped left right y d
+
+-- what is owed for the mark of horizontals: lowered where they are clamped
+unfoldable pub owedBy : ℕ → ℕ → Edge → Rect → Rect
+owedBy st h Clamp m = lowered (8 * st) h m
+owedBy st h Stop m = m
+
+unfoldable pub horizontalLine : ℕ → ℕ → Edge → ℕ → ℕ → ℕ → DrawMode → Drawing
+horizontalLine st h e left right y d = record {
+  writes = horizontal st h e left right y d;
   dirty = spanRect left y right y;
-  owed = lowered (8 * st) h (spanRect left y right y);
+  owed = owedBy st h e (spanRect left y right y);
 }
 
 -- ---- vertical
@@ -127,9 +147,9 @@ slopedLine x1 y1 x2 y2 d = record {
 
 -- ---- `draw_line`: horizontal where the ends are on one line; Unknown does nothing otherwise
 
-unfoldable pub line : ℕ → ℕ → ℕ → ℕ → ℕ → ℕ → DrawMode → Drawing
-line st h x1 y1 x2 y2 d =
-    cond (eqb y1 y2) (horizontalLine st h (min x1 x2) (max x1 x2) y1 d)
+unfoldable pub line : ℕ → ℕ → Edge → ℕ → ℕ → ℕ → ℕ → DrawMode → Drawing
+line st h e x1 y1 x2 y2 d =
+    cond (eqb y1 y2) (horizontalLine st h e (min x1 x2) (max x1 x2) y1 d)
     (cond (isUnknown d) nothing
     (cond (eqb x1 x2) (verticalLine x1 (min y1 y2) (max y1 y2) d)
     (cond (ltb x2 x1) (slopedLine x2 y2 x1 y1 d)

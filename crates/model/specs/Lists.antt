@@ -21,7 +21,7 @@ use Rattle.model.specs.Bitmaps.{paintMode, sourceBytes, bitmap}
 use Rattle.model.specs.Memory.{window}
 use Rattle.model.specs.Poke.{pokeMark}
 use Rattle.model.specs.Sends.{sendPending}
-use Rattle.model.specs.Calls.{Call, opening, reset, drawPoint, drawLine, drawBox, drawCircle, drawEllipse, checkPoint, paintBitmap, writeByte, flush, getRow, getColumn, setRow, setColumn, setPrintMode, takeDirtyArea, send, Lent, lent, Lending, to-open, record-only, with-memory, with-fonts, with-panel, takes, filled, refusals, outcome, print, newline, cls, setScreenMode, blinkCursor, clearCursor}
+use Rattle.model.specs.Calls.{Call, opening, reset, drawPoint, drawLine, drawBox, drawCircle, drawEllipse, checkPoint, paintBitmap, writeByte, flush, getRow, getColumn, setRow, setColumn, setPrintMode, takeDirtyArea, send, Lent, lent, Lending, to-open, record-only, with-memory, with-fonts, with-panel, takes, filled, edgeIn, refusals, outcome, print, newline, cls, setScreenMode, blinkCursor, clearCursor}
 use Rattle.model.specs.Print.{Page, newlineOn, isInverse, printOn, pageOf, screenScrolls, scrollMark}
 use Rattle.model.specs.Cursor.{blinkDrawing}
 use lib.ListN.{length, getD, set}
@@ -33,7 +33,7 @@ accepted g c l = refusal (refusals g c l) ≡ 0
 
 -- the numbers of a call are numbers of the types that the C interface gives them
 abbrev pub Typed : Call → Type 0
-Typed (opening graphics text version keys) = (length keys ≡ 8) × Words keys
+Typed (opening graphics text version keys edge) = (length keys ≡ 8) × Words keys
 Typed reset = Unit {0}
 Typed (drawPoint x y mode) = (x < 256) × (y < 256) × (mode < 256)
 Typed (drawLine x1 y1 x2 y2 mode) = (x1 < 256) × (y1 < 256) × (x2 < 256) × (y2 < 256) × (mode < 256)
@@ -131,17 +131,17 @@ prints g p l = marks (scrollMark (g .stride) (height g) (screenScrolls (decode g
 unfoldable pub blinks : Geometry → Lent → Effect
 blinks g l =
     let h = decode g (l .rec) .head in
-    cond (eqb (h .screen) 0) (draws g (blinkDrawing g h (l .memory))) nothing
+    cond (eqb (h .screen) 0) (draws g (blinkDrawing g (edgeIn g l) h (l .memory))) nothing
 
 -- what each call does to those of panel k where it is accepted, in the state that the calls before it leave
 unfoldable pub effect : Geometry → ℕ → Call → Lent → Effect
-effect g k (opening graphics text version keys) l = opens
+effect g k (opening graphics text version keys edge) l = opens
 effect g k reset l = marks (whole (g .stride) (height g))
 effect g k (drawPoint x y mode) l = draws g (point (g .stride) (height g) x y (drawMode mode))
-effect g k (drawLine x1 y1 x2 y2 mode) l = draws g (line (g .stride) (height g) x1 y1 x2 y2 (drawMode mode))
-effect g k (drawBox x1 y1 x2 y2 fill mode) l = draws g (box (g .stride) (height g) x1 y1 x2 y2 (filled fill) (drawMode mode))
-effect g k (drawCircle x y r fill mode) l = draws g (circle (g .stride) (height g) x y r (filled fill) (drawMode mode))
-effect g k (drawEllipse x y rx ry fill mode) l = draws g (ellipse (g .stride) (height g) x y rx ry (filled fill) (drawMode mode))
+effect g k (drawLine x1 y1 x2 y2 mode) l = draws g (line (g .stride) (height g) (edgeIn g l) x1 y1 x2 y2 (drawMode mode))
+effect g k (drawBox x1 y1 x2 y2 fill mode) l = draws g (box (g .stride) (height g) (edgeIn g l) x1 y1 x2 y2 (filled fill) (drawMode mode))
+effect g k (drawCircle x y r fill mode) l = draws g (circle (g .stride) (height g) (edgeIn g l) x y r (filled fill) (drawMode mode))
+effect g k (drawEllipse x y rx ry fill mode) l = draws g (ellipse (g .stride) (height g) (edgeIn g l) x y rx ry (filled fill) (drawMode mode))
 effect g k (checkPoint x y) l = nothing
 effect g k (paintBitmap a x y w n mode) l =
     draws g (bitmap (g .stride) (height g) (window a (sourceBytes w n) (l .memory)) x y w n (paintMode mode))

@@ -46,19 +46,21 @@ clearFlags g = replicate (cells g) false
 unfoldable pub openPending : Geometry → Pending
 openPending g = owing g (whole (g .stride) (height g)) (nothingPending g)
 
-unfoldable pub openState : Geometry → ℕ → ℕ → ℕ → List ℕ → State
-openState g graphics text version keys = record {
+unfoldable pub openState : Geometry → ℕ → ℕ → ℕ → List ℕ → ℕ → State
+openState g graphics text version keys edge = record {
   head = clearHead graphics text version;
   panels = replicate (g .panels) (openPending g);
   keys = keys;
   flags = clearFlags g;
+  edge = edge;
 }
 
--- bases, version, keys, each panel's rectangle in hand and lines sent are kept; the whole screen is owed to each
+-- bases, version, keys, edge flag, each panel's rectangle in hand and lines sent are kept; the whole screen is owed to each
 unfoldable pub resetState : Geometry → State → State
 resetState g s = record {
   head = clearHead (s .head .graphics) (s .head .text) (s .head .version);
   panels = map (owing g (whole (g .stride) (height g))) (s .panels);
   keys = s .keys;
   flags = clearFlags g;
+  edge = s .edge;
 }

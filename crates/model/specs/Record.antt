@@ -28,6 +28,8 @@ pub record State : Type 0 where
   pub keys : List ℕ
   -- one for each text cell
   pub flags : List Bool
+  -- what horizontal lines do at the edge of the screen
+  pub edge : ℕ
 
 -- ---- the parts, and the order in which they stand
 
@@ -38,6 +40,7 @@ pub data RecordPart : Type 0 where
   panel : ℕ → RecordPart
   keys : RecordPart
   flags : RecordPart
+  edge : RecordPart
 
 -- n panels, the first of them k
 abbrev pub panelsFrom : ℕ → ℕ → List RecordPart
@@ -45,7 +48,7 @@ panelsFrom k zero = []
 panelsFrom k (suc n) = panel k ∷ panelsFrom (suc k) n
 
 abbrev pub layout : Geometry → List RecordPart
-layout g = head ∷ panel 0 ∷ keys ∷ flags ∷ panelsFrom 1 (g .panels - 1)
+layout g = head ∷ panel 0 ∷ keys ∷ flags ∷ (panelsFrom 1 (g .panels - 1) ++ (edge ∷ []))
 
 -- ---- sizes
 
@@ -60,6 +63,7 @@ size g head = headBytes
 size g (panel k) = pendingBytes g
 size g keys = 32
 size g flags = flagBytes (cells g)
+size g edge = 1
 
 -- ---- readers: the bytes of a part to its fields
 
@@ -87,6 +91,9 @@ pendingOf g r i = record {
 abbrev pub keysOf : List ℕ → List ℕ
 keysOf r = wordsAt 8 r 0
 
+abbrev pub edgeByte : List ℕ → ℕ
+edgeByte r = getD r 0 0
+
 -- ---- writers: the fields of a part to its bytes
 
 abbrev pub bytesOfHead : Head → List ℕ
@@ -110,6 +117,7 @@ partBytes g s head = bytesOfHead (s .head)
 partBytes g s (panel k) = bytesOfPending (panelOf g s k)
 partBytes g s keys = wordsBytes (s .keys)
 partBytes g s flags = bytesOfFlags (s .flags)
+partBytes g s edge = s .edge ∷ []
 
 -- ---- tests: what STATE asks of the bytes of a part
 
@@ -132,6 +140,10 @@ headTests g h =
 unfoldable pub headFits : Geometry → Head → Bool
 headFits g h = every (headTests g h)
 
+-- the edge flag is listed
+abbrev pub edgeFits : ℕ → Bool
+edgeFits n = leb n 1
+
 -- each rectangle lies in its band; the first band begins at line lo
 unfoldable pub bandsFit : ℕ → ℕ → ℕ → List Rect → Bool
 bandsFit w band lo [] = true
@@ -145,6 +157,7 @@ partFits g head c = headFits g (headOf c)
 partFits g (panel k) c = pendingFits g (pendingOf g c 0)
 partFits g keys c = true
 partFits g flags c = flagsFit (cells g) c
+partFits g edge c = edgeFits (edgeByte c)
 
 -- ---- what follows from a list of parts, whatever they are
 
@@ -153,7 +166,8 @@ abbrev pub tag : RecordPart → ℕ
 tag head = 0
 tag keys = 1
 tag flags = 2
-tag (panel k) = suc (suc (suc k))
+tag edge = 3
+tag (panel k) = suc (suc (suc (suc k)))
 
 abbrev pub samePart : RecordPart → RecordPart → Bool
 samePart p q = eqb (tag p) (tag q)
@@ -209,6 +223,7 @@ decode g r = record {
   panels = listing (λ k. pendingOf g (partIn g (panel k) r) 0) 0 (g .panels);
   keys = keysOf (partIn g keys r);
   flags = flagsIn (cells g) (partIn g flags r);
+  edge = edgeByte (partIn g edge r);
 }
 
 unfoldable pub encode : Geometry → State → List ℕ
@@ -221,19 +236,22 @@ valid g r = all (λ p. partFits g p (partIn g p r)) (layout g)
 -- ---- the state with one part changed
 
 abbrev pub withHead : Head → State → State
-withHead h s = record { head = h; panels = s .panels; keys = s .keys; flags = s .flags }
+withHead h s = record { head = h; panels = s .panels; keys = s .keys; flags = s .flags; edge = s .edge }
 
 abbrev pub withPanels : List Pending → State → State
-withPanels ps s = record { head = s .head; panels = ps; keys = s .keys; flags = s .flags }
+withPanels ps s = record { head = s .head; panels = ps; keys = s .keys; flags = s .flags; edge = s .edge }
 
 abbrev pub withPanel : ℕ → Pending → State → State
 withPanel k p s = withPanels (set (s .panels) k p) s
 
 abbrev pub withKeyWords : List ℕ → State → State
-withKeyWords ks s = record { head = s .head; panels = s .panels; keys = ks; flags = s .flags }
+withKeyWords ks s = record { head = s .head; panels = s .panels; keys = ks; flags = s .flags; edge = s .edge }
 
 abbrev pub withFlags : List Bool → State → State
-withFlags fs s = record { head = s .head; panels = s .panels; keys = s .keys; flags = fs }
+withFlags fs s = record { head = s .head; panels = s .panels; keys = s .keys; flags = fs; edge = s .edge }
+
+abbrev pub withEdge : ℕ → State → State
+withEdge n s = record { head = s .head; panels = s .panels; keys = s .keys; flags = s .flags; edge = n }
 
 -- ---- a state that is what some record that passes STATE means
 
@@ -249,3 +267,4 @@ pub record WellFormed (g : Geometry) (s : State) : Type 0 where
   pub words : length (s .keys) ≡ 8
   pub keys : Words (s .keys)
   pub flags : length (s .flags) ≡ cells g
+  pub edge : edgeFits (s .edge) ≡ true

@@ -18,12 +18,13 @@ pub struct Glass {
     // the highest bases: each window ends before the last byte of memory
     pub graphics: u16,
     pub text: u16,
-    // the record: its bytes, those of a panel's part, and where keys, flags and the panels after the first begin
+    // the record: its bytes, those of a panel's part, and where keys, flags, the panels after the first and the edge flag begin
     pub bytes: usize,
     pub pending: usize,
     pub keys: usize,
     pub flags: usize,
     pub others: usize,
+    pub edge: usize,
 }
 
 // 160 by 80, one band, four panels. The glass's numbers stand here and nowhere else in the code.
@@ -46,6 +47,7 @@ pub const SMALL: Glass = Glass {
     keys: 38,
     flags: 70,
     others: 170,
+    edge: 230,
 };
 
 // The bits after the point where bytes are counted in lines: they do for 256 lines of up to 32 bytes.
@@ -64,7 +66,7 @@ pub const GLYPH_LINES: usize = 16;
 // Lengths of arrays: the text that a flush keeps, and the record and panel of a program that lends them.
 pub const TEXT_BYTES: usize = 100;
 
-pub const RECORD_BYTES: usize = 230;
+pub const RECORD_BYTES: usize = 231;
 
 pub const SCREEN_BYTES: usize = 1600;
 

@@ -36,6 +36,12 @@ pub struct Canvas {
     pub height: usize,
 }
 
+// What a horizontal line does beyond the screen's last column or line: it is clamped to it, or it stops there.
+pub enum Edge {
+    Clamp,
+    Stop,
+}
+
 pub enum DrawMode {
     Clear,
     Or,

@@ -9,7 +9,7 @@ pub const STATE: u32 = 2;
 // Open: a base too high, or windows that share a byte.
 pub const WINDOW: u32 = 3;
 
-// A row, column, mode, version or fill flag that is not listed.
+// A row, column, mode, version, fill or edge flag that is not listed.
 pub const VALUE: u32 = 4;
 
 // A bitmap of nonzero size whose source runs past memory.

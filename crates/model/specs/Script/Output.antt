@@ -61,9 +61,9 @@ textBase = 8192
 abbrev pub noKeys : List ℕ
 noKeys = 0 ∷ 0 ∷ 0 ∷ 0 ∷ 0 ∷ 0 ∷ 0 ∷ 0 ∷ []
 
--- opened with V2, no keys and a zero panel, which is panel 0
+-- opened with V2, no keys, lines that are clamped and a zero panel, which is panel 0
 unfoldable pub opened : Lent
-opened = lent (encode base (openState base graphicsBase textBase 1 noKeys)) (clearMemory noKeys) (zeros (screenBytes base))
+opened = lent (encode base (openState base graphicsBase textBase 1 noKeys 0)) (clearMemory noKeys) (zeros (screenBytes base))
 
 -- (end d l): differing pixels, then L, both of panel 0
 unfoldable pub ending : Lent → List ℕ
