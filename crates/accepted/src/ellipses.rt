@@ -3,6 +3,7 @@ use crate::points::draw_mode;
 use model::Head;
 use model::glass::Glass;
 use record::glass::canvas_of;
+use record::glass::edge_of;
 use record::update;
 ghost use mathlib.Core.Bool.{true};
 ghost use mathlib.Core.Path.{_≡_};
@@ -39,9 +40,11 @@ pub fn draw_ellipse(
     let from = h.graphics as usize;
     let to = from + glass.screen;
     let d = draw_mode(mode);
+    let edge = edge_of(rec, glass);
     let m = draw::draw_ellipse(
         canvas_of(glass),
         &mut memory[from..to],
+        edge,
         x,
         y,
         rx,

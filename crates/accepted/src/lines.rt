@@ -3,6 +3,7 @@ use crate::points::draw_mode;
 use model::Head;
 use model::glass::Glass;
 use record::glass::canvas_of;
+use record::glass::edge_of;
 use record::update;
 ghost use mathlib.Core.Path.{_≡_};
 ghost use mathlib.Core.List.{[]};
@@ -27,7 +28,17 @@ pub fn draw_line(
     let from = h.graphics as usize;
     let to = from + glass.screen;
     let d = draw_mode(mode);
-    let m = draw::draw_line(canvas_of(glass), &mut memory[from..to], x1, y1, x2, y2, d);
+    let edge = edge_of(rec, glass);
+    let m = draw::draw_line(
+        canvas_of(glass),
+        &mut memory[from..to],
+        edge,
+        x1,
+        y1,
+        x2,
+        y2,
+        d,
+    );
     update::mark_head(rec, h, m);
 }
 
@@ -56,9 +67,11 @@ pub fn draw_box(
     let from = h.graphics as usize;
     let to = from + glass.screen;
     let d = draw_mode(mode);
+    let edge = edge_of(rec, glass);
     let m = draw::draw_box(
         canvas_of(glass),
         &mut memory[from..to],
+        edge,
         x1,
         y1,
         x2,

@@ -19,11 +19,12 @@ pub fn open(
     text: u16,
     version: u8,
     keys: [u32; 8],
+    edge: u8,
 )
     requires { ⌜ Opened glass (now rec) (now memory) keys ⌝ }
-    ensures { λ _. ⌜ answered 0 [] (lent (now (rec .exit)) (now (memory .exit)) []) ≡ done (geometry glass) (opening graphics text version keys) (lent (now (rec .entry)) (now (memory .entry)) []) ⌝ }
+    ensures { λ _. ⌜ answered 0 [] (lent (now (rec .exit)) (now (memory .exit)) []) ≡ done (geometry glass) (opening graphics text version keys edge) (lent (now (rec .entry)) (now (memory .entry)) []) ⌝ }
 {
-    open::open_record(rec, glass, graphics, text, version, keys);
+    open::open_record(rec, glass, graphics, text, version, keys, edge);
     keys::clear_memory(rec, glass, memory);
 }
 

@@ -1,6 +1,7 @@
 // `blink_cursor` and `clear_cursor`.
 use model::Canvas;
 use model::DrawMode;
+use model::Edge;
 use model::Head;
 use model::Marks;
 use model::glass::GLYPH_HEIGHT;
@@ -11,6 +12,7 @@ ghost use mathlib.Core.Path.{_≡_};
 ghost use mathlib.Core.List.{[]};
 ghost use Prim.Native.Nat.{_+_, _*_, _≤_};
 ghost use lib.ListN.{length};
+ghost use Rattle.model.specs.declared.Edge.the-variants.{Clamp};
 ghost use Rattle.model.specs.Geometry.{glyphHeight};
 ghost use Rattle.model.specs.Glass.{geometry, Suits};
 ghost use Rattle.model.specs.Pixels.{Screen};
@@ -52,18 +54,20 @@ fn under_cursor(memory: &[u8], glass: Glass, h: Head) -> u8
     memory[text + cell]
 }
 
-// A full cursor at the last column inverts that column alone and marks the next too: the box is clamped to the screen.
+// A full cursor at the last column inverts that column alone and marks the next too: the box is clamped to the screen. One that stops at the edge is the same,
+// so the edge flag is not asked for.
 fn invert_cursor(canvas: Canvas, screen: &mut [u8], row: u8, column: u8, cursor: u8) -> Marks
     requires { ⌜ Screen (canvas .stride) (canvas .height) (now screen) ⌝ }
     requires { ⌜ (glyphHeight * row + glyphHeight ≤ 256) × (8 * column + 16 ≤ 256) × (1 ≤ cursor) × (cursor ≤ 2) ⌝ }
-    ensures { λ r. ⌜ drawn r (now (screen .exit)) ≡ drawnOn (canvas .stride) (canvas .height) (cursorBox (canvas .stride) (canvas .height) row column cursor) (now (screen .entry)) ⌝ }
+    ensures { λ r. ⌜ drawn r (now (screen .exit)) ≡ drawnOn (canvas .stride) (canvas .height) (cursorBox (canvas .stride) (canvas .height) Clamp row column cursor) (now (screen .entry)) ⌝ }
 {
     let left = 8 * column;
     let top = GLYPH_HEIGHT * row;
     let right = left + (8 * cursor - 1);
     let bottom = top + (GLYPH_HEIGHT - 1);
+    let edge = Edge::Clamp;
     let mode = DrawMode::Xor;
-    draw::draw_filled_box(canvas, screen, left, top, right, bottom, mode)
+    draw::draw_filled_box(canvas, screen, edge, left, top, right, bottom, mode)
 }
 
 // In Graph nothing.

@@ -25,15 +25,16 @@ pub extern "C" fn caption_open(
     keys5: u32,
     keys6: u32,
     keys7: u32,
+    edge: u8,
 ) -> u32
-    ensures { λ r. ⌜ answered r [] (lent (now (rec .exit)) (now (memory .exit)) []) ≡ outcome base (opening graphics text version (keys0 ∷ keys1 ∷ keys2 ∷ keys3 ∷ keys4 ∷ keys5 ∷ keys6 ∷ keys7 ∷ [])) (lent (now (rec .entry)) (now (memory .entry)) []) ⌝ }
+    ensures { λ r. ⌜ answered r [] (lent (now (rec .exit)) (now (memory .exit)) []) ≡ outcome base (opening graphics text version (keys0 ∷ keys1 ∷ keys2 ∷ keys3 ∷ keys4 ∷ keys5 ∷ keys6 ∷ keys7 ∷ []) edge) (lent (now (rec .entry)) (now (memory .entry)) []) ⌝ }
 {
     let glass = glass_of(rec.len());
     if (rec.len() == glass.bytes) & (memory.len() == MEMORY_BYTES) {
         if state::windows_fit(glass, graphics, text) {
-            if version <= 1 {
+            if (version <= 1) & state::edge_fits(edge) {
                 let keys = [keys0, keys1, keys2, keys3, keys4, keys5, keys6, keys7];
-                open::open(rec, memory, glass, graphics, text, version, keys);
+                open::open(rec, memory, glass, graphics, text, version, keys, edge);
                 return 0;
             }
             return refusal::VALUE;

@@ -5,24 +5,27 @@ ghost use Prim.Native.Nat.{_≤_, _<_};
 ghost use Rattle.model.specs.Pixels.{Screen, draw, seen};
 ghost use Rattle.model.specs.Marks.{drawn, drawnOn};
 ghost use Rattle.model.specs.Boxes.{filledBox, outline, box};
-ghost use Rattle.laws.specs.Boxes.{wholeLines};
+ghost use Rattle.model.specs.declared.Edge.the-variants.{Clamp};
+ghost use Rattle.laws.specs.Boxes.{wholeLines, lastRow};
 ghost use Rattle.pixels.specs.Raster.{modeOf, IsOp};
 use draw_lines::ends::greatest;
 use draw_lines::ends::least;
 use draw_lines::line::draw_hor_line;
 use draw_lines::line::draw_ver_line;
+use draw_lines::line::is_beyond;
 use draw_lines::line::is_unknown;
 use marks::span::clamp;
-use marks::span::lowered_marks;
+use marks::span::edge_marks;
 use model::Canvas;
 use model::DrawMode;
+use model::Edge;
 use model::Marks;
 use pixels::raster::RasterOp;
 use pixels::raster::raster_op;
 use pixels::run::draw_bytes;
 use pixels::run::draw_run;
 
-// Row by row; those beyond the last line land on it again.
+// Clamped, row by row; those beyond the last line land on it again.
 fn fill_rows(
     canvas: Canvas,
     screen: &mut [u8],
@@ -35,7 +38,7 @@ fn fill_rows(
     requires { ⌜ Screen (canvas .stride) (canvas .height) (now screen) ⌝ }
     requires { ⌜ (left ≤ right) × (top ≤ bottom) ⌝ }
     requires { ⌜ IsOp op ⌝ }
-    ensures { λ _. ⌜ now (screen .exit) ≡ draw (canvas .stride) (seen (canvas .stride) (canvas .height) (filledBox (canvas .stride) (canvas .height) left top right bottom (modeOf op))) (now (screen .entry)) ⌝ }
+    ensures { λ _. ⌜ now (screen .exit) ≡ draw (canvas .stride) (seen (canvas .stride) (canvas .height) (filledBox (canvas .stride) (canvas .height) Clamp left top right bottom (modeOf op))) (now (screen .entry)) ⌝ }
 {
     let stride = canvas.stride;
     let height = canvas.height;
@@ -61,8 +64,8 @@ fn is_whole(canvas: Canvas, first: usize, last: usize, bottom: usize) -> bool
     (first == 0) & (last + 1 == 8 * stride) & (bottom < height)
 }
 
-// Whole lines are one run of bytes.
-fn fill_box(
+// Clamped; whole lines are one run of bytes.
+fn fill_clamped(
     canvas: Canvas,
     screen: &mut [u8],
     left: u8,
@@ -74,7 +77,7 @@ fn fill_box(
     requires { ⌜ Screen (canvas .stride) (canvas .height) (now screen) ⌝ }
     requires { ⌜ (left ≤ right) × (top ≤ bottom) ⌝ }
     requires { ⌜ IsOp op ⌝ }
-    ensures { λ _. ⌜ now (screen .exit) ≡ draw (canvas .stride) (seen (canvas .stride) (canvas .height) (filledBox (canvas .stride) (canvas .height) left top right bottom (modeOf op))) (now (screen .entry)) ⌝ }
+    ensures { λ _. ⌜ now (screen .exit) ≡ draw (canvas .stride) (seen (canvas .stride) (canvas .height) (filledBox (canvas .stride) (canvas .height) Clamp left top right bottom (modeOf op))) (now (screen .entry)) ⌝ }
 {
     let stride = canvas.stride;
     let first = clamp(left as usize, 8 * stride);
@@ -91,10 +94,46 @@ fn fill_box(
     fill_rows(canvas, screen, left, top, right, bottom, op);
 }
 
+// The last row that is drawn: where lines stop at the edge, none below the screen.
+fn last_row(canvas: Canvas, edge: Edge, bottom: u8) -> u8
+    requires { ⌜ (0 < canvas .height) × (canvas .height ≤ 256) ⌝ }
+    ensures { λ r. ⌜ r ≡ lastRow (canvas .height) edge bottom ⌝ }
+{
+    let height = canvas.height;
+    match edge {
+        Edge::Clamp => bottom,
+        Edge::Stop => clamp(bottom as usize, height) as u8,
+    }
+}
+
+// Where it stops at the edge it is nothing, or the clamped one down to the screen's last line.
+fn fill_box(
+    canvas: Canvas,
+    screen: &mut [u8],
+    edge: Edge,
+    left: u8,
+    top: u8,
+    right: u8,
+    bottom: u8,
+    op: RasterOp,
+)
+    requires { ⌜ Screen (canvas .stride) (canvas .height) (now screen) ⌝ }
+    requires { ⌜ (left ≤ right) × (top ≤ bottom) ⌝ }
+    requires { ⌜ IsOp op ⌝ }
+    ensures { λ _. ⌜ now (screen .exit) ≡ draw (canvas .stride) (seen (canvas .stride) (canvas .height) (filledBox (canvas .stride) (canvas .height) edge left top right bottom (modeOf op))) (now (screen .entry)) ⌝ }
+{
+    if is_beyond(canvas, edge, left, top) {
+        return;
+    }
+    let low = last_row(canvas, edge, bottom);
+    fill_clamped(canvas, screen, left, top, right, low, op);
+}
+
 // Two horizontals, then two verticals unless Unknown.
 fn draw_outline(
     canvas: Canvas,
     screen: &mut [u8],
+    edge: Edge,
     left: u8,
     top: u8,
     right: u8,
@@ -103,11 +142,11 @@ fn draw_outline(
 )
     requires { ⌜ Screen (canvas .stride) (canvas .height) (now screen) ⌝ }
     requires { ⌜ (left ≤ right) × (top ≤ bottom) ⌝ }
-    ensures { λ _. ⌜ now (screen .exit) ≡ draw (canvas .stride) (seen (canvas .stride) (canvas .height) (outline (canvas .stride) (canvas .height) left top right bottom mode)) (now (screen .entry)) ⌝ }
+    ensures { λ _. ⌜ now (screen .exit) ≡ draw (canvas .stride) (seen (canvas .stride) (canvas .height) (outline (canvas .stride) (canvas .height) edge left top right bottom mode)) (now (screen .entry)) ⌝ }
 {
     let op = raster_op(mode);
-    draw_hor_line(canvas, screen, left, right, top, op);
-    draw_hor_line(canvas, screen, left, right, bottom, op);
+    draw_hor_line(canvas, screen, edge, left, right, top, op);
+    draw_hor_line(canvas, screen, edge, left, right, bottom, op);
     if is_unknown(mode) {
         return;
     }
@@ -118,6 +157,7 @@ fn draw_outline(
 pub fn draw_filled_box(
     canvas: Canvas,
     screen: &mut [u8],
+    edge: Edge,
     x1: u8,
     y1: u8,
     x2: u8,
@@ -125,20 +165,21 @@ pub fn draw_filled_box(
     mode: DrawMode,
 ) -> Marks
     requires { ⌜ Screen (canvas .stride) (canvas .height) (now screen) ⌝ }
-    ensures { λ r. ⌜ drawn r (now (screen .exit)) ≡ drawnOn (canvas .stride) (canvas .height) (box (canvas .stride) (canvas .height) x1 y1 x2 y2 true mode) (now (screen .entry)) ⌝ }
+    ensures { λ r. ⌜ drawn r (now (screen .exit)) ≡ drawnOn (canvas .stride) (canvas .height) (box (canvas .stride) (canvas .height) edge x1 y1 x2 y2 true mode) (now (screen .entry)) ⌝ }
 {
     let left = least(x1, x2);
     let top = least(y1, y2);
     let right = greatest(x1, x2);
     let bottom = greatest(y1, y2);
     let op = raster_op(mode);
-    fill_box(canvas, screen, left, top, right, bottom, op);
-    lowered_marks(canvas, left, top, right, bottom)
+    fill_box(canvas, screen, edge, left, top, right, bottom, op);
+    edge_marks(canvas, edge, left, top, right, bottom)
 }
 
 pub fn draw_box(
     canvas: Canvas,
     screen: &mut [u8],
+    edge: Edge,
     x1: u8,
     y1: u8,
     x2: u8,
@@ -147,15 +188,15 @@ pub fn draw_box(
     mode: DrawMode,
 ) -> Marks
     requires { ⌜ Screen (canvas .stride) (canvas .height) (now screen) ⌝ }
-    ensures { λ r. ⌜ drawn r (now (screen .exit)) ≡ drawnOn (canvas .stride) (canvas .height) (box (canvas .stride) (canvas .height) x1 y1 x2 y2 fill mode) (now (screen .entry)) ⌝ }
+    ensures { λ r. ⌜ drawn r (now (screen .exit)) ≡ drawnOn (canvas .stride) (canvas .height) (box (canvas .stride) (canvas .height) edge x1 y1 x2 y2 fill mode) (now (screen .entry)) ⌝ }
 {
     if fill {
-        return draw_filled_box(canvas, screen, x1, y1, x2, y2, mode);
+        return draw_filled_box(canvas, screen, edge, x1, y1, x2, y2, mode);
     }
     let left = least(x1, x2);
     let top = least(y1, y2);
     let right = greatest(x1, x2);
     let bottom = greatest(y1, y2);
-    draw_outline(canvas, screen, left, top, right, bottom, mode);
-    lowered_marks(canvas, left, top, right, bottom)
+    draw_outline(canvas, screen, edge, left, top, right, bottom, mode);
+    edge_marks(canvas, edge, left, top, right, bottom)
 }

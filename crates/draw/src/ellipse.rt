@@ -20,9 +20,10 @@ use ellipse_walk::start;
 use marks::mark::whole_screen;
 use marks::span::no_marks;
 use marks::span::owed_as_is;
-use marks::span::owed_lowered;
+use marks::span::owed_by_edge;
 use model::Canvas;
 use model::DrawMode;
+use model::Edge;
 use model::Marks;
 use model::Rect;
 use pixels::point::draw_point;
@@ -68,28 +69,38 @@ fn chord_left(left: u8, right: u8) -> u8
 }
 
 // From corner to corner of line y; where the left one wrapped, from 0.
-fn draw_chord(canvas: Canvas, screen: &mut [u8], x: u8, a: u8, y: u8, op: RasterOp)
+fn draw_chord(canvas: Canvas, screen: &mut [u8], edge: Edge, x: u8, a: u8, y: u8, op: RasterOp)
     requires { ⌜ Screen (canvas .stride) (canvas .height) (now screen) ⌝ }
     requires { ⌜ IsOp op ⌝ }
-    ensures { λ _. ⌜ now (screen .exit) ≡ draw (canvas .stride) (seen (canvas .stride) (canvas .height) (chord (canvas .stride) (canvas .height) x a y (modeOf op))) (now (screen .entry)) ⌝ }
+    ensures { λ _. ⌜ now (screen .exit) ≡ draw (canvas .stride) (seen (canvas .stride) (canvas .height) (chord (canvas .stride) (canvas .height) edge x a y (modeOf op))) (now (screen .entry)) ⌝ }
 {
     let right = up(x, a);
     let left = chord_left(down(x, a), right);
-    draw_hor_line(canvas, screen, left, right, y, op);
+    draw_hor_line(canvas, screen, edge, left, right, y, op);
 }
 
-fn draw_chords(canvas: Canvas, screen: &mut [u8], x: u8, y: u8, a: u8, b: u8, op: RasterOp)
+fn draw_chords(
+    canvas: Canvas,
+    screen: &mut [u8],
+    edge: Edge,
+    x: u8,
+    y: u8,
+    a: u8,
+    b: u8,
+    op: RasterOp,
+)
     requires { ⌜ Screen (canvas .stride) (canvas .height) (now screen) ⌝ }
     requires { ⌜ IsOp op ⌝ }
-    ensures { λ _. ⌜ now (screen .exit) ≡ draw (canvas .stride) (seen (canvas .stride) (canvas .height) (chords (canvas .stride) (canvas .height) x y (modeOf op) (part a b))) (now (screen .entry)) ⌝ }
+    ensures { λ _. ⌜ now (screen .exit) ≡ draw (canvas .stride) (seen (canvas .stride) (canvas .height) (chords (canvas .stride) (canvas .height) edge x y (modeOf op) (part a b))) (now (screen .entry)) ⌝ }
 {
-    draw_chord(canvas, screen, x, a, down(y, b), op);
-    draw_chord(canvas, screen, x, a, up(y, b), op);
+    draw_chord(canvas, screen, edge, x, a, down(y, b), op);
+    draw_chord(canvas, screen, edge, x, a, up(y, b), op);
 }
 
 fn draw_part(
     canvas: Canvas,
     screen: &mut [u8],
+    edge: Edge,
     x: u8,
     y: u8,
     a: u8,
@@ -99,10 +110,10 @@ fn draw_part(
 )
     requires { ⌜ Screen (canvas .stride) (canvas .height) (now screen) ⌝ }
     requires { ⌜ IsOp op ⌝ }
-    ensures { λ _. ⌜ now (screen .exit) ≡ draw (canvas .stride) (seen (canvas .stride) (canvas .height) (partWrites (canvas .stride) (canvas .height) x y fill (modeOf op) (part a b))) (now (screen .entry)) ⌝ }
+    ensures { λ _. ⌜ now (screen .exit) ≡ draw (canvas .stride) (seen (canvas .stride) (canvas .height) (partWrites (canvas .stride) (canvas .height) edge x y fill (modeOf op) (part a b))) (now (screen .entry)) ⌝ }
 {
     if fill {
-        draw_chords(canvas, screen, x, y, a, b, op);
+        draw_chords(canvas, screen, edge, x, y, a, b, op);
         return;
     }
     draw_corners(canvas, screen, x, y, a, b, op);
@@ -112,6 +123,7 @@ fn draw_part(
 fn draw_step(
     canvas: Canvas,
     screen: &mut [u8],
+    edge: Edge,
     x: u8,
     y: u8,
     part: EllipsePart,
@@ -120,10 +132,10 @@ fn draw_step(
 )
     requires { ⌜ Screen (canvas .stride) (canvas .height) (now screen) ⌝ }
     requires { ⌜ IsOp op ⌝ }
-    ensures { λ _. ⌜ now (screen .exit) ≡ painted (canvas .stride) (canvas .height) x y fill (modeOf op) (partsOf part) (now (screen .entry)) ⌝ }
+    ensures { λ _. ⌜ now (screen .exit) ≡ painted (canvas .stride) (canvas .height) edge x y fill (modeOf op) (partsOf part) (now (screen .entry)) ⌝ }
 {
     match part {
-        EllipsePart::At(a, b) => draw_part(canvas, screen, x, y, a, b, fill, op),
+        EllipsePart::At(a, b) => draw_part(canvas, screen, edge, x, y, a, b, fill, op),
         EllipsePart::Nothing => {}
     }
 }
@@ -131,6 +143,7 @@ fn draw_step(
 fn draw_walk(
     canvas: Canvas,
     screen: &mut [u8],
+    edge: Edge,
     x: u8,
     y: u8,
     rx: u8,
@@ -141,14 +154,14 @@ fn draw_walk(
     requires { ⌜ Screen (canvas .stride) (canvas .height) (now screen) ⌝ }
     requires { ⌜ Round rx ry ⌝ }
     requires { ⌜ IsOp op ⌝ }
-    ensures { λ _. ⌜ now (screen .exit) ≡ painted (canvas .stride) (canvas .height) x y fill (modeOf op) (parts rx ry) (now (screen .entry)) ⌝ }
+    ensures { λ _. ⌜ now (screen .exit) ≡ painted (canvas .stride) (canvas .height) edge x y fill (modeOf op) (parts rx ry) (now (screen .entry)) ⌝ }
 {
     let r = greatest(rx, ry);
     let mut w = start(r, rx);
     let mut part = EllipsePart::At(rx, 0);
     let mut last = false;
     loop {
-        draw_step(canvas, screen, x, y, part, fill, op);
+        draw_step(canvas, screen, edge, x, y, part, fill, op);
         if last {
             break;
         }
@@ -219,6 +232,7 @@ pub fn radii_fit(rx: u8, ry: u8, fill: bool, mode: DrawMode) -> bool
 pub fn draw_ellipse(
     canvas: Canvas,
     screen: &mut [u8],
+    edge: Edge,
     x: u8,
     y: u8,
     rx: u8,
@@ -228,7 +242,7 @@ pub fn draw_ellipse(
 ) -> Marks
     requires { ⌜ Screen (canvas .stride) (canvas .height) (now screen) ⌝ }
     requires { ⌜ radiiFit rx ry fill mode ≡ true ⌝ }
-    ensures { λ r. ⌜ drawn r (now (screen .exit)) ≡ drawnOn (canvas .stride) (canvas .height) (ellipse (canvas .stride) (canvas .height) x y rx ry fill mode) (now (screen .entry)) ⌝ }
+    ensures { λ r. ⌜ drawn r (now (screen .exit)) ≡ drawnOn (canvas .stride) (canvas .height) (ellipse (canvas .stride) (canvas .height) edge x y rx ry fill mode) (now (screen .entry)) ⌝ }
 {
     if is_point(rx, ry) {
         return draw_point(canvas, screen, x, y, mode);
@@ -237,10 +251,10 @@ pub fn draw_ellipse(
         return no_marks();
     }
     let op = raster_op(mode);
-    draw_walk(canvas, screen, x, y, rx, ry, fill, op);
+    draw_walk(canvas, screen, edge, x, y, rx, ry, fill, op);
     let dirty = ellipse_mark(canvas, x, y, rx, ry);
     if fill {
-        return owed_lowered(canvas, dirty);
+        return owed_by_edge(canvas, edge, dirty);
     }
     owed_as_is(dirty)
 }

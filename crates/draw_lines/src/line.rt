@@ -3,18 +3,20 @@ ghost use mathlib.Core.Path.{_≡_};
 ghost use Prim.Native.Nat.{_+_, _*_, _≤_, _<_};
 ghost use Rattle.model.specs.Pixels.{Screen, draw, seen};
 ghost use Rattle.model.specs.Marks.{drawn, drawnOn};
-ghost use Rattle.model.specs.Lines.{isUnknown, horizontal, horizontalLine, pixelColumn, vertical, verticalLine, slopedLine, line};
+ghost use Rattle.model.specs.Lines.{isUnknown, clamped, horizontal, horizontalLine, pixelColumn, vertical, verticalLine, slopedLine, line};
+ghost use Rattle.laws.specs.Lines.{beyond};
 ghost use Rattle.pixels.specs.Raster.{modeOf, IsOp};
 use crate::ends::greatest;
 use crate::ends::least;
 use crate::ends::pick;
 use crate::slope::draw_slope;
 use marks::span::clamp;
-use marks::span::lowered_marks;
+use marks::span::edge_marks;
 use marks::span::no_marks;
 use marks::span::span_marks;
 use model::Canvas;
 use model::DrawMode;
+use model::Edge;
 use model::Marks;
 use pixels::point::plot_mask;
 use pixels::point::point_mask;
@@ -33,12 +35,25 @@ pub fn is_unknown(mode: DrawMode) -> bool
     }
 }
 
+// Whether lines stop at the edge and (x, y) lies off the screen: from there on they draw nothing.
+pub fn is_beyond(canvas: Canvas, edge: Edge, x: u8, y: u8) -> bool
+    requires { ⌜ canvas .stride ≤ 32 ⌝ }
+    ensures { λ r. ⌜ r ≡ beyond (canvas .stride) (canvas .height) edge x y ⌝ }
+{
+    let stride = canvas.stride;
+    let height = canvas.height;
+    match edge {
+        Edge::Clamp => false,
+        Edge::Stop => !(((x as usize) < 8 * stride) & ((y as usize) < height)),
+    }
+}
+
 // Clamped to the screen, not clipped.
-pub fn draw_hor_line(canvas: Canvas, screen: &mut [u8], left: u8, right: u8, y: u8, op: RasterOp)
+fn draw_clamped(canvas: Canvas, screen: &mut [u8], left: u8, right: u8, y: u8, op: RasterOp)
     requires { ⌜ Screen (canvas .stride) (canvas .height) (now screen) ⌝ }
     requires { ⌜ left ≤ right ⌝ }
     requires { ⌜ IsOp op ⌝ }
-    ensures { λ _. ⌜ now (screen .exit) ≡ draw (canvas .stride) (seen (canvas .stride) (canvas .height) (horizontal (canvas .stride) (canvas .height) left right y (modeOf op))) (now (screen .entry)) ⌝ }
+    ensures { λ _. ⌜ now (screen .exit) ≡ draw (canvas .stride) (seen (canvas .stride) (canvas .height) (clamped (canvas .stride) (canvas .height) left right y (modeOf op))) (now (screen .entry)) ⌝ }
 {
     let stride = canvas.stride;
     let height = canvas.height;
@@ -46,6 +61,27 @@ pub fn draw_hor_line(canvas: Canvas, screen: &mut [u8], left: u8, right: u8, y: 
     let last = clamp(right as usize, 8 * stride);
     let line = clamp(y as usize, height);
     draw_run(canvas, screen, first, last, line, op);
+}
+
+// Where it stops at the edge it is nothing, or on the screen, and there it is the clamped one.
+pub fn draw_hor_line(
+    canvas: Canvas,
+    screen: &mut [u8],
+    edge: Edge,
+    left: u8,
+    right: u8,
+    y: u8,
+    op: RasterOp,
+)
+    requires { ⌜ Screen (canvas .stride) (canvas .height) (now screen) ⌝ }
+    requires { ⌜ left ≤ right ⌝ }
+    requires { ⌜ IsOp op ⌝ }
+    ensures { λ _. ⌜ now (screen .exit) ≡ draw (canvas .stride) (seen (canvas .stride) (canvas .height) (horizontal (canvas .stride) (canvas .height) edge left right y (modeOf op))) (now (screen .entry)) ⌝ }
+{
+    if is_beyond(canvas, edge, left, y) {
+        return;
+    }
+    draw_clamped(canvas, screen, left, right, y, op);
 }
 
 fn draw_column(
@@ -93,6 +129,7 @@ pub fn draw_ver_line(canvas: Canvas, screen: &mut [u8], x: u8, top: u8, bottom: 
 fn draw_horizontal(
     canvas: Canvas,
     screen: &mut [u8],
+    edge: Edge,
     left: u8,
     right: u8,
     y: u8,
@@ -100,11 +137,11 @@ fn draw_horizontal(
 ) -> Marks
     requires { ⌜ Screen (canvas .stride) (canvas .height) (now screen) ⌝ }
     requires { ⌜ left ≤ right ⌝ }
-    ensures { λ r. ⌜ drawn r (now (screen .exit)) ≡ drawnOn (canvas .stride) (canvas .height) (horizontalLine (canvas .stride) (canvas .height) left right y mode) (now (screen .entry)) ⌝ }
+    ensures { λ r. ⌜ drawn r (now (screen .exit)) ≡ drawnOn (canvas .stride) (canvas .height) (horizontalLine (canvas .stride) (canvas .height) edge left right y mode) (now (screen .entry)) ⌝ }
 {
     let op = raster_op(mode);
-    draw_hor_line(canvas, screen, left, right, y, op);
-    lowered_marks(canvas, left, y, right, y)
+    draw_hor_line(canvas, screen, edge, left, right, y, op);
+    edge_marks(canvas, edge, left, y, right, y)
 }
 
 fn draw_vertical(
@@ -143,6 +180,7 @@ fn draw_sloped(
 pub fn draw_line(
     canvas: Canvas,
     screen: &mut [u8],
+    edge: Edge,
     x1: u8,
     y1: u8,
     x2: u8,
@@ -150,10 +188,18 @@ pub fn draw_line(
     mode: DrawMode,
 ) -> Marks
     requires { ⌜ Screen (canvas .stride) (canvas .height) (now screen) ⌝ }
-    ensures { λ r. ⌜ drawn r (now (screen .exit)) ≡ drawnOn (canvas .stride) (canvas .height) (line (canvas .stride) (canvas .height) x1 y1 x2 y2 mode) (now (screen .entry)) ⌝ }
+    ensures { λ r. ⌜ drawn r (now (screen .exit)) ≡ drawnOn (canvas .stride) (canvas .height) (line (canvas .stride) (canvas .height) edge x1 y1 x2 y2 mode) (now (screen .entry)) ⌝ }
 {
     if y1 == y2 {
-        return draw_horizontal(canvas, screen, least(x1, x2), greatest(x1, x2), y1, mode);
+        return draw_horizontal(
+            canvas,
+            screen,
+            edge,
+            least(x1, x2),
+            greatest(x1, x2),
+            y1,
+            mode,
+        );
     }
     if is_unknown(mode) {
         return no_marks();

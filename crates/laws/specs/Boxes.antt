@@ -146,6 +146,12 @@ unfolding filledBox draw beyond
 box-beyond st h Clamp left top right bottom d s p q = clash _ q p
 box-beyond st h Stop left top right bottom d s p q = rw (rows-off st h left right top (suc (bottom - top)) d (beyond-off st h left top (sym p ∙ q)))
 
+-- it ends below its top
+pub low-in : (st h : ℕ) (edge : Edge) (left top bottom : ℕ) {t : Bool} {low : ℕ} → top ≤ bottom → t ≡ beyond st h edge left top → t ≡ false → low ≡ lastRow h edge bottom → top ≤ low
+unfolding lastRow
+low-in st h Clamp left top bottom o p q k = omega arith
+low-in st h Stop left top bottom o p q k = omega (arith, beyond-on st h left top (sym p ∙ q))
+
 pub box-on : (st h : ℕ) (edge : Edge) (left top right bottom : ℕ) (d : DrawMode) (s e : List ℕ) {t : Bool} {low : ℕ} → (left ≤ right) × (top ≤ bottom)
     → t ≡ beyond st h edge left top → t ≡ false → low ≡ lastRow h edge bottom → e ≡ draw st (seen st h (filledBox st h Clamp left top right low d)) s
     → e ≡ draw st (seen st h (filledBox st h edge left top right bottom d)) s

@@ -71,7 +71,7 @@ fn print_result(code: u32, stays: bool, memory: &[u8; MEMORY_BYTES]) {
 
 // V2, no keys, the text from byte 0 on; then a point at the last pixel, in the screen's last byte. The highest screen ends one byte before memory does.
 fn open_at(rec: &mut [u8], memory: &mut [u8], graphics: u16) -> u32 {
-    let code = open::caption_open(rec, memory, graphics, 0, 1, 0, 0, 0, 0, 0, 0, 0, 0);
+    let code = open::caption_open(rec, memory, graphics, 0, 1, 0, 0, 0, 0, 0, 0, 0, 0, 0);
     if code == 0 {
         points::caption_draw_point(rec, memory, 159, 79, 1);
     }

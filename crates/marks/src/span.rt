@@ -1,11 +1,12 @@
-// The marks of drawings: the rectangles that they mark, owed as they are or lowered.
+// The marks of drawings: the rectangles that they mark, owed as they are or by the edge flag.
 ghost use mathlib.Core.Path.{_≡_};
 ghost use Prim.Native.Nat.{_-_, _*_, _≤_, _<_, min};
 ghost use Rattle.model.specs.Rects.{none, lowered};
-ghost use Rattle.model.specs.Lines.{spanRect};
-ghost use Rattle.laws.specs.Points.{both, bothLowered};
+ghost use Rattle.model.specs.Lines.{spanRect, owedBy};
+ghost use Rattle.laws.specs.Points.{both, marksBy};
 use crate::rect;
 use model::Canvas;
+use model::Edge;
 use model::Marks;
 use model::Rect;
 
@@ -55,14 +56,25 @@ pub fn owed_as_is(q: Rect) -> Marks
     Marks { dirty: q, owed: q }
 }
 
-// A mark owed lowered.
-pub fn owed_lowered(canvas: Canvas, q: Rect) -> Marks
+// Of horizontals that are clamped a mark is owed lowered, of those that stop as it is.
+fn owed_by(canvas: Canvas, edge: Edge, q: Rect) -> Rect
     requires { ⌜ (0 < canvas .stride) × (canvas .stride ≤ 32) × (0 < canvas .height) × (canvas .height ≤ 256) ⌝ }
-    ensures { λ r. ⌜ r ≡ bothLowered (canvas .stride) (canvas .height) q ⌝ }
+    ensures { λ r. ⌜ r ≡ owedBy (canvas .stride) (canvas .height) edge q ⌝ }
+{
+    match edge {
+        Edge::Clamp => lower(canvas, q),
+        Edge::Stop => q,
+    }
+}
+
+// A mark owed by the edge flag.
+pub fn owed_by_edge(canvas: Canvas, edge: Edge, q: Rect) -> Marks
+    requires { ⌜ (0 < canvas .stride) × (canvas .stride ≤ 32) × (0 < canvas .height) × (canvas .height ≤ 256) ⌝ }
+    ensures { λ r. ⌜ r ≡ marksBy (canvas .stride) (canvas .height) edge q ⌝ }
 {
     Marks {
         dirty: q,
-        owed: lower(canvas, q),
+        owed: owed_by(canvas, edge, q),
     }
 }
 
@@ -72,11 +84,11 @@ pub fn span_marks(left: u8, top: u8, right: u8, bottom: u8) -> Marks
     owed_as_is(span(left, top, right, bottom))
 }
 
-pub fn lowered_marks(canvas: Canvas, left: u8, top: u8, right: u8, bottom: u8) -> Marks
+pub fn edge_marks(canvas: Canvas, edge: Edge, left: u8, top: u8, right: u8, bottom: u8) -> Marks
     requires { ⌜ (0 < canvas .stride) × (canvas .stride ≤ 32) × (0 < canvas .height) × (canvas .height ≤ 256) ⌝ }
-    ensures { λ r. ⌜ r ≡ bothLowered (canvas .stride) (canvas .height) (spanRect left top right bottom) ⌝ }
+    ensures { λ r. ⌜ r ≡ marksBy (canvas .stride) (canvas .height) edge (spanRect left top right bottom) ⌝ }
 {
-    owed_lowered(canvas, span(left, top, right, bottom))
+    owed_by_edge(canvas, edge, span(left, top, right, bottom))
 }
 
 pub fn no_marks() -> Marks

@@ -1,9 +1,13 @@
-// The glass that a record is for, and what is drawn on there.
+// The glass that a record is for, what is drawn on there, and what lines do at its edge.
 use model::Canvas;
+use model::Edge;
 use model::glass::Glass;
 use model::glass::SMALL;
 ghost use mathlib.Core.Path.{_≡_};
-ghost use Rattle.model.specs.Glass.{canvas};
+ghost use lib.ListN.{length};
+ghost use Rattle.model.specs.Glass.{canvas, geometry, Suits};
+ghost use Rattle.model.specs.Record.{recordBytes, decode};
+ghost use Rattle.model.specs.Lines.{edgeOf};
 ghost use Rattle.record.specs.Entry.{Chosen};
 
 // By the record's length: there is one. A call asks for it where it needs one, so that its numbers are constants there.
@@ -19,5 +23,19 @@ pub fn canvas_of(glass: Glass) -> Canvas
     Canvas {
         stride: glass.stride,
         height: glass.height as usize,
+    }
+}
+
+// By the edge flag of the record.
+pub fn edge_of(rec: &[u8], glass: Glass) -> Edge
+    requires { ⌜ Suits glass ⌝ }
+    requires { ⌜ length (now rec) ≡ recordBytes (geometry glass) ⌝ }
+    ensures { λ r. ⌜ r ≡ edgeOf (decode (geometry glass) (now (rec .entry)) .edge) ⌝ }
+{
+    let at = glass.edge;
+    if rec[at] == 0 {
+        Edge::Clamp
+    } else {
+        Edge::Stop
     }
 }

@@ -1,10 +1,11 @@
-// The head and the keys in lent bytes, least byte first.
+// The head, the keys and the edge flag in lent bytes, least byte first.
 use marks::rect;
 use model::Head;
 use model::glass::HEAD_BYTES;
 use owed::rects;
 ghost use mathlib.Core.Path.{_≡_};
-ghost use Prim.Native.Nat.{_+_, _*_, _≤_};
+ghost use mathlib.Core.List.{[], _∷_};
+ghost use Prim.Native.Nat.{_+_, _*_, _≤_, _<_};
 ghost use lib.ListN.{length};
 ghost use Rattle.model.specs.Memory.{withWindow};
 ghost use Rattle.model.specs.Bytes.{wordsBytes};
@@ -88,4 +89,11 @@ pub fn store_keys(rec: &mut [u8], at: usize, keys: [u32; 8])
         slices::store_four(rec, at + 4 * i, keys[i]);
         i += 1;
     }
+}
+
+pub fn store_edge(rec: &mut [u8], at: usize, edge: u8)
+    requires { ⌜ at < length (now rec) ⌝ }
+    ensures { λ _. ⌜ now (rec .exit) ≡ withWindow at (edge ∷ []) (now (rec .entry)) ⌝ }
+{
+    rec[at] = edge;
 }

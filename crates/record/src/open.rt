@@ -1,4 +1,4 @@
-// The record that open writes, over any bytes: zeros are a record with nothing in it; then head, keys, and the whole screen owed to each panel.
+// The record that open writes, over any bytes: zeros are a record with nothing in it; then head, keys, edge flag, and the whole screen owed to each panel.
 use crate::glass;
 use crate::layout;
 use crate::panels;
@@ -17,13 +17,15 @@ pub fn open_record(
     text: u16,
     version: u8,
     keys: [u32; 8],
+    edge: u8,
 )
     requires { ⌜ Suits glass ⌝ }
     requires { ⌜ (length (now rec) ≡ recordBytes (geometry glass)) × (length keys ≡ 8) ⌝ }
-    ensures { λ _. ⌜ now (rec .exit) ≡ encode (geometry glass) (openState (geometry glass) graphics text version keys) ⌝ }
+    ensures { λ _. ⌜ now (rec .exit) ≡ encode (geometry glass) (openState (geometry glass) graphics text version keys edge) ⌝ }
 {
     slices::clear(rec);
     layout::store_head(rec, layout::clear_head(graphics, text, version));
     layout::store_keys(rec, glass.keys, keys);
+    layout::store_edge(rec, glass.edge, edge);
     panels::mark_panels(rec, glass, mark::whole_screen(glass::canvas_of(glass)));
 }

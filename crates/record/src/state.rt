@@ -9,7 +9,7 @@ ghost use mathlib.Core.Path.{_≡_};
 ghost use Prim.Native.Nat.{_<_};
 ghost use lib.ListN.{length};
 ghost use Rattle.model.specs.Glass.{geometry, Suits};
-ghost use Rattle.model.specs.Record.{at, panel, recordBytes, headOf, pendingOf, windows, headFits, pendingFits, valid};
+ghost use Rattle.model.specs.Record.{at, panel, recordBytes, headOf, pendingOf, windows, headFits, edgeFits, pendingFits, valid};
 ghost use Rattle.laws.specs.StateTest.{panelsFit};
 
 // WINDOW: both windows lie in memory and share no byte.
@@ -36,6 +36,13 @@ fn head_fits(glass: Glass, h: Head) -> bool
         & (h.cursor <= 2)
         & (h.version <= 1)
         & rect::rect_fits(256, 0, 256, dirty)
+}
+
+// Whether an edge flag is listed.
+pub fn edge_fits(edge: u8) -> bool
+    ensures { λ r. ⌜ r ≡ edgeFits edge ⌝ }
+{
+    edge <= 1
 }
 
 fn pending_fits(rec: &[u8], glass: Glass, k: usize) -> bool
@@ -76,7 +83,11 @@ pub fn is_valid(rec: &[u8], glass: Glass, h: Head) -> bool
 {
     let from = glass.flags;
     let to = glass.others;
+    let at = glass.edge;
     if !head_fits(glass, h) {
+        return false;
+    }
+    if !edge_fits(rec[at]) {
         return false;
     }
     if !panels_fit(rec, glass) {

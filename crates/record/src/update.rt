@@ -44,7 +44,7 @@ pub fn clear_record(rec: &mut [u8], n: Head, m: Marks)
     mark_head(rec, n, m);
 }
 
-// Bases, version and keys stay, and each panel's rectangle in hand and count; the whole screen is owed to each.
+// Bases, version, keys and edge flag stay, and each panel's rectangle in hand and count; the whole screen is owed to each.
 pub fn reset_record(rec: &mut [u8], h: Head)
     requires { ⌜ Passing (glassOf (length (now rec))) (now rec) ⌝ }
     requires { ⌜ h ≡ decode (glassOf (length (now rec))) (now rec) .head ⌝ }

@@ -194,6 +194,7 @@ pub fn run_script(
         0,
         0,
         0,
+        0,
     );
     run_lines(script, out, rec, memory, panel)
 }

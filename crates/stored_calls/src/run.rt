@@ -27,6 +27,7 @@ fn run_open(rec: &mut [u8], memory: &mut [u8], stored: &[u8; 16]) -> u32 {
     let version = stored[5];
     let first = call::four(stored, 6);
     let last = call::four(stored, 10);
+    let edge = stored[14];
     open::caption_open(
         rec,
         memory,
@@ -41,6 +42,7 @@ fn run_open(rec: &mut [u8], memory: &mut [u8], stored: &[u8; 16]) -> u32 {
         0,
         0,
         last,
+        edge,
     )
 }
 

@@ -27,8 +27,8 @@ greatest-requires-2 c κs = search needs
 draw-outline-requires : tie.Need-draw-outline-requires
 draw-outline-requires c κs = search needs
 
-lowered-marks-requires : tie.Need-lowered-marks-requires
-lowered-marks-requires c κs = search needs
+edge-marks-requires : tie.Need-edge-marks-requires
+edge-marks-requires c κs = search needs
 
 same-length-2 : tie.Need-same-length-2
 same-length-2 c = search needs
@@ -48,6 +48,6 @@ draw-box-spec =
     greatest-requires
     greatest-requires-2
     draw-outline-requires
-    lowered-marks-requires
+    edge-marks-requires
     same-length-2
     returns-2)

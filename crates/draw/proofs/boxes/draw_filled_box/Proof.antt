@@ -21,8 +21,8 @@ raster-op-requires c κs = search needs
 fill-box-requires : tie.Need-fill-box-requires
 fill-box-requires c κs = search needs
 
-lowered-marks-requires : tie.Need-lowered-marks-requires
-lowered-marks-requires c κs = search needs
+edge-marks-requires : tie.Need-edge-marks-requires
+edge-marks-requires c κs = search needs
 
 same-length : tie.Need-same-length
 same-length c = search needs
@@ -40,6 +40,6 @@ draw-filled-box-spec =
     greatest-requires-2
     raster-op-requires
     fill-box-requires
-    lowered-marks-requires
+    edge-marks-requires
     same-length
     returns)

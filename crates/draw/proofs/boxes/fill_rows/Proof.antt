@@ -2,6 +2,7 @@
 use mathlib.Core.Path.{_≡_}
 use Prim.Native.Nat.{_≤_, _+_}
 use native.Mathlib.Omega.{arith}
+use Rattle.model.specs.declared.Edge.the-variants.{Clamp}
 use Rattle.model.specs.Pixels.{Screen, draw, seen}
 use Rattle.model.specs.Boxes.{boxRows, filledBox}
 use Rattle.laws.specs.Writes.{screen-draw}
@@ -13,8 +14,8 @@ use Rattle.draw.proofs.boxes.fill_rows.Tie as tie
 abbrev Inv-loop : tie.InvT-loop
 Inv-loop canvas screen₀ left top right bottom op stride height first last y₀ count₀ screen y count =
     Screen (canvas .stride) (canvas .height) screen × (y + count ≤ 256)
-    × (draw (canvas .stride) (seen (canvas .stride) (canvas .height) (boxRows (canvas .stride) (canvas .height) left right y count (modeOf op))) screen
-    ≡ draw (canvas .stride) (seen (canvas .stride) (canvas .height) (filledBox (canvas .stride) (canvas .height) left top right bottom (modeOf op))) screen₀)
+    × (draw (canvas .stride) (seen (canvas .stride) (canvas .height) (boxRows (canvas .stride) (canvas .height) Clamp left right y count (modeOf op))) screen
+    ≡ draw (canvas .stride) (seen (canvas .stride) (canvas .height) (filledBox (canvas .stride) (canvas .height) Clamp left top right bottom (modeOf op))) screen₀)
 
 abbrev μ-loop : tie.MeasureT-loop
 μ-loop canvas screen₀ left top right bottom op stride height first last y₀ count₀ screen y count = count

@@ -33,8 +33,8 @@ draw-walk-requires c κs = search (is-round, needs)
 ellipse-mark-requires : tie.Need-ellipse-mark-requires
 ellipse-mark-requires c κs = search needs
 
-owed-lowered-requires : tie.Need-owed-lowered-requires
-owed-lowered-requires c κs = search needs
+owed-by-edge-requires : tie.Need-owed-by-edge-requires
+owed-by-edge-requires c κs = search needs
 
 same-length-2 : tie.Need-same-length-2
 same-length-2 c = search needs
@@ -45,7 +45,7 @@ returns-3 c =
     let k = w .before .before in
     let n = k .before .before in
     let p = n .before .before in
-    ellipse-filled _ _ _ _ _ _ _ _ _ _ _ (c .before .if3 .taken) (c .owed-lowered .ensures) (c .before .before .ellipse-mark .ensures) (p .before .before .pre .1)
+    ellipse-filled _ _ _ _ _ _ _ _ _ _ _ _ (c .before .if3 .taken) (c .owed-by-edge .ensures) (c .before .before .ellipse-mark .ensures) (p .before .before .pre .1)
     (p .is-point .ensures) (n .before .if1 .left) (n .is-nothing .ensures) (k .before .if2 .left) (k .raster-op .ensures .1) (w .draw-walk .ensures)
 
 owed-as-is-requires : tie.Need-owed-as-is-requires
@@ -60,7 +60,7 @@ returns-4 c =
     let k = w .before .before in
     let n = k .before .before in
     let p = n .before .before in
-    ellipse-outlined _ _ _ _ _ _ _ _ _ _ _ (c .before .if3 .left) (c .owed-as-is .ensures) (c .before .before .ellipse-mark .ensures) (p .before .before .pre .1)
+    ellipse-outlined _ _ _ _ _ _ _ _ _ _ _ _ (c .before .if3 .left) (c .owed-as-is .ensures) (c .before .before .ellipse-mark .ensures) (p .before .before .pre .1)
     (p .is-point .ensures) (n .before .if1 .left) (n .is-nothing .ensures) (k .before .if2 .left) (k .raster-op .ensures .1) (w .draw-walk .ensures)
 
 pub draw-ellipse-spec : {M : Type 1} → statement M
@@ -77,7 +77,7 @@ draw-ellipse-spec =
     raster-op-requires
     draw-walk-requires
     ellipse-mark-requires
-    owed-lowered-requires
+    owed-by-edge-requires
     same-length-2
     returns-3
     owed-as-is-requires

@@ -13,12 +13,12 @@ use Rattle.draw.proofs.ellipse.draw_walk.Statement.{statement}
 use Rattle.draw.proofs.ellipse.draw_walk.Tie as tie
 
 abbrev Inv-loop : tie.InvT-loop
-Inv-loop canvas screen₀ x y rx ry fill op r w₀ part₀ last₀ screen w part last =
+Inv-loop canvas screen₀ edge x y rx ry fill op r w₀ part₀ last₀ screen w part last =
     Screen (canvas .stride) (canvas .height) screen
-    × LeftToDraw (canvas .stride) (canvas .height) x y r rx ry fill (modeOf op) last (walkOf w) (partsOf part) screen (painted (canvas .stride) (canvas .height) x y fill (modeOf op) (parts rx ry) screen₀)
+    × LeftToDraw (canvas .stride) (canvas .height) edge x y r rx ry fill (modeOf op) last (walkOf w) (partsOf part) screen (painted (canvas .stride) (canvas .height) edge x y fill (modeOf op) (parts rx ry) screen₀)
 
 abbrev μ-loop : tie.MeasureT-loop
-μ-loop canvas screen₀ x y rx ry fill op r w₀ part₀ last₀ screen w part last = turnsLeft r last (walkOf w)
+μ-loop canvas screen₀ edge x y rx ry fill op r w₀ part₀ last₀ screen w part last = turnsLeft r last (walkOf w)
 
 greatest-requires : tie.Need-greatest-requires Inv-loop μ-loop
 greatest-requires c κs = tt
@@ -31,7 +31,7 @@ loop-holds c =
     let s = c .before .before .before in
     let a = s .args in
     let r = c .before .greatest .ensures in
-    (s .pre .0, painting-starts (a .canvas .stride) (a .canvas .height) (a .x) (a .y) _ (a .rx) (a .ry) (a .fill) (modeOf (a .op)) (radii (a .rx) (a .ry) r (s .pre .1 .0)) _ r (c .start .ensures) (parts-at (a .rx) 0))
+    (s .pre .0, painting-starts (a .canvas .stride) (a .canvas .height) (a .edge) (a .x) (a .y) _ (a .rx) (a .ry) (a .fill) (modeOf (a .op)) (radii (a .rx) (a .ry) r (s .pre .1 .0)) _ r (c .start .ensures) (parts-at (a .rx) 0))
 
 draw-step-requires : tie.Need-draw-step-requires Inv-loop μ-loop
 draw-step-requires c κs = (c .before .loop .inv .0, c .before .before .before .before .before .pre .1 .1)
@@ -49,7 +49,7 @@ loop-less c =
     let a = s .args in
     let drawn = c .before .before .before .before .before .before .draw-step .ensures in
     let step = c .before .before .next-step .ensures in
-    painting-less (a .canvas .stride) (a .canvas .height) (a .x) (a .y) _ (a .rx) (a .ry) (a .fill) (modeOf (a .op)) (radii (a .rx) (a .ry) (at .before .before .greatest .ensures) (s .pre .1 .0)) (at .loop .inv .1) drawn (c .before .before .before .if1 .left) (step .walk) (step .part) (c .ended .ensures)
+    painting-less (a .canvas .stride) (a .canvas .height) (a .edge) (a .x) (a .y) _ (a .rx) (a .ry) (a .fill) (modeOf (a .op)) (radii (a .rx) (a .ry) (at .before .before .greatest .ensures) (s .pre .1 .0)) (at .loop .inv .1) drawn (c .before .before .before .if1 .left) (step .walk) (step .part) (c .ended .ensures)
 
 loop-again : tie.Need-loop-again Inv-loop μ-loop
 loop-again c =
@@ -58,7 +58,7 @@ loop-again c =
     let a = s .args in
     let drawn = c .before .before .before .before .before .before .draw-step .ensures in
     let step = c .before .before .next-step .ensures in
-    (screen-draw _ _ _ (at .loop .inv .0) drawn, painting-steps (a .canvas .stride) (a .canvas .height) (a .x) (a .y) _ (a .rx) (a .ry) (a .fill) (modeOf (a .op)) (radii (a .rx) (a .ry) (at .before .before .greatest .ensures) (s .pre .1 .0)) (at .loop .inv .1) drawn (c .before .before .before .if1 .left) (step .walk) (step .part) (c .ended .ensures))
+    (screen-draw _ _ _ (at .loop .inv .0) drawn, painting-steps (a .canvas .stride) (a .canvas .height) (a .edge) (a .x) (a .y) _ (a .rx) (a .ry) (a .fill) (modeOf (a .op)) (radii (a .rx) (a .ry) (at .before .before .greatest .ensures) (s .pre .1 .0)) (at .loop .inv .1) drawn (c .before .before .before .if1 .left) (step .walk) (step .part) (c .ended .ensures))
 
 same-length : tie.Need-same-length Inv-loop μ-loop
 same-length c = omega (arith, c .before .before .before .draw-step .kept, c .before .before .before .before .before .loop .inv .0 .sized, c .before .before .before .before .before .before .before .before .before .pre .0 .sized)

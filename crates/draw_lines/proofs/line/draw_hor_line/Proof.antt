@@ -1,41 +1,23 @@
-use Rattle.laws.specs.Lines.{horizontal-drawn}
+use Rattle.laws.specs.Lines.{horizontal-beyond, horizontal-on}
 use borrow.Author.Needs.{needs}
 use Rattle.draw_lines.proofs.line.draw_hor_line.Statement.{statement}
 use Rattle.draw_lines.proofs.line.draw_hor_line.Tie as tie
 
-mul-clamp : tie.Need-mul-clamp
-mul-clamp c = search needs
+is-beyond-requires : tie.Need-is-beyond-requires
+is-beyond-requires c κs = search needs
 
-clamp-requires : tie.Need-clamp-requires
-clamp-requires c κs = search needs
+returns : tie.Need-returns
+returns c = search horizontal-beyond
 
-mul-clamp-2 : tie.Need-mul-clamp-2
-mul-clamp-2 c = search needs
-
-clamp-requires-2 : tie.Need-clamp-requires-2
-clamp-requires-2 c κs = search needs
-
-clamp-requires-3 : tie.Need-clamp-requires-3
-clamp-requires-3 c κs = search needs
-
-draw-run-requires : tie.Need-draw-run-requires
-draw-run-requires c κs = search needs
+draw-clamped-requires : tie.Need-draw-clamped-requires
+draw-clamped-requires c κs = search needs
 
 same-length : tie.Need-same-length
 same-length c = search needs
 
-returns : tie.Need-returns
-returns c = search horizontal-drawn
+returns-2 : tie.Need-returns-2
+returns-2 c = search horizontal-on
 
 pub draw-hor-line-spec : {M : Type 1} → statement M
 draw-hor-line-spec =
-    tie.close
-    (tie.spec
-    mul-clamp
-    clamp-requires
-    mul-clamp-2
-    clamp-requires-2
-    clamp-requires-3
-    draw-run-requires
-    same-length
-    returns)
+    tie.close (tie.spec is-beyond-requires returns draw-clamped-requires same-length returns-2)

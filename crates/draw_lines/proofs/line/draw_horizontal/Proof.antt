@@ -9,8 +9,8 @@ raster-op-requires c κs = search needs
 draw-hor-line-requires : tie.Need-draw-hor-line-requires
 draw-hor-line-requires c κs = search needs
 
-lowered-marks-requires : tie.Need-lowered-marks-requires
-lowered-marks-requires c κs = search needs
+edge-marks-requires : tie.Need-edge-marks-requires
+edge-marks-requires c κs = search needs
 
 same-length : tie.Need-same-length
 same-length c = search needs
@@ -20,4 +20,4 @@ returns c = search horizontal-marked
 
 pub draw-horizontal-spec : {M : Type 1} → statement M
 draw-horizontal-spec =
-    tie.close (tie.spec raster-op-requires draw-hor-line-requires lowered-marks-requires same-length returns)
+    tie.close (tie.spec raster-op-requires draw-hor-line-requires edge-marks-requires same-length returns)
