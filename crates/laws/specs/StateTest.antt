@@ -7,9 +7,10 @@ use native.Mathlib.Omega.{arith}
 use native.Mathlib.Numerals.{add-one}
 use lib.Dec.{leb, ltb}
 use lib.ListN.{length, getD, take, drop}
-use borrow.Author.Tests.{not-true, not-false}
+use borrow.Author.Tests.{eq-eqb, ne-eqb, not-true, not-false}
 use Rattle.model.specs.declared.Rect.{Rect}
 use Rattle.model.specs.declared.Head.{Head}
+use Rattle.model.specs.declared.Edge.the-variants.{Clamp, Stop}
 use Rattle.model.specs.declared.glass.Glass.{Glass}
 use Rattle.model.specs.Geometry.{Geometry, width, height, cells}
 use Rattle.model.specs.Glass.{geometry, IsGlass, Suits}
@@ -18,6 +19,7 @@ use Rattle.model.specs.Rects.{fits}
 use Rattle.model.specs.Bytes.{rectAt, rectsAt}
 use Rattle.model.specs.Flags.{flagBytes, flagsFit}
 use Rattle.model.specs.Record.{panelsFrom, panel, flags, edge, recordBytes, edgeFits, edgeByte, decode, all, at, partIn, headOf, pendingOf, windows, headFits, bandsFit, pendingFits, partFits, valid}
+use Rattle.model.specs.Lines.{edgeOf}
 use Rattle.laws.specs.Record.{has-flags, has-edge, part-in, length-part}
 use Rattle.laws.specs.Windows.{head-part, pending-part, edge-part}
 
@@ -171,6 +173,16 @@ module _ (v : Glass) (r : List ℕ) {h : Head} {a : Bool} (z : Suits v) (e : h �
 pub edge-room : (v : Glass) → Suits v → v .edge + 1 ≤ recordBytes (geometry v)
 edge-room v z = let p = part-in (geometry v) edge (has-edge (geometry v)) in omega (arith, z .is-edge)
 
-pub edge-decoded : (v : Glass) (r : List ℕ) → Suits v → getD r (v .edge) 0 ≡ decode (geometry v) r .edge
-unfolding decode
-edge-decoded v r z = cc (edge-part (geometry v) r, z .is-edge)
+-- the flag where code reads it
+module _ (v : Glass) (r : List ℕ) (z : Suits v) where
+  edge-decoded : getD r (v .edge) 0 ≡ decode (geometry v) r .edge
+  unfolding decode
+  edge-decoded = cc (edge-part (geometry v) r, z .is-edge)
+
+  pub edge-clamps : getD r (v .edge) 0 ≡ 0 → Clamp ≡ edgeOf (decode (geometry v) r .edge)
+  unfolding edgeOf
+  edge-clamps e = rw (eq-eqb (decode (geometry v) r .edge) 0 (sym edge-decoded ∙ e))
+
+  pub edge-stops : (getD r (v .edge) 0 ≡ 0 → ⊥) → Stop ≡ edgeOf (decode (geometry v) r .edge)
+  unfolding edgeOf
+  edge-stops n = rw (ne-eqb (decode (geometry v) r .edge) 0 (λ e. n (edge-decoded ∙ e)))

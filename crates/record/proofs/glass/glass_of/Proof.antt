@@ -25,6 +25,7 @@ returns c = record {
     is-keys = refl;
     is-flags = refl;
     is-others = refl;
+    is-edge = refl;
   };
   glass = refl;
 }

@@ -3,6 +3,7 @@ use mathlib.Core.Path.{ap, _∙_}
 use Rattle.model.specs.Glass.{geometry}
 use Rattle.model.specs.Marks.{whole}
 use Rattle.laws.specs.Updates.{head-in, keys-room, screen-small, whole-of}
+use Rattle.laws.specs.StateTest.{edge-room}
 use Rattle.laws.specs.Opening.{opens}
 use borrow.Author.Needs.{needs}
 use Rattle.record.proofs.open.open_record.Statement.{statement}
@@ -15,29 +16,64 @@ clear-head-requires : tie.Need-clear-head-requires
 clear-head-requires c κs = search needs
 
 store-head-requires : tie.Need-store-head-requires
-store-head-requires c κs = let s = c .before .before .before .before .before .before .before in omega (arith, head-in (geometry (s .args .glass)), s .pre .1 .0, c .before .before .before .before .clear .kept .0)
+store-head-requires c κs =
+    let clear = c .before .before .before .before in
+    let s = clear .before .before .before in
+    omega (arith, head-in (geometry (s .args .glass)), s .pre .1 .0, clear .clear .kept .0)
 
 store-keys-requires : tie.Need-store-keys-requires
-store-keys-requires c κs = let s = c .before .before .before .before .before .before .before .before .before .before .before in (omega (arith, keys-room (s .args .glass) (s .pre .0), s .pre .1 .0, c .before .before .before .before .before .before .before .before .clear .kept .0, c .before .before .before .store-head .kept .0), s .pre .1 .1)
+store-keys-requires c κs =
+    let store-head = c .before .before .before in
+    let clear = store-head .before .before .before .before .before in
+    let s = clear .before .before .before in
+    (omega (arith, keys-room (s .args .glass) (s .pre .0), s .pre .1 .0, clear .clear .kept .0, store-head .store-head .kept .0), s .pre .1 .1)
+
+store-edge-requires : tie.Need-store-edge-requires
+store-edge-requires c κs =
+    let store-keys = c .before .before .before in
+    let store-head = store-keys .before .before .before .before in
+    let clear = store-head .before .before .before .before .before in
+    let s = clear .before .before .before in
+    omega (arith, edge-room (s .args .glass) (s .pre .0), s .pre .1 .0, clear .clear .kept .0, store-head .store-head .kept .0, store-keys .store-keys .kept .0)
 
 canvas-of-requires : tie.Need-canvas-of-requires
 canvas-of-requires c κs = search needs
 
 whole-screen-requires : tie.Need-whole-screen-requires
-whole-screen-requires c κs = let s = c .before .before .before .before .before .before .before .before .before .before .before .before .before .before .before .before in screen-small (s .args .glass) (s .pre .0) (c .canvas-of .ensures)
+whole-screen-requires c κs =
+    let store-edge = c .before .before .before .before in
+    let store-keys = store-edge .before .before .before .before in
+    let store-head = store-keys .before .before .before .before in
+    let s = store-head .before .before .before .before .before .before .before .before in
+    screen-small (s .args .glass) (s .pre .0) (c .canvas-of .ensures)
 
 mark-panels-requires : tie.Need-mark-panels-requires
-mark-panels-requires c κs = search needs
+mark-panels-requires c κs =
+    let store-edge = c .before .before .before .before .before in
+    let store-keys = store-edge .before .before .before .before in
+    let store-head = store-keys .before .before .before .before in
+    let clear = store-head .before .before .before .before .before in
+    let s = clear .before .before .before in
+    (s .pre .0, omega (arith, s .pre .1 .0, clear .clear .kept .0, store-head .store-head .kept .0, store-keys .store-keys .kept .0, store-edge .store-edge .kept .0))
 
 same-length : tie.Need-same-length
 same-length c = search needs
 
 returns : tie.Need-returns
 returns c =
-    let s = c .before .before .before .before .before .before .before .before .before .before .before .before .before .before .before .before .before .before .before .before in
-    let v = s .args .glass in
-    opens (s .args .rec .now) (s .args .graphics) (s .args .text) (s .args .version) (s .args .keys) (s .pre .0) (s .pre .1 .0) (s .pre .1 .1) (c .before .before .before .before .before .before .before .before .before .before .before .before .before .before .before .before .before .clear .ensures) (c .before .before .before .before .before .before .before .before .before .before .before .before .before .clear-head .ensures) (c .before .before .before .before .before .before .before .before .before .before .before .before .store-head .ensures) (c .before .before .before .before .before .before .before .before .store-keys .ensures)
-    (c .before .before .before .whole-screen .ensures ∙ whole-of v (c .before .before .before .before .canvas-of .ensures) ∙ ap (whole (v .stride)) (s .pre .0 .is-height)) (c .before .before .mark-panels .ensures)
+    let mark-panels = c .before .before in
+    let whole-screen = mark-panels .before in
+    let canvas-of = whole-screen .before in
+    let store-edge = canvas-of .before .before .before .before in
+    let store-keys = store-edge .before .before .before .before in
+    let store-head = store-keys .before .before .before .before in
+    let clear-head = store-head .before in
+    let clear = clear-head .before .before .before .before in
+    let s = clear .before .before .before in
+    let a = s .args in
+    opens (a .rec .now) (a .graphics) (a .text) (a .version) (a .keys) (a .edge) (s .pre .0) (s .pre .1 .0) (s .pre .1 .1)
+    (clear .clear .ensures) (clear-head .clear-head .ensures) (store-head .store-head .ensures) (store-keys .store-keys .ensures) (store-edge .store-edge .ensures)
+    (whole-screen .whole-screen .ensures ∙ whole-of (a .glass) (canvas-of .canvas-of .ensures) ∙ ap (whole (a .glass .stride)) (s .pre .0 .is-height)) (mark-panels .mark-panels .ensures)
 
 pub open-record-spec : {M : Type 1} → statement M
 open-record-spec =
@@ -47,6 +83,7 @@ open-record-spec =
     clear-head-requires
     store-head-requires
     store-keys-requires
+    store-edge-requires
     canvas-of-requires
     whole-screen-requires
     mark-panels-requires
