@@ -1,4 +1,8 @@
 use mathlib.Core.Path.{ap, _∙_}
+use Prim.Native.Nat.{ℕ}
+use Rattle.model.specs.declared.Edge.{Edge}
+use Rattle.model.specs.declared.DrawMode.{DrawMode}
+use Rattle.model.specs.Marks.{Drawing}
 use Rattle.model.specs.Ellipses.{radiiFit, ellipse}
 use Rattle.model.specs.Calls.{filled, done}
 use Rattle.record.proofs.Drawing.{screen-room, screen-part, drew, stands}
@@ -15,6 +19,9 @@ add-to c = search needs
 draw-mode-requires : tie.Need-draw-mode-requires
 draw-mode-requires c κs = search needs
 
+edge-of-requires : tie.Need-edge-of-requires
+edge-of-requires c κs = let w = c .before .before .before .before .before .before .pre .0 in (w .known .suits, w .known .passing .sized)
+
 canvas-of-requires : tie.Need-canvas-of-requires
 canvas-of-requires c κs = search needs
 
@@ -25,13 +32,18 @@ part-draw-ellipse-start : tie.Need-part-draw-ellipse-start
 part-draw-ellipse-start c = search needs
 
 part-draw-ellipse-end : tie.Need-part-draw-ellipse-end
-part-draw-ellipse-end c = screen-room (c .before .before .before .before .before .before .pre .0)
+part-draw-ellipse-end c = screen-room (c .before .before .before .before .before .before .before .before .pre .0)
 
 draw-ellipse-requires : tie.Need-draw-ellipse-requires
-draw-ellipse-requires c κs = (screen-part (c .before .before .before .before .before .before .before .pre .0) (c .before .canvas-of .ensures), let a = c .before .before .before .before .before .before .before in ap (radiiFit (a .args .rx) (a .args .ry) (filled (a .args .fill))) (c .before .before .draw-mode .ensures) ∙ a .pre .1)
+draw-ellipse-requires c κs =
+    let canvas-of = c .before in
+    let draw-mode = canvas-of .before .before .before in
+    let start = draw-mode .before .before .before .before .before in
+    let a = start .args in
+    (screen-part (start .pre .0) (canvas-of .canvas-of .ensures), ap (radiiFit (a .rx) (a .ry) (filled (a .fill))) (draw-mode .draw-mode .ensures) ∙ start .pre .1)
 
 mark-head-requires : tie.Need-mark-head-requires
-mark-head-requires c κs = stands (c .before .before .before .before .before .before .before .before .before .before .before .pre .0)
+mark-head-requires c κs = stands (c .before .before .before .before .before .before .before .before .before .before .before .before .before .pre .0)
 
 same-length : tie.Need-same-length
 same-length c = search needs
@@ -42,8 +54,15 @@ same-length-2 c = search needs
 returns : tie.Need-returns
 unfolding done
 returns c =
-    let a = c .before .before .before .before .before .before .before .before .before .before .before .before .before .before in
-    drew (a .pre .0) (λ st h d. ellipse st h (a .args .x) (a .args .y) (a .args .rx) (a .args .ry) (filled (a .args .fill)) d) _ _ (c .before .before .before .before .before .before .before .before .before .draw-mode .ensures) (c .before .before .before .before .before .before .before .before .canvas-of .ensures) (c .before .before .before .before .before .before .draw-ellipse .ensures) (c .before .before .mark-head .ensures)
+    let mark-head = c .before .before in
+    let drawn = mark-head .before .before .before .before in
+    let canvas-of = drawn .before .before in
+    let edge-of = canvas-of .before in
+    let draw-mode = edge-of .before .before in
+    let start = draw-mode .before .before .before .before .before in
+    let a = start .args in
+    let shape : ℕ → ℕ → Edge × DrawMode → Drawing = λ st h p. ellipse st h (p .0) (a .x) (a .y) (a .rx) (a .ry) (filled (a .fill)) (p .1) in
+    drew (start .pre .0) shape _ _ (λ i. (edge-of .edge-of .ensures i, draw-mode .draw-mode .ensures i)) (canvas-of .canvas-of .ensures) (drawn .draw-ellipse .ensures) (mark-head .mark-head .ensures)
 
 pub draw-ellipse-spec : {M : Type 1} → statement M
 draw-ellipse-spec =
@@ -52,6 +71,7 @@ draw-ellipse-spec =
     cast-from
     add-to
     draw-mode-requires
+    edge-of-requires
     canvas-of-requires
     sub-draw-ellipse
     part-draw-ellipse-start

@@ -1,3 +1,7 @@
+use Prim.Native.Nat.{ℕ}
+use Rattle.model.specs.declared.Edge.{Edge}
+use Rattle.model.specs.declared.DrawMode.{DrawMode}
+use Rattle.model.specs.Marks.{Drawing}
 use Rattle.model.specs.Lines.{line}
 use Rattle.model.specs.Calls.{done}
 use Rattle.record.proofs.Drawing.{screen-room, screen-part, drew, stands}
@@ -14,6 +18,9 @@ add-to c = search needs
 draw-mode-requires : tie.Need-draw-mode-requires
 draw-mode-requires c κs = search needs
 
+edge-of-requires : tie.Need-edge-of-requires
+edge-of-requires c κs = let w = c .before .before .before .before .before .before .pre in (w .known .suits, w .known .passing .sized)
+
 canvas-of-requires : tie.Need-canvas-of-requires
 canvas-of-requires c κs = search needs
 
@@ -24,13 +31,13 @@ part-draw-line-start : tie.Need-part-draw-line-start
 part-draw-line-start c = search needs
 
 part-draw-line-end : tie.Need-part-draw-line-end
-part-draw-line-end c = screen-room (c .before .before .before .before .before .before .pre)
+part-draw-line-end c = screen-room (c .before .before .before .before .before .before .before .before .pre)
 
 draw-line-requires : tie.Need-draw-line-requires
-draw-line-requires c κs = screen-part (c .before .before .before .before .before .before .before .pre) (c .before .canvas-of .ensures)
+draw-line-requires c κs = screen-part (c .before .before .before .before .before .before .before .before .before .pre) (c .before .canvas-of .ensures)
 
 mark-head-requires : tie.Need-mark-head-requires
-mark-head-requires c κs = stands (c .before .before .before .before .before .before .before .before .before .before .before .pre)
+mark-head-requires c κs = stands (c .before .before .before .before .before .before .before .before .before .before .before .before .before .pre)
 
 same-length : tie.Need-same-length
 same-length c = search needs
@@ -41,8 +48,15 @@ same-length-2 c = search needs
 returns : tie.Need-returns
 unfolding done
 returns c =
-    let a = c .before .before .before .before .before .before .before .before .before .before .before .before .before .before in
-    drew (a .pre) (λ st h d. line st h (a .args .x1) (a .args .y1) (a .args .x2) (a .args .y2) d) _ _ (c .before .before .before .before .before .before .before .before .before .draw-mode .ensures) (c .before .before .before .before .before .before .before .before .canvas-of .ensures) (c .before .before .before .before .before .before .draw-line .ensures) (c .before .before .mark-head .ensures)
+    let mark-head = c .before .before in
+    let drawn = mark-head .before .before .before .before in
+    let canvas-of = drawn .before .before in
+    let edge-of = canvas-of .before in
+    let draw-mode = edge-of .before .before in
+    let start = draw-mode .before .before .before .before .before in
+    let a = start .args in
+    let shape : ℕ → ℕ → Edge × DrawMode → Drawing = λ st h p. line st h (p .0) (a .x1) (a .y1) (a .x2) (a .y2) (p .1) in
+    drew (start .pre) shape _ _ (λ i. (edge-of .edge-of .ensures i, draw-mode .draw-mode .ensures i)) (canvas-of .canvas-of .ensures) (drawn .draw-line .ensures) (mark-head .mark-head .ensures)
 
 pub draw-line-spec : {M : Type 1} → statement M
 draw-line-spec =
@@ -51,6 +65,7 @@ draw-line-spec =
     cast-from
     add-to
     draw-mode-requires
+    edge-of-requires
     canvas-of-requires
     sub-draw-line
     part-draw-line-start
