@@ -2,24 +2,27 @@
 use mathlib.Core.Path.{_≡_, sym, ap, _∙_}
 use mathlib.Core.Bool.{Bool, true, false}
 use mathlib.Core.List.{List, []}
-use Prim.Native.Nat.{ℕ, _+_, _-_, _*_, _<_}
+use Prim.Native.Nat.{ℕ, _+_, _-_, _*_, _<_, _≤_}
+use native.Mathlib.Omega.{arith}
 use borrow.Author.Tests.{eq-eqb, ne-eqb}
 use borrow.Rule.Slice.PartMut.{putMid}
 use lib.Dec.{eqb}
 use lib.ListN.{getD}
 use Rattle.model.specs.declared.Canvas.{Canvas}
 use Rattle.model.specs.declared.Head.{Head}
+use Rattle.model.specs.declared.Edge.the-variants.{Clamp}
 use Rattle.model.specs.declared.Marks.{Marks}
 use Rattle.model.specs.declared.glass.Glass.{Glass}
-use Rattle.model.specs.Geometry.{columns, cells}
+use Rattle.model.specs.Geometry.{columns, cells, glyphHeight}
 use Rattle.model.specs.Glass.{geometry, canvas, Suits}
 use Rattle.model.specs.Record.{decode, encode, withHead}
 use Rattle.model.specs.Marks.{drawn, drawnOn, marked}
 use Rattle.model.specs.Text.{withCursor}
 use Rattle.model.specs.Cursor.{blinkOf, blinkNext, cursorBox, underCursor, blinkHead, blinkDrawing}
-use Rattle.model.specs.Calls.{lent, changed, drawingWith, blinked, cursorCleared}
+use Rattle.model.specs.Calls.{lent, edgeIn, changed, drawingWith, blinked, cursorCleared}
 use Rattle.laws.specs.Record.{Numbers}
-use Rattle.laws.specs.Cursors.{cell-of, byte-of}
+use Rattle.laws.specs.Cursors.{cell-of, byte-of, blink-fits, cursor-either}
+use Rattle.laws.specs.Updates.{head-numbers}
 use Rattle.record.specs.Update.{updated}
 use Rattle.record.proofs.Updating.{updated-for}
 use Rattle.record.specs.Given.{Given}
@@ -52,17 +55,27 @@ module _ {v : Glass} {r : List ℕ} {h : Head} {m : List ℕ} (w : Given v r h m
   unfolding blinked
   blink-graph z = rw (in-graph z)
 
+  -- the cursor stands on the screen
+  beside : (a : Canvas) → a ≡ canvas v → h .column < a .stride
+  beside a q = rw q (head-numbers v r h (w .known) (w .head) .column)
+
+  above : (a : Canvas) → a ≡ canvas v → glyphHeight * h .row + glyphHeight ≤ a .height
+  above a q = let z = w .known .suits in rw q (omega (arith, head-numbers v r h (w .known) (w .head) .row, z .glass .filled, z .is-height))
+
   -- in Text it is a drawing, with another head
   pub blink-drew : (c : Marks) (s : List ℕ) {b k d : ℕ} {a : Canvas} {n : Head} {t : List ℕ} → h .screen ≡ 0 → b ≡ underCursor (geometry v) h m → k ≡ blinkOf (h .cursor) b → a ≡ canvas v
-      → drawn c s ≡ drawnOn (a .stride) (a .height) (cursorBox (a .stride) (a .height) (h .row) (h .column) k) (screenPart v h m)
+      → drawn c s ≡ drawnOn (a .stride) (a .height) (cursorBox (a .stride) (a .height) Clamp (h .row) (h .column) k) (screenPart v h m)
       → d ≡ blinkNext (h .cursor) b → n ≡ withCursor d h → t ≡ updated (λ g x. marked g (c .dirty) (c .owed) (withHead n x)) r
       → lent t (putMid (h .graphics) (h .graphics + v .screen - h .graphics) m s) [] ≡ blinked (geometry v) (lent r m [])
   unfolding blinked blinkHead blinkDrawing
-  blink-drew c s z u k q e d n t =
+  blink-drew c s {k = i} {a = a} z u k q e d n t =
       let g = geometry v in
+      let edge = edgeIn g (lent r m []) in
+      let at = head-numbers v r h (w .known) (w .head) in
+      let same = cursor-either (a .stride) (a .height) edge (h .row) (h .column) i (screenPart v h m) (blink-fits (h .cursor) _ (at .cursor) k .0) (beside a q) (above a q) in
       rw (in-text z)
-      (drew-with w (blinkHead g m) (λ st y x. cursorBox st y (h .row) (h .column) x) c s (k ∙ ap (blinkOf (h .cursor)) u) q e (n ∙ ap (λ (x : ℕ). withCursor x h) (d ∙ ap (blinkNext (h .cursor)) u)) t
-      ∙ ap (λ (x : Head). drawingWith g (blinkHead g m) (blinkDrawing g x m) (lent r m [])) (w .head))
+      (drew-with w (blinkHead g m) (λ st y x. cursorBox st y edge (h .row) (h .column) x) c s (k ∙ ap (blinkOf (h .cursor)) u) q (e ∙ same) (n ∙ ap (λ (x : ℕ). withCursor x h) (d ∙ ap (blinkNext (h .cursor)) u)) t
+      ∙ ap (λ (x : Head). drawingWith g (blinkHead g m) (blinkDrawing g edge x m) (lent r m [])) (w .head))
 
   -- none is shown
   pub clear-none : h .cursor ≡ 0 → lent r m [] ≡ cursorCleared (geometry v) (lent r m [])

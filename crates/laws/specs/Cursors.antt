@@ -1,5 +1,5 @@
 -- The cursor: where it stands, which one a blink inverts, and which one is shown afterwards.
-use mathlib.Core.Path.{_≡_}
+use mathlib.Core.Path.{_≡_, refl, sym}
 use mathlib.Core.Bool.{true}
 use mathlib.Core.List.{List}
 use Prim.Native.Nat.{ℕ, _+_, _-_, _*_, _<_, _≤_}
@@ -48,10 +48,11 @@ unfolding cursorBox
 is-cursor-box st y edge row column cursor s h = let e : 8 * column + (8 * cursor - 1) ≡ 8 * column + 8 * cursor - 1 = omega arith in rw e
 
 -- it is the same with both edge flags: it stands on the screen, and what a full one has beyond the last column is not drawn clamped either
-pub cursor-either : (st h row column cursor : ℕ) (s : List ℕ) → 1 ≤ cursor → column < st → glyphHeight * row + glyphHeight ≤ h
-    → drawnOn st h (cursorBox st h Stop row column cursor) s ≡ drawnOn st h (cursorBox st h Clamp row column cursor) s
+pub cursor-either : (st h : ℕ) (edge : Edge) (row column cursor : ℕ) (s : List ℕ) → 1 ≤ cursor → column < st → glyphHeight * row + glyphHeight ≤ h
+    → drawnOn st h (cursorBox st h Clamp row column cursor) s ≡ drawnOn st h (cursorBox st h edge row column cursor) s
 unfolding cursorBox box
-cursor-either st h row column cursor s a b c = box-either st h _ _ _ _ Xor (omega arith) (omega arith) (omega arith) (omega arith) true s
+cursor-either st h Clamp row column cursor s a b c = refl
+cursor-either st h Stop row column cursor s a b c = sym (box-either st h _ _ _ _ Xor (omega arith) (omega arith) (omega arith) (omega arith) true s)
 
 -- ---- which it is
 

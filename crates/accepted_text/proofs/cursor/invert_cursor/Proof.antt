@@ -1,4 +1,5 @@
 use mathlib.Core.Path.{_∙_}
+use Rattle.model.specs.declared.Edge.the-variants.{Clamp}
 use Rattle.laws.specs.Cursors.{is-cursor-box}
 use borrow.Author.Needs.{needs}
 use Rattle.accepted_text.proofs.cursor.invert_cursor.Statement.{statement}
@@ -32,7 +33,7 @@ same-length : tie.Need-same-length
 same-length c = search needs
 
 returns : tie.Need-returns
-returns c = let k = c .before .before .before .before .before in c .before .before .draw-filled-box .ensures ∙ is-cursor-box _ _ (k .args .row) (k .args .column) (k .args .cursor) _ (k .pre .1 .2)
+returns c = let k = c .before .before .before .before .before in c .before .before .draw-filled-box .ensures ∙ is-cursor-box _ _ Clamp (k .args .row) (k .args .column) (k .args .cursor) _ (k .pre .1 .2)
 
 pub invert-cursor-spec : {M : Type 1} → statement M
 invert-cursor-spec =
