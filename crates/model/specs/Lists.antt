@@ -116,7 +116,8 @@ run g b (i ∷ is) = run g (after g b i) is
 pub data Effect : Type 0 where
   nothing : Effect
   marks : Rect → Effect
-  opens : Effect
+  -- with the edge flag
+  opens : ℕ → Effect
   sends : Effect
 
 -- a drawing adds what it owes
@@ -135,7 +136,7 @@ blinks g l =
 
 -- what each call does to those of panel k where it is accepted, in the state that the calls before it leave
 unfoldable pub effect : Geometry → ℕ → Call → Lent → Effect
-effect g k (opening graphics text version keys edge) l = opens
+effect g k (opening graphics text version keys edge) l = opens edge
 effect g k reset l = marks (whole (g .stride) (height g))
 effect g k (drawPoint x y mode) l = draws g (point (g .stride) (height g) x y (drawMode mode))
 effect g k (drawLine x1 y1 x2 y2 mode) l = draws g (line (g .stride) (height g) (edgeIn g l) x1 y1 x2 y2 (drawMode mode))
@@ -165,7 +166,7 @@ effect g k (send j) l = cond (eqb j k) sends nothing
 unfoldable pub affected : Geometry → Pending → Effect → Pending
 affected g p nothing = p
 affected g p (marks m) = owing g m p
-affected g p opens = openPending g
+affected g p (opens edge) = openPending g
 affected g p sends = sendPending p
 
 -- a refused call does nothing to them
@@ -180,6 +181,18 @@ itemEffect g k b (elsewhere c l r) = nothing
 unfoldable pub reckoned : (g : Geometry) → ℕ → Pending → Buffers → List (Item g) → Pending
 reckoned g k p b [] = p
 reckoned g k p b (i ∷ is) = reckoned g k (affected g p (itemEffect g k b i)) (after g b i) is
+
+-- ---- the edge flag, from the list: open alone changes it
+
+unfoldable pub edgeAfter : Effect → ℕ → ℕ
+edgeAfter nothing n = n
+edgeAfter (marks m) n = n
+edgeAfter (opens edge) n = edge
+edgeAfter sends n = n
+
+unfoldable pub lastEdge : (g : Geometry) → ℕ → ℕ → Buffers → List (Item g) → ℕ
+lastEdge g k n b [] = n
+lastEdge g k n b (i ∷ is) = lastEdge g k (edgeAfter (itemEffect g k b i) n) (after g b i) is
 
 -- ---- L, and the pixels that differ
 

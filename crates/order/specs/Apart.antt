@@ -71,16 +71,16 @@ send-apart g z j b bytes a =
 -- ---- a mark
 
 -- what neither opens nor sends leaves the rectangle in hand and the lines sent
-kept : (g : Geometry) (p : Pending) (e : Effect) → e ≢ opens → e ≢ sends → (affected g p e .hand ≡ p .hand) × (affected g p e .sent ≡ p .sent)
+kept : (g : Geometry) (p : Pending) (e : Effect) → ((n : ℕ) → e ≢ opens n) → e ≢ sends → (affected g p e .hand ≡ p .hand) × (affected g p e .sent ≡ p .sent)
 unfolding affected owing
 kept g p nothing o s = (refl, refl)
 kept g p (marks m) o s = (refl, refl)
-kept g p opens o s = absurd (o refl)
+kept g p (opens n) o s = absurd (o n refl)
 kept g p sends o s = absurd (s refl)
 
 -- so every accepted call but open and a send to panel k: every mark, that of reset too, and a send to another panel
 pub hand-stays : (g : Geometry) (k : ℕ) → k < g .panels → (b : Buffers) → Lendable g (lentToSend k b) → (c : Call) → Typed c → accepted g c (lentTo (takes c) b)
-    → effect g k c (lentTo (takes c) b) ≢ opens → effect g k c (lentTo (takes c) b) ≢ sends
+    → ((n : ℕ) → effect g k c (lentTo (takes c) b) ≢ opens n) → effect g k c (lentTo (takes c) b) ≢ sends
     → let p = panelOf g (decode g (b .rec)) k in let p′ = panelOf g (decode g (doneOn g c b .rec)) k in (p′ .hand ≡ p .hand) × (p′ .sent ≡ p .sent)
 hand-stays g k there b q c t a o s =
     let f = call-step g k there b q c t a .follows .pending in

@@ -20,7 +20,7 @@ use Rattle.model.specs.declared.Head.{Head}
 use Rattle.model.specs.Bitmaps.{paintMode, sourceBytes}
 use Rattle.model.specs.Memory.{window}
 use Rattle.model.specs.Text.{withRow, withColumn, printMode, withPrintMode}
-use Rattle.model.specs.Calls.{Call, opening, reset, drawPoint, drawLine, drawBox, drawCircle, drawEllipse, checkPoint, paintBitmap, print, newline, cls, writeByte, flush, getRow, getColumn, setRow, setColumn, setScreenMode, setPrintMode, blinkCursor, clearCursor, takeDirtyArea, send, Lent, record-only, with-memory, takes, answered, filled, drawingWith, drawing, changed, cleared, withPage, blinked, cursorCleared, done}
+use Rattle.model.specs.Calls.{Call, opening, reset, drawPoint, drawLine, drawBox, drawCircle, drawEllipse, checkPoint, paintBitmap, print, newline, cls, writeByte, flush, getRow, getColumn, setRow, setColumn, setScreenMode, setPrintMode, blinkCursor, clearCursor, takeDirtyArea, send, Lent, record-only, with-memory, takes, edgeIn, answered, filled, drawingWith, drawing, changed, cleared, withPage, blinked, cursorCleared, done}
 use Rattle.model.specs.Print.{isInverse}
 use Rattle.model.specs.Record.{panelOf, headFits}
 use Rattle.model.specs.Sends.{sendPanel}
@@ -62,9 +62,9 @@ module _ (g : Geometry) (k : ℕ) (there : k < g .panels) (b : Buffers) (q : Len
   abbrev next : Call → Lent
   next c = lentToSend k (doneOn g c b)
 
-  ellipse-step : (x y rx ry : ℕ) (fill : Bool) (d : DrawMode) → x < 256 → y < 256 → let e = ellipse (g .stride) (height g) x y rx ry fill d in Step g k l (draws g e) (drawing g e l)
+  ellipse-step : (x y rx ry : ℕ) (fill : Bool) (d : DrawMode) → x < 256 → y < 256 → let e = ellipse (g .stride) (height g) (edgeIn g l) x y rx ry fill d in Step g k l (draws g e) (drawing g e l)
   ellipse-step x y rx ry fill d hx hy =
-      drawing-step g k there l q _ (ellipse-fits (g .stride) (height g) x y rx ry fill d (omega (arith, z .columns)) (omega (arith, z .cursor)) (omega (arith, z .row)) (z .high) hx hy)
+      drawing-step g k there l q _ (ellipse-fits (g .stride) (height g) (edgeIn g l) x y rx ry fill d (omega (arith, z .columns)) (omega (arith, z .cursor)) (omega (arith, z .row)) (z .high) hx hy)
 
   -- a send to panel k, and one to another
   sent-step : (j : ℕ) → accepted g (send j) (lentToSend j b) → Step g k l (effect g k (send j) (lentToSend j b)) (next (send j))
@@ -81,14 +81,14 @@ module _ (g : Geometry) (k : ℕ) (there : k < g .panels) (b : Buffers) (q : Len
 
   pub call-step : (c : Call) → Typed c → accepted g c (lentTo (takes c) b) → Step g k l (effect g k c (lentTo (takes c) b)) (next c)
   unfolding effect blinks done answered drawingWith changed cleared withPage blinked cursorCleared lentTo givenBack point headFits fits isEmpty printMode withPrintMode
-  call-step (opening graphics text version keys) t a = opening-step g k there z graphics text version keys (b .rec) (b .memory) (panelBuffer k b) t a (q .panel)
+  call-step (opening graphics text version keys edge) t a = opening-step g k there z graphics text version keys edge (b .rec) (b .memory) (panelBuffer k b) t a (q .panel)
   call-step reset t a = reset-step g k there l q
   call-step (drawPoint x y mode) t a =
       drawing-step g k there l q (point (g .stride) (height g) x y (drawMode mode)) (point-fits (g .stride) (height g) x y (t .0) (t .1))
   call-step (drawLine x1 y1 x2 y2 mode) t a =
-      drawing-step g k there l q _ (line-fits (g .stride) (height g) x1 y1 x2 y2 (drawMode mode) (t .0) (t .1) (t .2) (t .3))
+      drawing-step g k there l q _ (line-fits (g .stride) (height g) (edgeIn g l) x1 y1 x2 y2 (drawMode mode) (t .0) (t .1) (t .2) (t .3))
   call-step (drawBox x1 y1 x2 y2 fill mode) t a =
-      drawing-step g k there l q _ (box-fits (g .stride) (height g) x1 y1 x2 y2 (filled fill) (drawMode mode) (t .0) (t .1) (t .2) (t .3))
+      drawing-step g k there l q _ (box-fits (g .stride) (height g) (edgeIn g l) x1 y1 x2 y2 (filled fill) (drawMode mode) (t .0) (t .1) (t .2) (t .3))
   call-step (drawCircle x y r fill mode) t a = ellipse-step x y r r (filled fill) (drawMode mode) (t .0) (t .1)
   call-step (drawEllipse x y rx ry fill mode) t a = ellipse-step x y rx ry (filled fill) (drawMode mode) (t .0) (t .1)
   call-step (checkPoint x y) t a = same-step g k there l q

@@ -31,14 +31,14 @@ pub record PanelState : Type 0 where
 abbrev pub touched : Geometry → Effect → Rect
 touched g nothing = none
 touched g (marks m) = m
-touched g opens = whole (g .stride) (height g)
+touched g (opens edge) = whole (g .stride) (height g)
 touched g sends = none
 
 -- a send copies its line to the panel, and nothing else writes there
 abbrev pub panelAfter : Geometry → PanelState → Effect → List ℕ
 panelAfter g s nothing = s .panel
 panelAfter g s (marks m) = s .panel
-panelAfter g s opens = s .panel
+panelAfter g s (opens edge) = s .panel
 panelAfter g s sends = sendPanel (g .stride) (s .pending) (s .screen) (s .panel)
 
 -- t is what stands after an effect on s
@@ -132,7 +132,7 @@ held-after g s (marks m) t h f =
     either (decIn m x y)
     (λ i. inr (joinOwed-marks (width g) (g .band) 0 m (q .owed) x y hx (omega arith) (rw (h .well .bands) (omega arith)) i))
     (λ n. either (h .covered x y hx hy (λ e. d (f .screen x y hx hy n ∙ e))) inl (λ i. inr (joinOwed-keeps (width g) (g .band) 0 m (q .owed) x y i))))
-held-after g s opens t h f = held-open g t (ap length (f .panel) ∙ h .long) (f .pending)
+held-after g s (opens edge) t h f = held-open g t (ap length (f .panel) ∙ h .long) (f .pending)
 held-after g s sends t h f =
     let q = s .pending in
     held-by g s sends t f (length-send (g .stride) (s .screen) (s .panel) q ∙ h .long) (well-send g q (h .well)) (low-send g q (h .well) (h .low)) (λ x y hx hy d.

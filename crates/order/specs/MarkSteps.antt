@@ -26,7 +26,7 @@ use Rattle.model.specs.Cursor.{blinkOf, blinkNext, cursorBox, underCursor, blin
 use Rattle.model.specs.Glyphs.{Fonts}
 use Rattle.model.specs.Flush.{flushStores, clearedInText, flushed}
 use Rattle.model.specs.Poke.{ignored, poked, inScreen, pokeMark}
-use Rattle.model.specs.Calls.{writeByte, flush, Lent, lent, answered, drawingWith, drawing, cleared, withPage, blinked, cursorCleared, done}
+use Rattle.model.specs.Calls.{writeByte, flush, Lent, lent, edgeIn, answered, drawingWith, drawing, cleared, withPage, blinked, cursorCleared, done}
 use Rattle.model.specs.Lists.{nothing, marks, draws, prints, blinks, effect}
 use Rattle.laws.specs.Tests.{if-cases, by-test, either, tests, and-true, and-false, all-true, or-cases}
 use Rattle.laws.specs.Rects.{Fits, passes-fits}
@@ -76,7 +76,7 @@ module _ (g : Geometry) (k : ℕ) (there : k < g .panels) (l : Lent) (q : Lendab
       let m = pokeMark g (s .keys) (s .head .graphics) a in
       let r = poked-mark g (q .passing .glass) (s .keys) (s .head .graphics) a v (l .memory) in
       rewritten-step g k there l q m m s (poked (s .keys) a v (l .memory)) (known g l q)
-      (if-cases (λ (n : List ℕ). length n ≡ length (l .memory)) (ignored (s .keys) a) (λ e. refl) (λ e. length-set (l .memory) a v) ∙ q .memory) refl refl (r .0) (r .1)
+      (if-cases (λ (n : List ℕ). length n ≡ length (l .memory)) (ignored (s .keys) a) (λ e. refl) (λ e. length-set (l .memory) a v) ∙ q .memory) refl refl refl (r .0) (r .1)
 
   -- ---- a new screen
 
@@ -88,7 +88,7 @@ module _ (g : Geometry) (k : ℕ) (there : k < g .panels) (l : Lent) (q : Lendab
   unfolding effect done answered flushed
   flush-step f =
       let m = whole (g .stride) (height g) in
-      painted-step g k there l q m m s (l .memory) (flushed g f s (l .memory)) (known g l q) (q .memory) refl refl (whole-fits g (q .passing .glass))
+      painted-step g k there l q m m s (l .memory) (flushed g f s (l .memory)) (known g l q) (q .memory) refl refl refl (whole-fits g (q .passing .glass))
       (length-paint (flushStores g f s (l .memory)) (clearedInText (s .head .screen) (screenHeld g l) (screenBytes g))
       ∙ if-cases (λ (n : List ℕ). length n ≡ screenBytes g) (eqb (s .head .screen) 0) (λ t. length-zeros (screenBytes g)) (λ t. long))
       (whole-agrees (g .stride) (height g) _ _)
@@ -100,7 +100,7 @@ module _ (g : Geometry) (k : ℕ) (there : k < g .panels) (l : Lent) (q : Lendab
   drawing-with f d h b e =
       let ws = seen (g .stride) (height g) (d .writes) in
       painted-step g k there l q (d .dirty) (owes (g .stride) (height g) (d .owed) ws) (withHead (f (s .head)) s) (l .memory) (draw (g .stride) ws (screenHeld g l))
-      (head-formed g s (known g l q) (f (s .head)) h) (q .memory) b refl (passes-fits 256 0 256 (d .dirty) e)
+      (head-formed g s (known g l q) (f (s .head)) h) (q .memory) b refl refl (passes-fits 256 0 256 (d .dirty) e)
       (length-draw (g .stride) ws (screenHeld g l) ∙ long) (owes-agrees (g .stride) (height g) (d .owed) ws (screenHeld g l) (seen-on (g .stride) (height g) (d .writes)))
 
   pub drawing-step : (d : Drawing) → fits 256 0 256 (d .dirty) ≡ true → Step g k l (draws g d) (drawing g d l)
@@ -109,7 +109,7 @@ module _ (g : Geometry) (k : ℕ) (there : k < g .panels) (l : Lent) (q : Lendab
   -- ---- the cursor: a blink in Text is a drawing, and changes the head besides; in Graph nothing of it reaches the panel
 
   -- what it marks fits, also a full one at the last column
-  box-in : fits 256 0 256 (blinkDrawing g (s .head) (l .memory) .dirty) ≡ true
+  box-in : fits 256 0 256 (blinkDrawing g (edgeIn g l) (s .head) (l .memory) .dirty) ≡ true
   unfolding blinkDrawing cursorBox
   box-in =
       let z = q .passing .glass in
@@ -117,7 +117,7 @@ module _ (g : Geometry) (k : ℕ) (there : k < g .panels) (l : Lent) (q : Lendab
       let t = head-tells g h (known g l q .head) in
       let c = blinkOf (h .cursor) (underCursor g h (l .memory)) in
       let n : c ≤ 2 = blink-fits (h .cursor) (underCursor g h (l .memory)) (t .cursor) refl .1 in
-      box-fits (g .stride) (height g) (8 * h .column) (16 * h .row) (8 * h .column + 8 * c - 1) (16 * h .row + 15) true Xor
+      box-fits (g .stride) (height g) (edgeIn g l) (8 * h .column) (16 * h .row) (8 * h .column + 8 * c - 1) (16 * h .row + 15) true Xor
       (omega (arith, z .cursor, t .column)) (omega (arith, z .high, t .row)) (omega (arith, z .cursor, t .column)) (omega (arith, z .high, t .row))
 
   pub blink-step : Step g k l (blinks g l) (blinked g l)
@@ -126,7 +126,7 @@ module _ (g : Geometry) (k : ℕ) (there : k < g .panels) (l : Lent) (q : Lendab
       let h = s .head in
       let n = blinkNext (h .cursor) (underCursor g h (l .memory)) in
       by-test (eqb (h .screen) 0)
-      (λ e. rw e (drawing-with (blinkHead g (l .memory)) (blinkDrawing g h (l .memory))
+      (λ e. rw e (drawing-with (blinkHead g (l .memory)) (blinkDrawing g (edgeIn g l) h (l .memory))
       (still-fits g h (known g l q .head) 5 (le-leb n 2 (next-most (h .cursor) (underCursor g h (l .memory))))) refl box-in))
       (λ e. rw e (same-step g k there l q))
 
@@ -162,7 +162,7 @@ module _ (g : Geometry) (k : ℕ) (there : k < g .panels) (l : Lent) (q : Lendab
       painted-step g k there l q dirty owed (withHead (atPlace (p .row) (p .column) h) (withFlags (p .flags) s)) (withText (s .head .text) (p .text) (l .memory)) screen
       (page-formed g s (known g l q) (atPlace (p .row) (p .column) h) (p .flags)
       (still-fits g (withRow (p .row) h) (still-fits g h e 1 (lt-ltb (p .row) (rows g) (t .row))) 2 (lt-ltb (p .column) (columns g) (omega (arith, t .room)))) (t .flags))
-      (length-withWindow (s .head .text) (p .text) (l .memory) (rw (t .text) text-room) ∙ q .memory) b refl d n a
+      (length-withWindow (s .head .text) (p .text) (l .memory) (rw (t .text) text-room) ∙ q .memory) b refl refl d n a
 
   pub cleared-step : (n : ℕ) → leb n 1 ≡ true → Step g k l (marks (whole (g .stride) (height g))) (cleared g n l)
   unfolding headFits cleared clearedState clearedMemory

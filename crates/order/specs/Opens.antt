@@ -14,13 +14,13 @@ use Rattle.model.specs.Glass.{IsGlass}
 use Rattle.model.specs.Memory.{zeros}
 use Rattle.model.specs.Rects.{none, isEmpty, fits, join}
 use Rattle.model.specs.Bytes.{Words}
-use Rattle.model.specs.Record.{nothingPending, panelOf, windows, headTests, headFits, encode, withHead, withPanel, withFlags, WellFormed}
+use Rattle.model.specs.Record.{nothingPending, panelOf, windows, headTests, headFits, edgeFits, encode, withHead, withPanel, withFlags, WellFormed}
 use Rattle.model.specs.Marks.{whole, updateDirty, marked}
 use Rattle.model.specs.Open.{clearMemory, clearHead, clearFlags, openPending, openState, resetState}
 use Rattle.model.specs.Sends.{sendPending, sendPanel}
 use Rattle.model.specs.Calls.{opening, Lent, lent, answered, done}
-use Rattle.model.specs.Lists.{accepted, Typed, nothing, marks, opens, sends, affected}
-use Rattle.laws.specs.Tests.{all-true, true-all}
+use Rattle.model.specs.Lists.{accepted, Typed, nothing, marks, opens, sends, affected, edgeAfter}
+use Rattle.laws.specs.Tests.{and-true, all-true, true-all}
 use Rattle.laws.specs.Calls.{accepted-call}
 use Rattle.laws.specs.Rects.{none-fits}
 use Rattle.laws.specs.Writes.{whole-agrees}
@@ -43,28 +43,30 @@ clear-fits g z graphics text version a b =
     true-all (headTests g (clearHead graphics text version))
     (a, (lt-ltb 0 (rows g) (z .row), (lt-ltb 0 (columns g) (omega (arith, z .columns)), (refl, (refl, (refl, (b, (refl, tt))))))))
 
-pub open-formed : (g : Geometry) → IsGlass g → (graphics text version : ℕ) (keys : List ℕ) → windows g graphics text ≡ true → leb version 1 ≡ true → length keys ≡ 8 → Words keys
-    → WellFormed g (openState g graphics text version keys)
+pub open-formed : (g : Geometry) → IsGlass g → (graphics text version : ℕ) (keys : List ℕ) (edge : ℕ) → windows g graphics text ≡ true → leb version 1 ≡ true → edgeFits edge ≡ true → length keys ≡ 8 → Words keys
+    → WellFormed g (openState g graphics text version keys edge)
 unfolding openState
-open-formed g z graphics text version keys a b n ws = record {
+open-formed g z graphics text version keys edge a b x n ws = record {
   head = clear-fits g z graphics text version a b;
   count = length-replicate (g .panels) (openPending g);
   panels = λ k h. rw (getD-replicate (g .panels) k (openPending g) (nothingPending g) h) (well-open g);
   words = n;
   keys = ws;
   flags = length-no-flags (cells g);
+  edge = x;
 }
 
 -- an opening needs nothing of what stood before it but the panel's length
-pub opening-step : (g : Geometry) (k : ℕ) → k < g .panels → IsGlass g → (graphics text version : ℕ) (keys : List ℕ) (r m p : List ℕ) → Typed (opening graphics text version keys)
-    → accepted g (opening graphics text version keys) (lent r m []) → length p ≡ screenBytes g
-    → Step g k (lent r m p) opens (done g (opening graphics text version keys) (lent r m p) .left)
-unfolding openState affected done answered
-opening-step g k there z graphics text version keys r m p t a n =
-    let b = accepted-call g (opening graphics text version keys) (lent r m []) (omega arith) a .1 in
-    stored g k z (lent r m p) opens (openState g graphics text version keys) (clearMemory keys) p
-    (open-formed g z graphics text version keys (b .0) (b .1 .0) (t .0) (t .1)) (length-clear-memory keys) n
-    (record { pending = getD-replicate (g .panels) k (openPending g) (nothingPending g) there; panel = refl; screen = whole-agrees (g .stride) (height g) _ _ })
+pub opening-step : (g : Geometry) (k : ℕ) → k < g .panels → IsGlass g → (graphics text version : ℕ) (keys : List ℕ) (edge : ℕ) (r m p : List ℕ) → Typed (opening graphics text version keys edge)
+    → accepted g (opening graphics text version keys edge) (lent r m []) → length p ≡ screenBytes g
+    → Step g k (lent r m p) (opens edge) (done g (opening graphics text version keys edge) (lent r m p) .left)
+unfolding openState affected edgeAfter done answered
+opening-step g k there z graphics text version keys edge r m p t a n =
+    let b = accepted-call g (opening graphics text version keys edge) (lent r m []) (omega arith) a .1 in
+    let v = and-true (leb version 1) (edgeFits edge) (b .1 .0) in
+    stored g k z (lent r m p) (opens edge) (openState g graphics text version keys edge) (clearMemory keys) p
+    (open-formed g z graphics text version keys edge (b .0) (v .0) (v .1) (t .0) (t .1)) (length-clear-memory keys) n
+    (record { pending = getD-replicate (g .panels) k (openPending g) (nothingPending g) there; panel = refl; screen = whole-agrees (g .stride) (height g) _ _ }) refl
 
 module _ (g : Geometry) (k : ℕ) (there : k < g .panels) (l : Lent) (q : Lendable g l) where
   pub reset-step : Step g k l (marks (whole (g .stride) (height g))) (lent (encode g (resetState g (old g l))) (clearMemory (old g l .keys)) (l .panel))
@@ -78,27 +80,27 @@ module _ (g : Geometry) (k : ℕ) (there : k < g .panels) (l : Lent) (q : Lendab
       (page-formed g s w n (clearFlags g)
       (clear-fits g (q .passing .glass) (h .graphics) (h .text) (h .version) (all-true (headTests g h) (w .head) .0) (le-leb (h .version) 1 (head-tells g h (w .head) .version)))
       (length-no-flags (cells g)))
-      (length-clear-memory (s .keys)) refl refl (none-fits 256 0 256) (whole-agrees (g .stride) (height g) _ _)
+      (length-clear-memory (s .keys)) refl refl refl (none-fits 256 0 256) (whole-agrees (g .stride) (height g) _ _)
 
   pub send-step : let p = panelOf g (old g l) k in
       Step g k l sends (lent (encode g (withPanel k (sendPending p) (old g l))) (l .memory) (sendPanel (g .stride) p (screenHeld g l) (l .panel)))
-  unfolding affected
+  unfolding affected edgeAfter
   send-step =
       let s = old g l in
       let w = known g l q in
       let p = panelOf g s k in
       stored g k (q .passing .glass) l sends (withPanel k (sendPending p) s) (l .memory) (sendPanel (g .stride) p (screenHeld g l) (l .panel))
       (panel-formed g s w k (sendPending p) there (well-send g p (w .panels k there))) (q .memory) (length-send (g .stride) (screenHeld g l) (l .panel) p ∙ q .panel)
-      (record { pending = getD-set-same (s .panels) k (sendPending p) (nothingPending g) (omega (arith, w .count)); panel = refl; screen = λ x y hx hy n. refl })
+      (record { pending = getD-set-same (s .panels) k (sendPending p) (nothingPending g) (omega (arith, w .count)); panel = refl; screen = λ x y hx hy n. refl }) refl
 
   -- to panel k a send to another panel is nothing
   pub other-send-step : (j : ℕ) → j < g .panels → (k ≡ j → ⊥) → let p = panelOf g (old g l) j in
       Step g k l nothing (lent (encode g (withPanel j (sendPending p) (old g l))) (l .memory) (l .panel))
-  unfolding affected
+  unfolding affected edgeAfter
   other-send-step j i n =
       let s = old g l in
       let w = known g l q in
       let p = panelOf g s j in
       stored g k (q .passing .glass) l nothing (withPanel j (sendPending p) s) (l .memory) (l .panel)
       (panel-formed g s w j (sendPending p) i (well-send g p (w .panels j i))) (q .memory) (q .panel)
-      (record { pending = getD-set-other (s .panels) j k (sendPending p) (nothingPending g) n; panel = refl; screen = λ x y hx hy n. refl })
+      (record { pending = getD-set-other (s .panels) j k (sendPending p) (nothingPending g) n; panel = refl; screen = λ x y hx hy n. refl }) refl

@@ -10,10 +10,10 @@ use lib.ListN.{length, replicate}
 use borrow.Author.Tests.{eq-eqb, lt-ltb}
 use Rattle.model.specs.Geometry.{Geometry, height, screenBytes, memoryBytes}
 use Rattle.model.specs.Glass.{IsGlass}
-use Rattle.model.specs.Record.{Pending, nothingPending, WellPending}
+use Rattle.model.specs.Record.{Pending, nothingPending, decode, WellPending}
 use Rattle.model.specs.Refusals.{refusal, ruled}
 use Rattle.model.specs.Calls.{Call, opening, send, Lent, lent, takes, answered, done, outcome}
-use Rattle.model.specs.Lists.{accepted, Typed, Item, here, Buffers, panelBuffer, lentToSend, lentTo, givenBack, leaves, after, run, Effect, opens, effect, affected, effectAt, itemEffect, reckoned, linesLeft, differing}
+use Rattle.model.specs.Lists.{accepted, Typed, Item, here, Buffers, panelBuffer, lentToSend, lentTo, givenBack, leaves, after, run, Effect, opens, effect, affected, effectAt, itemEffect, reckoned, edgeAfter, lastEdge, linesLeft, differing}
 use Rattle.laws.specs.Tests.{by-test}
 use Rattle.laws.specs.Calls.{own-decide, outcome-done}
 use Rattle.laws.specs.Bands.{lines-send, idle-iff, lines-bound}
@@ -49,21 +49,40 @@ module _ (g : Geometry) (k : ℕ) (there : k < g .panels) where
   standing-run b [] p s = s
   standing-run b (i ∷ is) p s = standing-run (after g b i) is (affected g p (itemEffect g k b i)) (standing-item b i p s)
 
+  -- the edge flag is what the list makes of the one that stood
+  edge-run : (b : Buffers) (is : List (Item g)) (p : Pending) → Standing g k b p → decode g (run g b is .rec) .edge ≡ lastEdge g k (decode g (b .rec) .edge) b is
+  unfolding run lastEdge
+  edge-run b [] p s = refl
+  edge-run b (i ∷ is) p s =
+      edge-run (after g b i) is (affected g p (itemEffect g k b i)) (standing-item b i p s) ∙ ap (λ (n : ℕ). lastEdge g k n (after g b i) is) (item-step g k there b (s .lendable) i .edge)
+
   -- an accepted opening, lent any record and any memory, and then a list: owed and in hand are empty at first
-  pub standing-opened : IsGlass g → (graphics text version : ℕ) (keys : List ℕ) (t : Typed (opening graphics text version keys)) (b : Buffers)
-      → accepted g (opening graphics text version keys) (lent (b .rec) (b .memory) []) → length (panelBuffer k b) ≡ screenBytes g
-      → (is : List (Item g)) → let list = here (opening graphics text version keys) t ∷ is in Standing g k (run g b list) (reckoned g k (nothingPending g) b list)
+  pub standing-opened : IsGlass g → (graphics text version : ℕ) (keys : List ℕ) (edge : ℕ) (t : Typed (opening graphics text version keys edge)) (b : Buffers)
+      → accepted g (opening graphics text version keys edge) (lent (b .rec) (b .memory) []) → length (panelBuffer k b) ≡ screenBytes g
+      → (is : List (Item g)) → let list = here (opening graphics text version keys edge) t ∷ is in Standing g k (run g b list) (reckoned g k (nothingPending g) b list)
   unfolding run after reckoned affected itemEffect effectAt effect lentTo givenBack done answered
-  standing-opened z graphics text version keys t b a n is =
-      let c = opening graphics text version keys in
-      let first : Step g k (lentToSend k b) opens (lentToSend k (leaves g c b)) =
-      rw (leaves-done g c b a) (opening-step g k there z graphics text version keys (b .rec) (b .memory) (panelBuffer k b) t a n) in
+  standing-opened z graphics text version keys edge t b a n is =
+      let c = opening graphics text version keys edge in
+      let first : Step g k (lentToSend k b) (opens edge) (lentToSend k (leaves g c b)) =
+      rw (leaves-done g c b a) (opening-step g k there z graphics text version keys edge (b .rec) (b .memory) (panelBuffer k b) t a n) in
       standing-run (leaves g c b) is (affected g (nothingPending g) (itemEffect g k b (here c t)))
       (record {
         lendable = first .lendable;
         held = held-open g (state (leaves g c b)) (first .lendable .panel) (first .follows .pending);
-        pending = first .follows .pending ∙ ap (λ (n : ℕ). affected g (nothingPending g) (effectAt n opens)) (sym a);
+        pending = first .follows .pending ∙ ap (λ (n : ℕ). affected g (nothingPending g) (effectAt n (opens edge))) (sym a);
       })
+
+  -- and the edge flag is that of the last accepted opening, whatever stood before
+  pub edge-opened : (z : IsGlass g) (graphics text version : ℕ) (keys : List ℕ) (edge : ℕ) (t : Typed (opening graphics text version keys edge)) (b : Buffers)
+      → accepted g (opening graphics text version keys edge) (lent (b .rec) (b .memory) []) → length (panelBuffer k b) ≡ screenBytes g
+      → (is : List (Item g)) (n : ℕ) → let list = here (opening graphics text version keys edge) t ∷ is in decode g (run g b list .rec) .edge ≡ lastEdge g k n b list
+  unfolding run after lastEdge edgeAfter itemEffect effectAt effect lentTo givenBack done answered
+  edge-opened z graphics text version keys edge t b a m is n =
+      let c = opening graphics text version keys edge in
+      let s = standing-opened z graphics text version keys edge t b a m [] in
+      let first = opening-step g k there z graphics text version keys edge (b .rec) (b .memory) (panelBuffer k b) t a m .edge in
+      edge-run (leaves g c b) is _ s
+      ∙ ap (λ (x : ℕ). lastEdge g k x (leaves g c b) is) (rw (leaves-done g c b a) first ∙ ap (λ (x : ℕ). edgeAfter (effectAt x (opens edge)) n) (sym a))
 
   -- ---- what holds then
 

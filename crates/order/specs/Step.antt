@@ -15,7 +15,7 @@ use Rattle.model.specs.Memory.{screenOf, withScreen}
 use Rattle.model.specs.Record.{Pending, State, nothingPending, panelOf, headTests, headFits, decode, encode, withHead, withPanels, withPanel, withFlags, WellPending, WellFormed}
 use Rattle.model.specs.Marks.{updateDirty, owing, marked}
 use Rattle.model.specs.Calls.{Lent, lent, changed}
-use Rattle.model.specs.Lists.{Effect, nothing, marks, affected}
+use Rattle.model.specs.Lists.{Effect, nothing, marks, affected, edgeAfter}
 use Rattle.laws.specs.Tests.{by-eq, AllTrue, all-true, true-all}
 use Rattle.laws.specs.Rects.{Fits, join-fits, fits-passes, passes-fits}
 use Rattle.laws.specs.ListLaws.{getD-map}
@@ -43,10 +43,10 @@ still-fits g h e i {t} p = true-all (set (headTests g h) i t) (all-set (headTest
 
 module _ (g : Geometry) (s : State) (w : WellFormed g s) where
   pub head-formed : (h : Head) → headFits g h ≡ true → WellFormed g (withHead h s)
-  head-formed h e = record { head = e; count = w .count; panels = w .panels; words = w .words; keys = w .keys; flags = w .flags }
+  head-formed h e = record { head = e; count = w .count; panels = w .panels; words = w .words; keys = w .keys; flags = w .flags; edge = w .edge }
 
   pub panels-formed : (ps : List Pending) → length ps ≡ g .panels → ((k : ℕ) → k < g .panels → WellPending g (getD ps k (nothingPending g))) → WellFormed g (withPanels ps s)
-  panels-formed ps n f = record { head = w .head; count = n; panels = f; words = w .words; keys = w .keys; flags = w .flags }
+  panels-formed ps n f = record { head = w .head; count = n; panels = f; words = w .words; keys = w .keys; flags = w .flags; edge = w .edge }
 
   -- another panel k, and no other
   pub panel-formed : (k : ℕ) (p : Pending) → k < g .panels → WellPending g p → WellFormed g (withPanel k p s)
@@ -58,7 +58,7 @@ module _ (g : Geometry) (s : State) (w : WellFormed g s) where
 
   -- another head and other flags
   pub page-formed : (h : Head) (fs : List Bool) → headFits g h ≡ true → length fs ≡ cells g → WellFormed g (withHead h (withFlags fs s))
-  page-formed h fs e n = record { head = e; count = w .count; panels = w .panels; words = w .words; keys = w .keys; flags = n }
+  page-formed h fs e n = record { head = e; count = w .count; panels = w .panels; words = w .words; keys = w .keys; flags = n; edge = w .edge }
 
 -- a state marked: the mark reaches each panel; what is joined to dirty fits, and so does the whole
 pub marked-formed : (g : Geometry) (dirty owed : Rect) (s : State) → Fits 256 0 256 dirty → WellFormed g s → WellFormed g (marked g dirty owed s)
@@ -96,6 +96,7 @@ view g k l = viewOf g k (old g l) (l .memory) (l .panel)
 pub record Step (g : Geometry) (k : ℕ) (l : Lent) (e : Effect) (l′ : Lent) : Type 0 where
   pub lendable : Lendable g l′
   pub follows : Follows g (view g k l) e (view g k l′)
+  pub edge : old g l′ .edge ≡ edgeAfter e (old g l .edge)
 
 -- ---- the screen lies in memory
 
@@ -115,45 +116,46 @@ known g l q = well-formed g (l .rec) (q .passing)
 module _ (g : Geometry) (k : ℕ) where
   -- a new state is written to the record
   pub stored : IsGlass g → (l : Lent) (e : Effect) (s : State) (m p : List ℕ) → WellFormed g s → length m ≡ memoryBytes → length p ≡ screenBytes g
-      → Follows g (view g k l) e (viewOf g k s m p) → Step g k l e (lent (encode g s) m p)
-  stored z l e s m p w hm hp f = record {
+      → Follows g (view g k l) e (viewOf g k s m p) → s .edge ≡ edgeAfter e (old g l .edge) → Step g k l e (lent (encode g s) m p)
+  stored z l e s m p w hm hp f x = record {
     lendable = record { passing = encode-passing g z s w; memory = hm; panel = hp };
     follows = rw (decode-encode g s z w) f;
+    edge = rw (decode-encode g s z w) x;
   }
 
   module _ (there : k < g .panels) (l : Lent) (q : Lendable g l) where
     -- all stays as it was
     pub same-step : Step g k l nothing l
-    unfolding affected
-    same-step = record { lendable = q; follows = record { pending = refl; panel = refl; screen = λ x y hx hy n. refl } }
+    unfolding affected edgeAfter
+    same-step = record { lendable = q; follows = record { pending = refl; panel = refl; screen = λ x y hx hy n. refl }; edge = refl }
 
     -- the head alone changes: the new one passes, and its graphics base is the old one
     pub changed-step : (f : Head → Head) → headFits g (f (old g l .head)) ≡ true → f (old g l .head) .graphics ≡ old g l .head .graphics → Step g k l nothing (changed g f l)
-    unfolding changed affected
+    unfolding changed affected edgeAfter
     changed-step f e b =
         let s = old g l in
         stored (q .passing .glass) l nothing (withHead (f (s .head)) s) (l .memory) (l .panel) (head-formed g s (known g l q) (f (s .head)) e) (q .memory) (q .panel)
-        (record { pending = refl; panel = refl; screen = rw b (λ x y hx hy n. refl) })
+        (record { pending = refl; panel = refl; screen = rw b (λ x y hx hy n. refl) }) refl
 
     -- another state and memory, marked: pixels change in what is owed alone
     pub rewritten-step : (dirty owed : Rect) (s : State) (m : List ℕ) → WellFormed g s → length m ≡ memoryBytes
-        → s .head .graphics ≡ old g l .head .graphics → s .panels ≡ old g l .panels → Fits 256 0 256 dirty
+        → s .head .graphics ≡ old g l .head .graphics → s .panels ≡ old g l .panels → s .edge ≡ old g l .edge → Fits 256 0 256 dirty
         → AgreeOutside (g .stride) (height g) owed (screenHeld g l) (screenOf g (old g l .head .graphics) m)
         → Step g k l (marks owed) (lent (encode g (marked g dirty owed s)) m (l .panel))
-    unfolding affected marked updateDirty
-    rewritten-step dirty owed s m w hm b e f a =
+    unfolding affected edgeAfter marked updateDirty
+    rewritten-step dirty owed s m w hm b e x f a =
         stored (q .passing .glass) l (marks owed) (marked g dirty owed s) m (l .panel) (marked-formed g dirty owed s f w) hm (q .panel)
         (record {
           pending = rw e (getD-map (owing g owed) (old g l .panels) k (nothingPending g) (omega (arith, known g l q .count)));
           panel = refl;
           screen = rw b a;
-        })
+        }) x
 
     -- and with another screen
     pub painted-step : (dirty owed : Rect) (s : State) (m new : List ℕ) → WellFormed g s → length m ≡ memoryBytes → s .head .graphics ≡ old g l .head .graphics → s .panels ≡ old g l .panels
-        → Fits 256 0 256 dirty → length new ≡ screenBytes g → AgreeOutside (g .stride) (height g) owed (screenHeld g l) new
+        → s .edge ≡ old g l .edge → Fits 256 0 256 dirty → length new ≡ screenBytes g → AgreeOutside (g .stride) (height g) owed (screenHeld g l) new
         → Step g k l (marks owed) (lent (encode g (marked g dirty owed s)) (withScreen (old g l .head .graphics) new m) (l .panel))
-    painted-step dirty owed s m new w hm b e d n a =
+    painted-step dirty owed s m new w hm b e x d n a =
         let c = old g l .head .graphics in
         let room : c + screenBytes g ≤ length m = rw hm (screen-in g (q .passing .glass) (old g l .head) (known g l q .head)) in
-        rewritten-step dirty owed s (withScreen c new m) w (length-withWindow c new m (rw n room) ∙ hm) b e d (rw (window-same c (screenBytes g) new m n room) a)
+        rewritten-step dirty owed s (withScreen c new m) w (length-withWindow c new m (rw n room) ∙ hm) b e x d (rw (window-same c (screenBytes g) new m n room) a)

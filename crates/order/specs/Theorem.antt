@@ -1,5 +1,5 @@
 -- Calls in any order: what is promised of panel k, of the record, the memory and its buffer, after an accepted open and every list of calls.
--- Call, takes and outcome stand in crates/model/specs/Calls.antt; Buffers, Item, lentTo, run, reckoned, linesLeft, InAny, Differs and differing in Lists.antt there;
+-- Call, takes and outcome stand in crates/model/specs/Calls.antt; Buffers, Item, lentTo, run, reckoned, lastEdge, linesLeft, InAny, Differs and differing in Lists.antt there;
 -- acceptedCalls, leftBy and named in Accepted.antt here. docs/THEOREM.md says it in words.
 use mathlib.Core.Path.{_≡_}
 use mathlib.Core.Logic.{_⊎_, _↔_}
@@ -13,10 +13,10 @@ use Rattle.model.specs.Memory.{screenOf}
 use Rattle.model.specs.Rects.{In}
 use Rattle.model.specs.Record.{Pending, nothingPending, panelOf, decode, total, valid}
 use Rattle.model.specs.Calls.{opening, send, lent, outcome}
-use Rattle.model.specs.Lists.{accepted, Typed, Item, here, Buffers, buffers, panelBuffer, lentToSend, run, reckoned, linesLeft, InAny, Differs, differing}
+use Rattle.model.specs.Lists.{accepted, Typed, Item, here, Buffers, buffers, panelBuffer, lentToSend, run, reckoned, lastEdge, linesLeft, InAny, Differs, differing}
 use Rattle.laws.specs.Glasses.{base-glass}
 use Rattle.order.specs.Accepted.{acceptedCalls, leftBy, named, named-row, left-run}
-use Rattle.order.specs.Order.{standing-run, standing-opened, sendable, bound, idle, lines-more, level, row-of-sends}
+use Rattle.order.specs.Order.{standing-run, standing-opened, edge-opened, sendable, bound, idle, lines-more, level, row-of-sends}
 
 -- owed, in hand and lines sent of panel k as the record has them; its L; the screen
 abbrev pub pendingIn : ℕ → Buffers → Pending
@@ -31,7 +31,7 @@ screenIn b = screenOf base (decode base (b .rec) .head .graphics) (b .memory)
 -- what is promised of panel k and the bytes b that stand after a list of items, the first of which was lent what it takes of the bytes start
 pub record Promised (k : ℕ) (start : Buffers) (items : List (Item base)) (b : Buffers) : Type 0 where
   -- the bytes have the lengths that LENT asks for
-  pub record-length : length (b .rec) ≡ 230
+  pub record-length : length (b .rec) ≡ 231
   pub memory-length : length (b .memory) ≡ 65536
   pub panel-length : length (panelBuffer k b) ≡ 1600
   -- the record passes STATE
@@ -42,6 +42,8 @@ pub record Promised (k : ℕ) (start : Buffers) (items : List (Item base)) (b : 
   pub pending : pendingIn k b ≡ reckoned base k (nothingPending base) start items
   -- record, memory and all panels are what the accepted calls leave, one after another; refused ones leave all bytes
   pub left-by : b ≡ leftBy base start (acceptedCalls base start items)
+  -- the edge flag is that of the last accepted open: no other call changes it
+  pub edge : decode base (b .rec) .edge ≡ lastEdge base k 0 start items
   -- L is at most 159
   pub bound : linesIn k b ≤ 159
   -- a pixel that differs on screen and panel lies in hand or is owed
@@ -60,16 +62,16 @@ pub record Promised (k : ℕ) (start : Buffers) (items : List (Item base)) (b : 
 
 -- The theorem, for each panel k: an accepted open, lent any record r and any memory m, beside panel buffers ps of any bytes, of which panel k's has 1,600, and then
 -- every list of items.
-pub calls-in-any-order : (k : ℕ) → k < 4 → (graphics text version : ℕ) (keys : List ℕ) (t : Typed (opening graphics text version keys)) (r m : List ℕ) (ps : List (List ℕ))
-    → accepted base (opening graphics text version keys) (lent r m []) → length (getD ps k []) ≡ 1600 → (items : List (Item base))
-    → let list = here (opening graphics text version keys) t ∷ items in Promised k (buffers r m ps) list (run base (buffers r m ps) list)
+pub calls-in-any-order : (k : ℕ) → k < 4 → (graphics text version : ℕ) (keys : List ℕ) (edge : ℕ) (t : Typed (opening graphics text version keys edge)) (r m : List ℕ) (ps : List (List ℕ))
+    → accepted base (opening graphics text version keys edge) (lent r m []) → length (getD ps k []) ≡ 1600 → (items : List (Item base))
+    → let list = here (opening graphics text version keys edge) t ∷ items in Promised k (buffers r m ps) list (run base (buffers r m ps) list)
 unfolding total
-calls-in-any-order k there graphics text version keys t r m ps a n items =
-    let list = here (opening graphics text version keys) t ∷ items in
+calls-in-any-order k there graphics text version keys edge t r m ps a n items =
+    let list = here (opening graphics text version keys edge) t ∷ items in
     let start = buffers r m ps in
     let b = run base start list in
     let p = reckoned base k (nothingPending base) start list in
-    let s = standing-opened base k there base-glass graphics text version keys t start a n items in
+    let s = standing-opened base k there base-glass graphics text version keys edge t start a n items in
     record {
       record-length = s .lendable .passing .sized;
       memory-length = s .lendable .memory;
@@ -78,6 +80,7 @@ calls-in-any-order k there graphics text version keys t r m ps a n items =
       sendable = sendable base k there b s;
       pending = s .pending;
       left-by = left-run base start list;
+      edge = edge-opened base k there base-glass graphics text version keys edge t start a n items 0;
       bound = omega (arith, bound base k there b s);
       places = s .held .covered;
       idle = λ more js e z.

@@ -1,6 +1,7 @@
 -- The claim is not about nothing: there is an accepted open; there are lists after which L is 159, the most that it may be; and where all four panels have their
 -- buffers, sends to any of them in any order are a list of the kind that may follow, after which one panel is level and another is not.
 use mathlib.Core.Path.{_≡_, refl, ap, _∙_}
+use mathlib.Core.Bool.{true}
 use mathlib.Core.List.{List, [], _∷_, map}
 use Prim.Native.Nat.{ℕ, zero, suc, _<_}
 use native.Mathlib.Omega.{arith}
@@ -10,13 +11,13 @@ use Rattle.model.specs.Geometry.{base}
 use Rattle.model.specs.Bits.{bitAt}
 use Rattle.model.specs.Memory.{window, zeros, screenOf}
 use Rattle.model.specs.Rects.{isEmpty, join, cut}
-use Rattle.model.specs.Record.{Pending, nothingPending, windows, total}
+use Rattle.model.specs.Record.{Pending, nothingPending, decode, windows, edgeFits, total}
 use Rattle.model.specs.Refusals.{refusal, ruled}
 use Rattle.model.specs.Marks.{owing, joinOwed}
 use Rattle.model.specs.Open.{isKey, withKeys, clearMemory, openPending, openState}
 use Rattle.model.specs.Sends.{sendPending, takeOwed, firstOwed, restOwed, lineSent, nextLine}
-use Rattle.model.specs.Calls.{Call, opening, cls, send, lent, answered, done}
-use Rattle.model.specs.Lists.{accepted, Typed, Item, here, Buffers, buffers, panelBuffer, lentTo, givenBack, leaves, after, run, effect, affected, effectAt, itemEffect, reckoned, owedLines, linesLeft, differs, sum, differing}
+use Rattle.model.specs.Calls.{Call, opening, reset, cls, send, lent, answered, done}
+use Rattle.model.specs.Lists.{accepted, Typed, Item, here, Buffers, buffers, panelBuffer, lentTo, givenBack, leaves, after, run, effect, affected, effectAt, itemEffect, reckoned, edgeAfter, lastEdge, owedLines, linesLeft, differs, sum, differing}
 use Rattle.model.specs.Script.Output.{noKeys}
 use Rattle.laws.specs.Glasses.{base-glass}
 use Rattle.laws.specs.Loops.{length-zeros}
@@ -29,10 +30,10 @@ use Rattle.order.specs.Apart.{SentApart, send-apart}
 use Rattle.order.specs.Order.{Standing, standing-item, standing-opened, sendable}
 use Rattle.order.specs.Theorem.{linesIn, screenIn, Promised, calls-in-any-order}
 
--- the open of the script program (bases 4,096 and 8,192, V2, no keys) is accepted over a record and a memory of any bytes
-pub accepted-open : (r m : List ℕ) → length r ≡ 230 → length m ≡ 65536 → accepted base (opening 4096 8192 1 noKeys) (lent r m [])
+-- the open of the script program (bases 4,096 and 8,192, V2, no keys) is accepted over a record and a memory of any bytes, with both edge flags
+pub accepted-open : (edge : ℕ) (r m : List ℕ) → edgeFits edge ≡ true → length r ≡ 231 → length m ≡ 65536 → accepted base (opening 4096 8192 1 noKeys edge) (lent r m [])
 unfolding refusal total windows
-accepted-open r m hr hm = own-decide base (opening 4096 8192 1 noKeys) (lent r m []) (record { sized = hr; lengths = eq-eqb (length m) 65536 hm; state = tt })
+accepted-open edge r m e hr hm = own-decide base (opening 4096 8192 1 noKeys edge) (lent r m []) (record { sized = hr; lengths = eq-eqb (length m) 65536 hm; state = tt }) ∙ rw e refl
 
 -- ---- sends to any panels that there are
 
@@ -70,26 +71,38 @@ all-accepted b p s (j ∷ js) h =
     (ap (λ (cs : List Call). send j ∷ cs)
     (all-accepted (after base b i) (λ k. affected base (p k) (itemEffect base k b i)) (λ k there. standing-item base k there b i (p k) (s k there)) js (h .1)))
 
-module _ (graphics text version : ℕ) (keys : List ℕ) (t : Typed (opening graphics text version keys)) (r m : List ℕ) (ps : List (List ℕ))
-    (a : accepted base (opening graphics text version keys) (lent r m [])) where
+module _ (graphics text version : ℕ) (keys : List ℕ) (edge : ℕ) (t : Typed (opening graphics text version keys edge)) (r m : List ℕ) (ps : List (List ℕ))
+    (a : accepted base (opening graphics text version keys edge) (lent r m [])) where
   abbrev start : Buffers
   start = buffers r m ps
 
   abbrev first : Item base
-  first = here (opening graphics text version keys) t
+  first = here (opening graphics text version keys edge) t
 
   -- an accepted open owes 80 lines to a panel, a send to it takes them in hand and leaves 79, and `cls` owes 80 again
   pub most-lines : (k : ℕ) → k < 4 → length (getD ps k []) ≡ 1600 → (u : Typed (send k)) → linesIn k (run base start (first ∷ here (send k) u ∷ here cls tt ∷ [])) ≡ 159
   unfolding total lentTo run refusal reckoned itemEffect effectAt effect affected openPending nothingPending sendPending takeOwed firstOwed restOwed lineSent nextLine owing joinOwed
       join cut isEmpty linesLeft owedLines
   most-lines k there n u =
-      let promised = calls-in-any-order k there graphics text version keys t r m ps a n in
+      let promised = calls-in-any-order k there graphics text version keys edge t r m ps a n in
       let sent = promised (here (send k) u ∷ []) in
       let b = run base start (first ∷ here (send k) u ∷ []) in
       let l = lent (b .rec) (b .memory) [] in
       let clears : accepted base cls l =
       own-decide base cls l (record { sized = sent .record-length; lengths = eq-eqb (length (b .memory)) 65536 (sent .memory-length); state = (sent .passes, tt) }) in
       ap linesLeft (promised (here (send k) u ∷ here cls tt ∷ []) .pending) ∙ rw (a, promised [] .sendable, clears, eq-eqb k k refl) refl
+
+  -- a reset keeps the edge flag
+  pub kept-edge : (k : ℕ) → k < 4 → length (getD ps k []) ≡ 1600 → decode base (run base start (first ∷ here reset tt ∷ []) .rec) .edge ≡ edge
+  unfolding total lentTo run refusal lastEdge edgeAfter itemEffect effectAt effect
+  kept-edge k there n =
+      let promised = calls-in-any-order k there graphics text version keys edge t r m ps a n in
+      let opened = promised [] in
+      let b = run base start (first ∷ []) in
+      let l = lent (b .rec) (b .memory) [] in
+      let resets : accepted base reset l =
+      own-decide base reset l (record { sized = opened .record-length; lengths = eq-eqb (length (b .memory)) 65536 (opened .memory-length); state = (opened .passes, tt) }) in
+      promised (here reset tt ∷ []) .edge ∙ rw (a, resets) refl
 
   module _ (all : (k : ℕ) → k < 4 → length (getD ps k []) ≡ 1600) where
     abbrev opened : Buffers
@@ -99,20 +112,20 @@ module _ (graphics text version : ℕ) (keys : List ℕ) (t : Typed (opening gra
     pub any-sends : (js : List ℕ) (h : Panels js) → acceptedCalls base opened (sendsTo js h) ≡ map send js
     any-sends js h =
         all-accepted opened (λ k. reckoned base k (nothingPending base) start (first ∷ []))
-        (λ k there. standing-opened base k there base-glass graphics text version keys t start a (all k there) []) js h
+        (λ k there. standing-opened base k there base-glass graphics text version keys edge t start a (all k there) []) js h
 
     -- the open owes each panel 80 lines
     pub opened-lines : (k : ℕ) → k < 4 → linesIn k opened ≡ 80
     unfolding run lentTo reckoned itemEffect effectAt effect affected openPending nothingPending owing joinOwed join cut isEmpty linesLeft owedLines
-    opened-lines k there = ap linesLeft (calls-in-any-order k there graphics text version keys t r m ps a (all k there) [] .pending) ∙ rw a refl
+    opened-lines k there = ap linesLeft (calls-in-any-order k there graphics text version keys edge t r m ps a (all k there) [] .pending) ∙ rw a refl
 
     -- a send to panel 1 takes one of its lines, and touches nothing of the others
     pub one-sent : let b = leaves base (send 1) opened in (linesIn 1 b ≡ 79) × SentApart base 1 opened b
     unfolding run after sendsTo named
     one-sent =
         let h : Panels (1 ∷ []) = (omega arith, tt) in
-        let s = standing-opened base 1 (omega arith) base-glass graphics text version keys t start a (all 1 (omega arith)) [] in (
-          calls-in-any-order 1 (omega arith) graphics text version keys t r m ps a (all 1 (omega arith)) [] .lines (sendsTo (1 ∷ []) h) (1 ∷ []) (any-sends (1 ∷ []) h)
+        let s = standing-opened base 1 (omega arith) base-glass graphics text version keys edge t start a (all 1 (omega arith)) [] in (
+          calls-in-any-order 1 (omega arith) graphics text version keys edge t r m ps a (all 1 (omega arith)) [] .lines (sendsTo (1 ∷ []) h) (1 ∷ []) (any-sends (1 ∷ []) h)
               ∙ omega (arith, opened-lines 1 (omega arith)),
           send-apart base base-glass 1 opened (s .lendable .passing .bytes) (sendable base 1 (omega arith) opened s),
         )
@@ -121,7 +134,7 @@ module _ (graphics text version : ℕ) (keys : List ℕ) (t : Typed (opening gra
     pub polled-between : let b = run base opened (sendsTo (rounds 80) (round-panels 80)) in (differing base (screenIn b) (panelBuffer 0 b) ≡ 0) × (linesIn 2 b ≡ 80)
     polled-between =
         let e = any-sends (rounds 80) (round-panels 80) in
-        let promised : (k : ℕ) (there : k < 4) → Promised k start (first ∷ []) opened = λ k there. calls-in-any-order k there graphics text version keys t r m ps a (all k there) [] in
+        let promised : (k : ℕ) (there : k < 4) → Promised k start (first ∷ []) opened = λ k there. calls-in-any-order k there graphics text version keys edge t r m ps a (all k there) [] in
         let counted = round-named 80 in (
           promised 0 (omega arith) .level (sendsTo (rounds 80) (round-panels 80)) (rounds 80) e (omega (arith, opened-lines 0 (omega arith))),
           promised 2 (omega arith) .lines (sendsTo (rounds 80) (round-panels 80)) (rounds 80) e ∙ omega (arith, opened-lines 2 (omega arith)),
@@ -133,20 +146,20 @@ abbrev ones : List ℕ
 ones = replicate 1600 255
 
 abbrev fresh : Buffers
-fresh = buffers (zeros 230) (zeros 65536) (replicate 4 ones)
+fresh = buffers (zeros 231) (zeros 65536) (replicate 4 ones)
 
 abbrev open-it : Item base
-open-it = here (opening 4096 8192 1 noKeys) (refl, omega arith)
+open-it = here (opening 4096 8192 1 noKeys 0) (refl, omega arith)
 
-may-open : accepted base (opening 4096 8192 1 noKeys) (lent (zeros 230) (zeros 65536) [])
-may-open = accepted-open (zeros 230) (zeros 65536) (length-zeros 230) (length-zeros 65536)
+may-open : accepted base (opening 4096 8192 1 noKeys 0) (lent (zeros 231) (zeros 65536) [])
+may-open = accepted-open 0 (zeros 231) (zeros 65536) refl (length-zeros 231) (length-zeros 65536)
 
 full : (k : ℕ) → k < 4 → length (getD (replicate 4 ones) k []) ≡ 1600
 full k there = rw (getD-replicate 4 k ones [] there) (length-replicate {A = ℕ} 1600 255)
 
 pub a-list-of-most-lines : linesIn 3 (run base fresh (open-it ∷ here (send 3) (omega arith) ∷ here cls tt ∷ [])) ≡ 159
 a-list-of-most-lines =
-    most-lines 4096 8192 1 noKeys (refl, omega arith) (zeros 230) (zeros 65536) (replicate 4 ones) may-open 3 (omega arith) (full 3 (omega arith)) (omega arith)
+    most-lines 4096 8192 1 noKeys 0 (refl, omega arith) (zeros 231) (zeros 65536) (replicate 4 ones) may-open 3 (omega arith) (full 3 (omega arith)) (omega arith)
 
 pub cleared-screen : screenOf base 4096 (clearMemory noKeys) ≡ zeros 1600
 unfolding window clearMemory withKeys isKey bitAt zeros
@@ -160,10 +173,10 @@ ones-differ = differing-bytes base (zeros 1600) ones refl refl
 pub all-differ : let b = run base fresh (open-it ∷ []) in differing base (screenIn b) (panelBuffer 0 b) ≡ 12800
 unfolding run after lentTo givenBack done answered openState windows
 all-differ =
-    let c = opening 4096 8192 1 noKeys in
-    let w = open-formed base base-glass 4096 8192 1 noKeys refl refl refl (omega arith) in
-    rw (leaves-done base c fresh may-open, decode-encode base (openState base 4096 8192 1 noKeys) base-glass w, cleared-screen) ones-differ
+    let c = opening 4096 8192 1 noKeys 0 in
+    let w = open-formed base base-glass 4096 8192 1 noKeys 0 refl refl refl refl (omega arith) in
+    rw (leaves-done base c fresh may-open, decode-encode base (openState base 4096 8192 1 noKeys 0) base-glass w, cleared-screen) ones-differ
 
 -- .. and after the rounds none
 pub none-differs : let b = run base (run base fresh (open-it ∷ [])) (sendsTo (rounds 80) (round-panels 80)) in differing base (screenIn b) (panelBuffer 0 b) ≡ 0
-none-differs = polled-between 4096 8192 1 noKeys (refl, omega arith) (zeros 230) (zeros 65536) (replicate 4 ones) may-open full .0
+none-differs = polled-between 4096 8192 1 noKeys 0 (refl, omega arith) (zeros 231) (zeros 65536) (replicate 4 ones) may-open full .0
