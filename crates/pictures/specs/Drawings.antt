@@ -6,8 +6,9 @@ use mathlib.Core.List.{List, [], _∷_, map}
 use Prim.Native.Nat.{ℕ, _+_, _≤_}
 use native.Mathlib.Omega.{arith}
 use lib.ListN.{length, replicate, getD-replicate}
-use borrow.Author.Tests.{eq-eqb}
+use borrow.Author.Tests.{eq-eqb, le-leb}
 use Rattle.model.specs.declared.Rect.{Rect}
+use Rattle.model.specs.declared.Edge.{Edge}
 use Rattle.model.specs.Geometry.{base}
 use Rattle.model.specs.Pixels.{PixelWrite, draw, seen}
 use Rattle.model.specs.Rects.{isEmpty, join, cut}
@@ -15,7 +16,8 @@ use Rattle.model.specs.Memory.{screenOf, withScreen}
 use Rattle.model.specs.Record.{Pending, State, nothingPending, panelOf, windows, total, decode, encode, withHead, withPanels, WellFormed}
 use Rattle.model.specs.Marks.{withDirty, updateDirty, joinOwed, owing, owes, marked, Drawing, drawnOn}
 use Rattle.model.specs.Open.{openState}
-use Rattle.model.specs.Calls.{Call, Lent, lent, answered, Lending, with-memory, takes, lengthsFit, ownTests, drawingWith, drawing, done, outcome}
+use Rattle.model.specs.Lines.{edgeOf}
+use Rattle.model.specs.Calls.{Call, Lent, lent, answered, Lending, with-memory, takes, edgeIn, lengthsFit, ownTests, drawingWith, drawing, done, outcome}
 use Rattle.model.specs.Script.Output.{noKeys}
 use Rattle.laws.specs.Rects.{Fits}
 use Rattle.laws.specs.Calls.{AllPass, pass-accepted, Tested, own-decide, outcome-done}
@@ -28,32 +30,36 @@ use Rattle.laws.specs.States.{well-formed, encode-passing}
 use Rattle.laws.specs.Bands.{well-nothing}
 use Rattle.order.specs.Step.{panels-formed, marked-formed, screen-in, screen-long}
 use Rattle.order.specs.Opens.{open-formed}
-use Rattle.pictures.specs.Picture.{screenIn, graphicsIn, Unmarked, withOwed, withMarks, Changed, Leaves, Drew}
+use Rattle.pictures.specs.Picture.{screenIn, graphicsIn, edgeFlag, Unmarked, withOwed, withMarks, Changed, Leaves, Drew}
 use Rattle.pictures.specs.Writes.{pictured, pictured-changed}
 
 -- ---- bytes to start from: a record as it is opened, but with nothing owed, and a memory
 
-abbrev clearState : State
-clearState = withPanels (replicate 4 (nothingPending base)) (openState base 4096 8192 1 noKeys)
+abbrev clearState : ℕ → State
+clearState edge = withPanels (replicate 4 (nothingPending base)) (openState base 4096 8192 1 noKeys edge)
 
-unfoldable pub clearBytes : List ℕ → Lent
-clearBytes m = lent (encode base clearState) m []
+unfoldable pub clearBytes : ℕ → List ℕ → Lent
+clearBytes edge m = lent (encode base (clearState edge)) m []
 
-clear-formed : WellFormed base clearState
+clear-formed : (edge : ℕ) → edge ≤ 1 → WellFormed base (clearState edge)
 unfolding openState nothingPending windows
-clear-formed =
-    panels-formed base _ (open-formed base base-glass 4096 8192 1 noKeys refl refl refl (omega arith)) (replicate 4 (nothingPending base)) refl
+clear-formed edge h =
+    panels-formed base _ (open-formed base base-glass 4096 8192 1 noKeys edge refl refl (le-leb edge 1 h) refl (omega arith)) (replicate 4 (nothingPending base)) refl
     (λ k h. rw (getD-replicate 4 k (nothingPending base) (nothingPending base) h) (well-nothing base))
 
-pub clear-state : (m : List ℕ) → decode base (clearBytes m .rec) ≡ clearState
+pub clear-state : (edge : ℕ) → edge ≤ 1 → (m : List ℕ) → decode base (clearBytes edge m .rec) ≡ clearState edge
 unfolding clearBytes
-clear-state m = decode-encode base clearState base-glass clear-formed
+clear-state edge h m = decode-encode base (clearState edge) base-glass (clear-formed edge h)
 
-pub clear-unmarked : (m : List ℕ) → length m ≡ 65536 → Unmarked (clearBytes m)
+pub clear-edge : (edge : ℕ) → edge ≤ 1 → (m : List ℕ) → edgeFlag (clearBytes edge m) ≡ edge
+unfolding openState
+clear-edge edge h m = ap (λ (s : State). s .edge) (clear-state edge h m)
+
+pub clear-unmarked : (edge : ℕ) → edge ≤ 1 → (m : List ℕ) → length m ≡ 65536 → Unmarked (clearBytes edge m)
 unfolding clearBytes openState nothingPending total
-clear-unmarked m n =
-    let p = encode-passing base base-glass clearState clear-formed in
-    let e = clear-state m in
+clear-unmarked edge h m n =
+    let p = encode-passing base base-glass (clearState edge) (clear-formed edge h) in
+    let e = clear-state edge h m in
     record {
       sized = p .sized;
       bytes = p .bytes;
@@ -66,8 +72,8 @@ clear-unmarked m n =
 -- ---- a drawing call
 
 -- what a drawing owes on the screen
-abbrev pub owedBy : Drawing → Rect
-owedBy d = owes 20 80 (d .owed) (seen 20 80 (d .writes))
+abbrev pub owedOnScreen : Drawing → Rect
+owedOnScreen d = owes 20 80 (d .owed) (seen 20 80 (d .writes))
 
 module _ (l : Lent) (u : Unmarked l) where
   abbrev s : State
@@ -139,11 +145,17 @@ module _ (l : Lent) (u : Unmarked l) where
       })
 
   pub drew : (c : Call) (d : Drawing) (ps : List PixelWrite) (dirty owed : Rect) → takes c ≡ with-memory → AllPass (ownTests base c l)
-      → done base c l ≡ answered 0 [] (drawing base d l) → Fits 256 0 256 dirty → d .dirty ≡ dirty → cut 160 0 80 (owedBy d) ≡ owed
+      → done base c l ≡ answered 0 [] (drawing base d l) → Fits 256 0 256 dirty → d .dirty ≡ dirty → cut 160 0 80 (owedOnScreen d) ≡ owed
       → pictured (seen 20 80 (d .writes)) ps ≡ true → Drew l ps dirty owed (outcome base c l)
   unfolding drawingWith drawnOn
   drew c d ps dirty owed t a k f e o p =
       let ws = seen 20 80 (d .writes) in
       let long = screen-long base base-glass (s .head) (formed .head) (l .memory) (u .memory) in
-      leaves c (Changed ps (screenIn l)) (draw 20 ws (screenIn l)) (d .dirty) (owedBy d) dirty owed (done-on c t a ∙ k)
+      leaves c (Changed ps (screenIn l)) (draw 20 ws (screenIn l)) (d .dirty) (owedOnScreen d) dirty owed (done-on c t a ∙ k)
       (length-draw 20 ws (screenIn l) ∙ long) f e o (pictured-changed ws ps (screenIn l) long p)
+
+  -- a drawing by the edge flag n
+  pub drew-by : (n : ℕ) (c : Call) (d : Edge → Drawing) (ps : List PixelWrite) (dirty owed : Rect) → edgeFlag l ≡ n → takes c ≡ with-memory → AllPass (ownTests base c l)
+      → done base c l ≡ answered 0 [] (drawing base (d (edgeIn base l)) l) → Fits 256 0 256 dirty → d (edgeOf n) .dirty ≡ dirty → cut 160 0 80 (owedOnScreen (d (edgeOf n))) ≡ owed
+      → pictured (seen 20 80 (d (edgeOf n) .writes)) ps ≡ true → Drew l ps dirty owed (outcome base c l)
+  drew-by n c d ps dirty owed i t a k = drew c (d (edgeOf n)) ps dirty owed t a (k ∙ ap (λ (j : ℕ). answered 0 [] (drawing base (d (edgeOf j)) l)) i)

@@ -35,13 +35,13 @@ use Rattle.pictures.specs.Drawings.{clearBytes, clear-state, clear-unmar
 
 -- ---- bytes to start from: the pair on the page of a memory
 
-pub one-pair : (lead trail : ℕ) (m : List ℕ) → length m ≡ 65536 → OnePair lead trail (clearBytes (withWindow 8192 (lead ∷ trail ∷ zeros 98) m))
+pub one-pair : (lead trail : ℕ) (m : List ℕ) → length m ≡ 65536 → OnePair lead trail (clearBytes 0 (withWindow 8192 (lead ∷ trail ∷ zeros 98) m))
 unfolding clearBytes openState zeros
 one-pair lead trail m n =
     let page : List ℕ = lead ∷ trail ∷ zeros 98 in
-    let e = clear-state (withWindow 8192 page m) in
+    let e = clear-state 0 (omega arith) (withWindow 8192 page m) in
     record {
-      unmarked = clear-unmarked (withWindow 8192 page m) (length-withWindow 8192 page m (rw n (omega arith)) ∙ n);
+      unmarked = clear-unmarked 0 (omega arith) (withWindow 8192 page m) (length-withWindow 8192 page m (rw n (omega arith)) ∙ n);
       text = ap (λ (s : State). s .head .screen) e;
       page = ap (λ (s : State). window (s .head .text) 100 (withWindow 8192 page m)) e ∙ window-same 8192 100 page m refl (rw n (omega arith));
     }

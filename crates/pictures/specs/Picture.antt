@@ -55,9 +55,12 @@ graphicsIn l = decode base (l .rec) .head .graphics
 abbrev pub screenIn : Lent → List ℕ
 screenIn l = screenHeld base l
 
+abbrev pub edgeFlag : Lent → ℕ
+edgeFlag l = decode base (l .rec) .edge
+
 -- the record passes STATE, its dirty and each panel's owed are empty, and the memory has its length
 pub record Unmarked (l : Lent) : Type 0 where
-  pub sized : length (l .rec) ≡ 230
+  pub sized : length (l .rec) ≡ 231
   pub bytes : Bytes (l .rec)
   pub passes : valid base (l .rec) ≡ true
   pub memory : length (l .memory) ≡ 65536
@@ -92,6 +95,10 @@ Drew l ps d o out = Leaves l (Changed ps (screenIn l)) d o out
 
 abbrev pub Picture : Call → List PixelWrite → Rect → Rect → Type 0
 Picture c ps d o = (l : Lent) → Unmarked l → Drew l ps d o (outcome base c l)
+
+-- so with one edge flag
+abbrev pub EdgePicture : ℕ → Call → List PixelWrite → Rect → Rect → Type 0
+EdgePicture edge c ps d o = (l : Lent) → Unmarked l → edgeFlag l ≡ edge → Drew l ps d o (outcome base c l)
 
 -- ---- pages
 

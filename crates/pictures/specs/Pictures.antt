@@ -13,6 +13,7 @@ use Rattle.model.specs.Geometry.{base}
 use Rattle.model.specs.Memory.{zeros, window, withWindow}
 use Rattle.model.specs.Bytes.{twoBytes, fourBytes}
 use Rattle.model.specs.Pixels.{bit}
+use Rattle.model.specs.Rects.{none}
 use Rattle.model.specs.Refusals.{SOURCE}
 use Rattle.model.specs.Ellipses.{part, parts, steps}
 use Rattle.model.specs.Codes.{inRow, indexIn, emojiIndex, gbIndex, extraOffset}
@@ -21,13 +22,13 @@ use Rattle.model.specs.Calls.{drawPoint, drawLine, drawBox, drawCircle, paintBi
 use Rattle.model.specs.Characters.{bytesOf}
 use Rattle.model.specs.Script.Output.{scriptText}
 use Rattle.laws.specs.Glyphs.{empty-row}
-use Rattle.pictures.specs.Picture.{screenIn, rect, sets, clears, inverts, Unmarked, Drew, Picture, OnePair, character, over, digitsOf, corner, cornerGlyph, Shows}
-use Rattle.pictures.specs.Drawings.{clearBytes, clear-unmarked}
-use Rattle.pictures.specs.Shapes.{point-off, point-unknown, line-clamped, line-sloped, box-past-bottom, box-row, circle-parts, circle-steps, circle-two, circle-one, bitmap-clipped, source-refused, source-accepted}
+use Rattle.pictures.specs.Picture.{screenIn, edgeFlag, rect, sets, clears, inverts, Unmarked, Drew, Picture, EdgePicture, OnePair, character, over, digitsOf, corner, cornerGlyph, Shows}
+use Rattle.pictures.specs.Drawings.{clearBytes, clear-unmarked, clear-edge}
+use Rattle.pictures.specs.Shapes.{point-off, point-unknown, line-clamped, line-beyond, line-cut, line-sloped, box-past-bottom, box-row, box-cut, outline-cut, disc-clamped, disc-beyond, circle-parts, circle-steps, circle-two, circle-one, bitmap-clipped, source-refused, source-accepted}
 use Rattle.pictures.specs.Scripts.{point-send, send-point}
 use Rattle.pictures.specs.EmptyRows.{one-pair, unassigned-codes, unassigned-glyph, codes-shown, glyph-shown}
 
--- draw modes, the paint mode Copy, the fill flag, emoji versions
+-- draw modes, the paint mode Copy, the fill flag, the edge flag, emoji versions
 abbrev or : ℕ
 or = 1
 
@@ -46,6 +47,12 @@ outlined = 0
 abbrev filled : ℕ
 filled = 1
 
+abbrev clamp : ℕ
+clamp = 0
+
+abbrev stop : ℕ
+stop = 1
+
 abbrev V1 : ℕ
 V1 = 0
 
@@ -62,19 +69,20 @@ gbOf code = gbIndex (code / 256) (code % 256)
 
 pub record KnownPictures : Type 0 where
   -- Each starts with dirty and owed empty: there are such lent bytes
-  pub start : (m : List ℕ) → length m ≡ 65536 → Unmarked (clearBytes m)
+  pub start : (edge : ℕ) → edge ≤ 1 → (m : List ℕ) → length m ≡ 65536 → Unmarked (clearBytes edge m)
+  pub start-edge : (edge : ℕ) → edge ≤ 1 → (m : List ℕ) → edgeFlag (clearBytes edge m) ≡ edge
   -- Point (160, 0): nothing
   pub point-off : (mode : ℕ) → mode ≤ 3 → (l : Lent) → Unmarked l → outcome base (drawPoint 160 0 mode) l ≡ answered 0 [] l
   -- Point (5, 5) Unknown: only dirty and owed 5, 5, 6, 6
   pub point-unknown : Picture (drawPoint 5 5 unknown) [] (rect 5 5 6 6) (rect 5 5 6 6)
   -- Line (200, 90)-(210, 90) Or: pixel (159, 79); dirty 200, 90, 211, 91; owed 159, 79, 160, 80
-  pub line-clamped : Picture (drawLine 200 90 210 90 or) (sets 159 79 ∷ []) (rect 200 90 211 91) (rect 159 79 160 80)
+  pub line-clamped : EdgePicture clamp (drawLine 200 90 210 90 or) (sets 159 79 ∷ []) (rect 200 90 211 91) (rect 159 79 160 80)
   -- Line (0, 0)-(2, 1) Or: (0, 0), (1, 0), (2, 1)
   pub line-sloped : Picture (drawLine 0 0 2 1 or) (sets 0 0 ∷ sets 1 0 ∷ sets 2 1 ∷ []) (rect 0 0 3 2) (rect 0 0 3 2)
   -- Filled box (0, 78)-(7, 80) Xor: row 79 unchanged; row 78 is inverted from 0 to 7
-  pub box-row-79 : (l : Lent) → Unmarked l → (x : ℕ) → x < 160
+  pub box-row-79 : (l : Lent) → Unmarked l → edgeFlag l ≡ clamp → (x : ℕ) → x < 160
       → bit 20 (screenIn (outcome base (drawBox 0 78 7 80 filled xor) l .left)) x 79 ≡ bit 20 (screenIn l) x 79
-  pub box-row-78 : Picture (drawBox 0 78 7 80 filled xor)
+  pub box-row-78 : EdgePicture clamp (drawBox 0 78 7 80 filled xor)
       (inverts 0 78 ∷ inverts 1 78 ∷ inverts 2 78 ∷ inverts 3 78 ∷ inverts 4 78 ∷ inverts 5 78 ∷ inverts 6 78 ∷ inverts 7 78 ∷ [])
       (rect 0 78 8 81) (rect 0 78 8 80)
   -- Circle (10, 10) radius 2: parts (2, 0), (2, 1), (2, 2), (0, 2) in 4 steps; Or sets their corners
@@ -99,13 +107,29 @@ pub record KnownPictures : Type 0 where
   pub point-send : scriptText (bytesOf "(point (3 0) or)\n(send)\n") ≡ bytesOf "(done)\n(sent 0 0 160)\n(end 0 79)\n"
   -- Send first gives `(sent 0 0 160)`, `(done)`, `(end 1 80)`
   pub send-point : scriptText (bytesOf "(send)\n(point (3 0) or)\n") ≡ bytesOf "(sent 0 0 160)\n(done)\n(end 1 80)\n"
+  -- Our own, of lines that stop at the edge. Line (200, 90)-(210, 90): nothing drawn, nothing owed; dirty 200, 90, 211, 91
+  pub line-beyond : EdgePicture stop (drawLine 200 90 210 90 or) [] (rect 200 90 211 91) none
+  -- Line (150, 79)-(170, 79): ten pixels
+  pub line-cut : EdgePicture stop (drawLine 150 79 170 79 or)
+      (sets 150 79 ∷ sets 151 79 ∷ sets 152 79 ∷ sets 153 79 ∷ sets 154 79 ∷ sets 155 79 ∷ sets 156 79 ∷ sets 157 79 ∷ sets 158 79 ∷ sets 159 79 ∷ [])
+      (rect 150 79 171 80) (rect 150 79 160 80)
+  -- Filled box (0, 78)-(7, 80) Xor: rows 78 and 79 inverted once
+  pub box-cut : EdgePicture stop (drawBox 0 78 7 80 filled xor)
+      (inverts 0 78 ∷ inverts 1 78 ∷ inverts 2 78 ∷ inverts 3 78 ∷ inverts 4 78 ∷ inverts 5 78 ∷ inverts 6 78 ∷ inverts 7 78
+      ∷ inverts 0 79 ∷ inverts 1 79 ∷ inverts 2 79 ∷ inverts 3 79 ∷ inverts 4 79 ∷ inverts 5 79 ∷ inverts 6 79 ∷ inverts 7 79 ∷ [])
+      (rect 0 78 8 81) (rect 0 78 8 80)
+  -- Outlined box (158, 78)-(161, 81): its upper side and its left one, cut
+  pub outline-cut : EdgePicture stop (drawBox 158 78 161 81 outlined or) (sets 158 78 ∷ sets 159 78 ∷ sets 158 79 ∷ []) (rect 158 78 162 82) (rect 158 78 160 80)
+  -- Filled circle (162, 10) radius 2: nothing drawn, nothing owed; clamped, it is five pixels of the last column
+  pub disc-beyond : EdgePicture stop (drawCircle 162 10 2 filled or) [] (rect 160 8 165 80) none
+  pub disc-clamped : EdgePicture clamp (drawCircle 162 10 2 filled or) (sets 159 8 ∷ sets 159 9 ∷ sets 159 10 ∷ sets 159 11 ∷ sets 159 12 ∷ []) (rect 160 8 165 80) (rect 159 8 160 80)
   -- Our own, of GB 2312-80 and its empty rows, 10-15. Row 16 follows row 9 in the font
   pub codes-GB : (gbOf 0xA1A1 ≡ At 0) × (gbOf 0xA9FE ≡ At 845) × (gbOf 0xB0A1 ≡ At 846) × (gbOf 0xF7FE ≡ At 7613)
   -- A pair of leads 170-175 goes on to the extra list, then to hexadecimal codes
   pub empty-rows : (version : ℕ) (list : List ℕ) (lead trail : ℕ) → 170 ≤ lead → lead ≤ 175
       → glyphOf version list lead trail ≡ glyphOr (extraOffset list (256 * lead + trail)) Extra Hexadecimal
   -- A pair alone on a page in Text mode: there are such lent bytes
-  pub one-pair : (lead trail : ℕ) (m : List ℕ) → length m ≡ 65536 → OnePair lead trail (clearBytes (withWindow 8192 (lead ∷ trail ∷ zeros 98) m))
+  pub one-pair : (lead trail : ℕ) (m : List ℕ) → length m ≡ 65536 → OnePair lead trail (clearBytes clamp (withWindow 8192 (lead ∷ trail ∷ zeros 98) m))
   -- 0xAFC4 with no extra list: `A` over `F` in its left column, `C` over `4` in its right one
   pub unassigned-codes : (f : Fonts) (l : Lent) → OnePair 0xAF 0xC4 l → f .extraList ≡ [] → 568 ≤ length (f .ascii8)
       → Shows f l (corner (over (character (f .ascii8) (code "A")) (character (f .ascii8) (code "F"))) (over (character (f .ascii8) (code "C")) (character (f .ascii8) (code "4"))))
@@ -123,6 +147,7 @@ pub known-pictures : KnownPictures
 unfolding emojiIndex indexIn inRow gbIndex
 known-pictures = record {
   start = clear-unmarked;
+  start-edge = clear-edge;
   point-off = point-off;
   point-unknown = point-unknown;
   line-clamped = line-clamped;
@@ -140,6 +165,12 @@ known-pictures = record {
   codes-V2 = (refl, refl);
   point-send = point-send;
   send-point = send-point;
+  line-beyond = line-beyond;
+  line-cut = line-cut;
+  box-cut = box-cut;
+  outline-cut = outline-cut;
+  disc-beyond = disc-beyond;
+  disc-clamped = disc-clamped;
   codes-GB = (refl, refl, refl, refl);
   empty-rows = empty-row;
   one-pair = one-pair;

@@ -41,7 +41,7 @@ use Rattle.pictures.specs.Picture.{rect}
 
 -- as the program opens it
 unfoldable openedState : State
-openedState = openState base 4096 8192 1 noKeys
+openedState = openState base 4096 8192 1 noKeys 0
 
 -- with the point's mark
 unfoldable pointed : State → State
@@ -52,7 +52,7 @@ sentOf s = withPanel 0 (sendPending (panelOf base s 0)) s
 
 opened-formed : WellFormed base openedState
 unfolding openedState windows
-opened-formed = open-formed base base-glass 4096 8192 1 noKeys refl refl refl (omega arith)
+opened-formed = open-formed base base-glass 4096 8192 1 noKeys 0 refl refl refl refl (omega arith)
 
 pointed-formed : (s : State) → WellFormed base s → WellFormed base (pointed s)
 unfolding pointed
