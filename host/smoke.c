@@ -1,6 +1,6 @@
 /* A small host: links libcaption.a and shows that the calls of the header are there and do what it says. main goes through a life of the screen: open, a point and
-   its line on a panel, every refusal of every call, a bitmap by both painters, a flush, sends until idle, four panels at paces of their own, text, cursor and modes.
-   Prints what it sees and ends with "ok"; the exit status is 0 only then. What it tries is a sample: the proofs and compare/ cover the rest. */
+   its line on a panel, every refusal of every call, a bitmap by both painters, a flush, sends until idle, four panels at paces of their own, text, cursor and modes,
+   lines that stop at the edge. Prints what it sees and ends with "ok"; the exit status is 0 only then. What it tries is a sample: the proofs and compare/ cover the rest. */
 #include "caption.h"
 #include <stdio.h>
 #include <string.h>
@@ -33,7 +33,7 @@ static void refused(const char *what, uint32_t code, uint32_t n) {
 #define R rec, sizeof rec
 #define M memory, sizeof memory
 #define P(k) panels[k], sizeof panels[k]
-#define OPEN(r, m, g, t, v) caption_open(r, m, g, t, v, 0, 0, 0, 0, 0, 0, 0, 0)
+#define OPEN(r, m, g, t, v, e) caption_open(r, m, g, t, v, 0, 0, 0, 0, 0, 0, 0, 0, e)
 #define LESS_RECORD rec, sizeof rec - 1
 #define LESS_MEMORY memory, sizeof memory - 1
 #define NOTHING (const uint8_t *)"", 0
@@ -53,12 +53,14 @@ static void bitmap_refusals(painter *paint) {
    short memory), so that the order is seen. */
 static void refusals(void) {
     keep();
-    refused("open 1", OPEN(LESS_RECORD, M, 4096, 8192, 1), 1);
-    refused("open 1", OPEN(R, LESS_MEMORY, 4096, 8192, 1), 1);
-    refused("open 3", OPEN(R, M, 63936, 8192, 1), 3);
-    refused("open 3", OPEN(R, M, 4096, 65436, 1), 3);
-    refused("open 3", OPEN(R, M, 4096, 5695, 1), 3);
-    refused("open 4", OPEN(R, M, 4096, 8192, 2), 4);
+    refused("open 1", OPEN(LESS_RECORD, M, 4096, 8192, 1, 0), 1);
+    refused("open 1", OPEN(R, LESS_MEMORY, 4096, 8192, 1, 0), 1);
+    refused("open 3", OPEN(R, M, 63936, 8192, 1, 0), 3);
+    refused("open 3", OPEN(R, M, 4096, 65436, 1, 0), 3);
+    refused("open 3", OPEN(R, M, 4096, 5695, 1, 0), 3);
+    refused("open 4", OPEN(R, M, 4096, 8192, 2, 0), 4);
+    refused("open 4", OPEN(R, M, 4096, 8192, 1, 2), 4);
+    refused("open 3", OPEN(R, M, 63936, 8192, 1, 2), 3);
     refused("reset 1", caption_reset(LESS_RECORD, M), 1);
     refused("point 1", caption_draw_point(R, LESS_MEMORY, 0, 0, 9), 1);
     refused("point 4", caption_draw_point(R, M, 0, 0, 4), 4);
@@ -228,11 +230,33 @@ static void four_panels(void) {
     expect("and the others in the end", sent[2] == 80 && sent[3] == 80 && level(2) && level(3));
 }
 
+/* Opened with the edge flag 1: a line beyond the glass marks dirty, draws and owes nothing; one that runs off it draws its ten pixels; a box inverts rows 78 and 79
+   once. With the flag 0 the first is a pixel in the corner. A reset keeps the flag, and a record with flag 2 is refused. */
+static void edges(void) {
+    expect("open, lines stop", OPEN(R, M, 4096, 8192, 1, CAPTION_EDGE_STOP) == 0);
+    while (caption_send(R, M, P(0), 0).sent)
+        ;
+    expect("line beyond", caption_draw_line(R, M, 200, 90, 210, 90, CAPTION_DRAW_OR) == 0 && memory[5695] == 0);
+    caption_area dirty = caption_take_dirty_area(R);
+    expect("its dirty", dirty.left == 200 && dirty.top == 90 && dirty.right == 211 && dirty.bottom == 91);
+    expect("nothing owed", !caption_send(R, M, P(0), 0).sent && level(0));
+    expect("line cut", caption_draw_line(R, M, 150, 79, 170, 79, CAPTION_DRAW_OR) == 0 && memory[5694] == 3 && memory[5695] == 0xff);
+    caption_sent s = caption_send(R, M, P(0), 0);
+    expect("its line", s.sent == 1 && s.line == 79 && s.left == 150 && s.right == 160 && level(0));
+    expect("box cut", caption_draw_box(R, M, 0, 78, 7, 80, 1, CAPTION_DRAW_XOR) == 0 && memory[5656] == 0xff && memory[5676] == 0xff);
+    expect("reset keeps the flag", caption_reset(R, M) == 0 && rec[CAPTION_AT_EDGE] == CAPTION_EDGE_STOP);
+    rec[CAPTION_AT_EDGE] = 2;
+    keep();
+    refused("edge flag 2", caption_draw_point(R, M, 0, 0, 0), 2);
+    expect("open, lines are clamped", OPEN(R, M, 4096, 8192, 1, CAPTION_EDGE_CLAMP) == 0);
+    expect("line clamped", caption_draw_line(R, M, 200, 90, 210, 90, CAPTION_DRAW_OR) == 0 && memory[5695] == 1);
+}
+
 int main(void) {
     /* open takes buffers with any bytes */
     memset(rec, 0xa5, sizeof rec);
     memset(memory, 0xa5, sizeof memory);
-    expect("open", OPEN(R, M, 4096, 8192, 1) == 0);
+    expect("open", OPEN(R, M, 4096, 8192, 1, 0) == 0);
     expect("point", caption_draw_point(R, M, 3, 0, 1) == 0);
     caption_area dirty = caption_take_dirty_area(R);
     expect("dirty", dirty.left == 3 && dirty.top == 0 && dirty.right == 4 && dirty.bottom == 1);
@@ -263,6 +287,7 @@ int main(void) {
     expect("newline", caption_newline(R, M) == 0 && caption_get_row(R).value == 1 && caption_get_column(R).value == 0);
     expect("screen mode", caption_set_screen_mode(R, M, CAPTION_SCREEN_GRAPH) == 0 && memory[8192] == 0 && rec[CAPTION_AT_SCREEN_MODE] == 1);
     expect("cls", caption_cls(R, M) == 0 && rec[CAPTION_AT_SCREEN_MODE] == 1);
+    edges();
     printf(failures ? "%d failures\n" : "ok\n", failures);
     return failures != 0;
 }

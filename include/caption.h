@@ -8,7 +8,7 @@
 
    A whole caption:
 
-       caption_open(record, sizeof record, memory, sizeof memory, 4096, 8192, CAPTION_V2, 0, 0, 0, 0, 0, 0, 0, 0);
+       caption_open(record, sizeof record, memory, sizeof memory, 4096, 8192, CAPTION_V2, 0, 0, 0, 0, 0, 0, 0, 0, CAPTION_EDGE_CLAMP);
        caption_print(record, sizeof record, memory, sizeof memory, text, text_len);
        caption_flush(record, sizeof record, memory, sizeof memory, .. the fonts ..);
        while ((s = caption_send(record, sizeof record, memory, sizeof memory, panel, sizeof panel, 0)).sent)
@@ -21,8 +21,10 @@
    Pixels. x runs 0-159 to the right, y 0-79 downwards. Pixel (x, y) is bit 0x80 >> x % 8 of byte 20 * y + x / 8, on screen and panel alike.
    Rectangles. left and top are the first column and line, right and bottom the ones after the last: they are not included. Four zeros are the empty rectangle.
    Marks. A call that draws marks a rectangle: it is joined to the dirty area, which caption_take_dirty_area hands out, and to what each panel is owed, which the
-   sends to it work off. Dirty has the coordinates as they were told, up to 256, also where a clamped line was drawn at the screen's edge instead. What is owed is brought
-   to that edge and cut to the screen: it holds every pixel that has changed.
+   sends to it work off. Dirty has the coordinates as they were told, up to 256, also where a clamped line was drawn at the screen's edge instead, and where a line
+   that stops there drew nothing. What is owed is brought to that edge where lines are clamped, and cut to the screen: it holds every pixel that has changed.
+   Edges. What a horizontal line does beyond column 159 or row 79 is told to caption_open, once for the screen: with CAPTION_EDGE_CLAMP it is drawn in that column or
+   row instead, as in the Rust original; with CAPTION_EDGE_STOP its pixels there are left out. Boxes and filled ellipses are made of such lines.
 
    Nobody but these calls may write the record, the panels, or the screen's bytes in memory. Of a screen byte that the host writes itself nothing is owed, and the
    sends are idle while the panels differ; caption_write_byte is the way to set one. No send reads the other bytes of memory: the host may put bitmaps there.
@@ -44,7 +46,7 @@
 #include <stddef.h>
 #include <stdint.h>
 
-#define CAPTION_RECORD_BYTES 230
+#define CAPTION_RECORD_BYTES 231
 #define CAPTION_MEMORY_BYTES 65536
 #define CAPTION_PANEL_BYTES 1600
 #define CAPTION_PANELS 4
@@ -52,10 +54,10 @@
 /* the code that every call answers. 8 is kept for an ellipse of over 512 steps, and never given: none within the radii takes so many */
 enum caption_code {
     CAPTION_DONE = 0,
-    CAPTION_LENT = 1,   /* the record has not 230 bytes, memory not 65,536, the panel not 1,600, or the extra list no multiple of 6 */
+    CAPTION_LENT = 1,   /* the record has not 231 bytes, memory not 65,536, the panel not 1,600, or the extra list no multiple of 6 */
     CAPTION_STATE = 2,  /* a field of the record is out of its range (enum caption_at) */
     CAPTION_WINDOW = 3, /* graphics base above 63,935, text base above 65,435, or the 1,600 and the 100 bytes from there share a byte */
-    CAPTION_VALUE = 4,  /* a row above 4, a column above 19, or a mode, version or fill flag that is not listed */
+    CAPTION_VALUE = 4,  /* a row above 4, a column above 19, or a mode, version, fill or edge flag that is not listed */
     CAPTION_SOURCE = 5, /* a bitmap of nonzero size whose source runs past the end of memory */
     CAPTION_RADIUS = 6, /* a radius above 127 */
     CAPTION_GLYPH = 7,  /* a flush would paint a byte past the end of its font */
@@ -63,6 +65,7 @@ enum caption_code {
 };
 
 enum caption_version { CAPTION_V1 = 0, CAPTION_V2 = 1 };
+enum caption_edge { CAPTION_EDGE_CLAMP = 0, CAPTION_EDGE_STOP = 1 };
 enum caption_draw_mode { CAPTION_DRAW_CLEAR = 0, CAPTION_DRAW_OR = 1, CAPTION_DRAW_XOR = 2, CAPTION_DRAW_UNKNOWN = 3 };
 enum caption_paint_mode { CAPTION_PAINT_COPY = 0, CAPTION_PAINT_OR = 1, CAPTION_PAINT_NOT = 2, CAPTION_PAINT_AND = 3, CAPTION_PAINT_XOR = 4 };
 /* Text: a flush clears the screen first, and the cursor can be shown. Graph: the picture stays under a flush and scrolls with the text */
@@ -89,7 +92,8 @@ enum caption_at {
     CAPTION_AT_FLAGS = 70,        /* a byte for each text cell, row by row: 1 where it is printed inverse, else 0 */
     CAPTION_AT_PANEL_1 = 170,     /* panels 1, 2 and 3, twenty bytes each: owed, in hand and lines sent, as panel 0 has them */
     CAPTION_AT_PANEL_2 = 190,
-    CAPTION_AT_PANEL_3 = 210
+    CAPTION_AT_PANEL_3 = 210,
+    CAPTION_AT_EDGE = 230         /* enum caption_edge; caption_open alone changes it */
 };
 
 typedef struct {
@@ -112,13 +116,13 @@ extern "C" {
 /* ---- begin */
 
 /* Clears memory: 0, but 0x40 in the last byte and 0xff at each key address (keys0 to keys7 are the words of CAPTION_AT_KEYS). Writes the whole record: row and
-   column 0, Text, Normal, no cursor, dirty empty, flags 0; to each panel the whole screen owed, nothing in hand, no line sent. The record is not read before, and
-   the panels may hold anything. Refusals: LENT, WINDOW, VALUE (version). */
+   column 0, Text, Normal, no cursor, dirty empty, flags 0, the edge flag as it is told; to each panel the whole screen owed, nothing in hand, no line sent. The
+   record is not read before, and the panels may hold anything. Refusals: LENT, WINDOW, VALUE (version, edge). */
 uint32_t caption_open(uint8_t *record, size_t record_len, uint8_t *memory, size_t memory_len, uint16_t graphics_base, uint16_t text_base,
                       uint8_t version, uint32_t keys0, uint32_t keys1, uint32_t keys2, uint32_t keys3, uint32_t keys4, uint32_t keys5,
-                      uint32_t keys6, uint32_t keys7);
+                      uint32_t keys6, uint32_t keys7, uint8_t edge);
 
-/* The same with the bases, version and keys of the record; keeps each panel's rectangle in hand and lines sent. Refusals: LENT, STATE. */
+/* The same with the bases, version, keys and edge flag of the record; keeps each panel's rectangle in hand and lines sent. Refusals: LENT, STATE. */
 uint32_t caption_reset(uint8_t *record, size_t record_len, uint8_t *memory, size_t memory_len);
 
 /* ---- drawing: Clear, Or and Xor clear, set and invert a pixel; Unknown leaves it, but inverts wherever a horizontal line is drawn */
@@ -127,14 +131,15 @@ uint32_t caption_reset(uint8_t *record, size_t record_len, uint8_t *memory, size
 uint32_t caption_draw_point(uint8_t *record, size_t record_len, uint8_t *memory, size_t memory_len, uint8_t x, uint8_t y, uint8_t mode);
 
 /* Both ends included; marks their rectangle. A horizontal line (y1 = y2, so equal ends too) is clamped, not clipped: x beyond 159 counts as 159, y beyond 79 as
-   79. Of any other line the pixels off the screen are left out, and in Unknown it does nothing and marks nothing. A sloped line goes from its left end by 8-bit
+   79; with CAPTION_EDGE_STOP its pixels off the screen are left out, and it owes only what of its mark lies on the screen. Of any other line the pixels off the
+   screen are left out, and in Unknown it does nothing and marks nothing. A sloped line goes from its left end by 8-bit
    error sums, as in the Rust original: where the ends lie over 256 apart, across and down together, the sums wrap and it may miss its right end.
    Refusals: LENT, STATE, VALUE (mode). */
 uint32_t caption_draw_line(uint8_t *record, size_t record_len, uint8_t *memory, size_t memory_len, uint8_t x1, uint8_t y1, uint8_t x2,
                            uint8_t y2, uint8_t mode);
 
-/* Any two opposite corners, included; marks their rectangle. fill 1: every row is a horizontal line, so each beyond 79 falls on row 79 again. fill 0: top and
-   bottom, then left and right unless Unknown; in Xor a pixel that is drawn twice, as each corner, is as it was. Refusals: LENT, STATE, VALUE (fill, mode). */
+/* Any two opposite corners, included; marks their rectangle. fill 1: every row is a horizontal line, so each beyond 79 falls on row 79 again, or with
+   CAPTION_EDGE_STOP on none. fill 0: top and bottom, which are horizontal lines, then left and right, which are not, unless Unknown; in Xor a pixel that is drawn twice, as each corner, is as it was. Refusals: LENT, STATE, VALUE (fill, mode). */
 uint32_t caption_draw_box(uint8_t *record, size_t record_len, uint8_t *memory, size_t memory_len, uint8_t x1, uint8_t y1, uint8_t x2,
                           uint8_t y2, uint8_t fill, uint8_t mode);
 

@@ -18,6 +18,7 @@ use model::Canvas;
 use model::DrawMode;
 use model::Edge;
 use model::Marks;
+use pixels::point::on_screen;
 use pixels::point::plot_mask;
 use pixels::point::point_mask;
 use pixels::raster::RasterOp;
@@ -40,11 +41,9 @@ pub fn is_beyond(canvas: Canvas, edge: Edge, x: u8, y: u8) -> bool
     requires { ⌜ canvas .stride ≤ 32 ⌝ }
     ensures { λ r. ⌜ r ≡ beyond (canvas .stride) (canvas .height) edge x y ⌝ }
 {
-    let stride = canvas.stride;
-    let height = canvas.height;
     match edge {
         Edge::Clamp => false,
-        Edge::Stop => !(((x as usize) < 8 * stride) & ((y as usize) < height)),
+        Edge::Stop => !on_screen(canvas, x as usize, y as usize),
     }
 }
 

@@ -168,8 +168,14 @@ module _ (st h left top right bottom : ℕ) (d : DrawMode) (across : left ≤ ri
   unfolding boxOf filledBox outline horizontal
   same-writes true = rows-cut st h left right top (suc (bottom - top)) (suc (bottom - top)) d beside across (omega arith) (omega arith) (λ k. omega arith)
   same-writes false =
-      cc (seen-append st h (stopped left right top d) _, seen-append st h (stopped left right bottom d) _, seen-append st h (clamped st h left right top d) _,
-      seen-append st h (clamped st h left right bottom d) _, stopped-clamped st h left right top d beside (omega arith) across, stopped-clamped st h left right bottom d beside above across)
+      cc (
+        seen-append st h (stopped left right top d) _,
+        seen-append st h (stopped left right bottom d) _,
+        seen-append st h (clamped st h left right top d) _,
+        seen-append st h (clamped st h left right bottom d) _,
+        stopped-clamped st h left right top d beside (omega arith) across,
+        stopped-clamped st h left right bottom d beside above across,
+      )
 
   pub box-either : (fill : Bool) (s : List ℕ) → drawnOn st h (boxOf st h Stop left top right bottom fill d) s ≡ drawnOn st h (boxOf st h Clamp left top right bottom fill d) s
   unfolding boxOf drawnOn owedBy lowered

@@ -167,7 +167,6 @@ pub beyond-on : (st h x y : ℕ) → beyond st h Stop x y ≡ false → (x < 8 *
 unfolding beyond
 beyond-on st h x y e = on-true st h x y (not-false (onScreen st h x y) e)
 
-
 -- ---- a column
 
 pub column-within : (r : Rect) (x y n : ℕ) (d : DrawMode) → r .left ≤ x → x < r .right → r .top ≤ y → y + n ≤ r .bottom → within r (pixelColumn x y n d) ≡ true

@@ -189,7 +189,7 @@ pub long-written : (s o o′ : List ℕ) (b : ℕ) → longest < length s → Wr
 long-written s o o′ b h w = wrote-as (sym (long-is s h)) w
 
 -- the lines of a script that is not too long, run from what the opening leaves
-module _ (s r m p r′ m′ p′ : List ℕ) (k : ℕ) (o : List ℕ) (h : length s ≤ longest) (z : BuffersSized r m p) (c : p′ ≡ zeros (length p)) (e : answered k [] (lent r′ m′ []) ≡ outcome base (opening graphicsBase textBase 1 noKeys) (lent r m [])) where
+module _ (s r m p r′ m′ p′ : List ℕ) (k : ℕ) (o : List ℕ) (h : length s ≤ longest) (z : BuffersSized r m p) (c : p′ ≡ zeros (length p)) (e : answered k [] (lent r′ m′ []) ≡ outcome base (opening graphicsBase textBase 1 noKeys 0) (lent r m [])) where
   opens : lent r′ m′ p′ ≡ opened
   unfolding opened outcome refusals refusal ruled done answered windows
   opens =

@@ -1,4 +1,5 @@
-use Rattle.model.specs.Pixels.{onScreen}
+use mathlib.Core.Path.{refl, ap}
+use mathlib.Core.Bool.{not}
 use Rattle.laws.specs.Lines.{beyond}
 use borrow.Author.Needs.{needs}
 use Rattle.draw_lines.proofs.line.is_beyond.Statement.{statement}
@@ -10,16 +11,16 @@ enum-told c = search needs
 enum-told-2 : tie.Need-enum-told-2
 enum-told-2 c = search needs
 
-mul-result : tie.Need-mul-result
-mul-result c = search needs
+on-screen-requires : tie.Need-on-screen-requires
+on-screen-requires c κs = search needs
 
 returns : tie.Need-returns
 unfolding beyond
-returns c = cc
+returns c = rw (c .enum-told .given .1) refl
 
 returns-2 : tie.Need-returns-2
-unfolding beyond onScreen
-returns-2 c = cc
+unfolding beyond
+returns-2 c = rw (c .before .enum-told2 .given .1) (ap not (c .on-screen .ensures))
 
 pub is-beyond-spec : {M : Type 1} → statement M
-is-beyond-spec = tie.close (tie.spec enum-told enum-told-2 mul-result returns returns-2)
+is-beyond-spec = tie.close (tie.spec enum-told enum-told-2 on-screen-requires returns returns-2)
