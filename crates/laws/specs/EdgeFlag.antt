@@ -1,6 +1,6 @@
 -- The edge flag 0: each definition that asks for the flag is with it what it would be without one, and the record is one without the flag, with the flag behind it.
 use mathlib.Core.Path.{_≡_, refl}
-use mathlib.Core.Bool.{Bool, true, cond, _&&_}
+use mathlib.Core.Bool.{Bool, cond, _&&_}
 use mathlib.Core.List.{List, [], _∷_, _++_, append-assoc}
 use Prim.Native.Nat.{ℕ, zero, suc, _-_, _*_}
 use lib.Dec.{leb, ltb}
@@ -9,7 +9,6 @@ use Rattle.model.specs.declared.Edge.the-variants.{Clamp}
 use Rattle.model.specs.declared.DrawMode.{DrawMode}
 use Rattle.model.specs.Geometry.{Geometry}
 use Rattle.model.specs.Rects.{lowered}
-use Rattle.model.specs.Marks.{Drawing}
 use Rattle.model.specs.Record.{RecordPart, head, panel, keys, flags, edge, written, all, panelsFrom, at, partIn, edgeFits, State, encode, partBytes, partFits, valid}
 use Rattle.model.specs.Lines.{isUnknown, spanRect, clamped, edgeOf, horizontal, owedBy, horizontalLine, vertical}
 use Rattle.model.specs.Boxes.{boxRows, filledBox, outline, boxOf}

@@ -18,7 +18,7 @@ use Rattle.model.specs.Memory.{window}
 use Rattle.model.specs.Rects.{fits}
 use Rattle.model.specs.Bytes.{rectAt, rectsAt}
 use Rattle.model.specs.Flags.{flagBytes, flagsFit}
-use Rattle.model.specs.Record.{panelsFrom, panel, flags, edge, recordBytes, edgeFits, edgeByte, decode, all, at, partIn, headOf, pendingOf, windows, headFits, bandsFit, pendingFits, partFits, valid}
+use Rattle.model.specs.Record.{panelsFrom, panel, flags, edge, recordBytes, edgeFits, decode, all, at, partIn, headOf, pendingOf, windows, headFits, bandsFit, pendingFits, partFits, valid}
 use Rattle.model.specs.Lines.{edgeOf}
 use Rattle.laws.specs.Record.{has-flags, has-edge, part-in, length-part}
 use Rattle.laws.specs.Windows.{head-part, pending-part, edge-part}

@@ -1,7 +1,7 @@
 -- Boxes: `draw_box`.
 use mathlib.Core.Bool.{Bool, cond}
 use mathlib.Core.List.{List, [], _++_}
-use Prim.Native.Nat.{ℕ, zero, suc, _-_, _*_, min, max}
+use Prim.Native.Nat.{ℕ, zero, suc, _-_, min, max}
 use Rattle.model.specs.declared.Edge.{Edge}
 use Rattle.model.specs.declared.DrawMode.{DrawMode}
 use Rattle.model.specs.Pixels.{PixelWrite}

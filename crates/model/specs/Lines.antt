@@ -49,7 +49,7 @@ unfoldable pub clamped : ℕ → ℕ → ℕ → ℕ → ℕ → DrawMode → Li
 clamped st h left right y d =
     pixelRun (clamp left (8 * st)) (clamp y h) (suc (clamp right (8 * st) - clamp left (8 * st))) d
 
--- left to right of line y as they are: off the screen it draws nothing
+-- left to right of line y as they are told: off the screen it draws nothing, so it stops at the edge
 unfoldable pub stopped : ℕ → ℕ → ℕ → DrawMode → List PixelWrite
 stopped left right y d = pixelRun left y (suc (right - left)) d
 
