@@ -6,7 +6,7 @@ use calls::{Answer, Buffers, Call, FontsLent, Painting};
 use driver::random::Random;
 use reference::{Reference, Told};
 
-const OPEN: Call = Call::Open { graphics_base: 4096, text_base: 8192, version: 1, keys: [0; 8] };
+const OPEN: Call = Call::Open { graphics_base: 4096, text_base: 8192, version: 1, keys: [0; 8], edge: 0 };
 
 /// Reference and model after the same open.
 struct Both {
@@ -48,8 +48,8 @@ fn the_reference_panics_and_the_port_finishes() {
 
 #[test]
 fn the_port_refuses() {
-    let text_on_screen = Call::Open { graphics_base: 0, text_base: 1599, version: 0, keys: [0; 8] };
-    let too_high = Call::Open { graphics_base: 63_936, text_base: 0, version: 0, keys: [0; 8] };
+    let text_on_screen = Call::Open { graphics_base: 0, text_base: 1599, version: 0, keys: [0; 8], edge: 0 };
+    let too_high = Call::Open { graphics_base: 63_936, text_base: 0, version: 0, keys: [0; 8], edge: 0 };
     let no_fonts = FontsLent { ascii8: 0, ascii16: 0, gb: 0, emoji: 0, extra_list: vec![], extra_font: 0 };
     let one_byte_list = FontsLent::whole(vec![0]);
     let unlisted_mode = Painting { address: 0, x: 0, y: 0, width: 0, height: 0, mode: 5 };

@@ -33,6 +33,7 @@ fn call_of(stored: &[u8]) -> Call {
             text_base: word(stored, 3),
             version: e,
             keys: [signed(stored, 6) as u32, 0, 0, 0, 0, 0, 0, signed(stored, 10) as u32],
+            edge: stored[14],
         },
         "reset" => Call::Reset,
         "draw_point" => Call::DrawPoint { x: a, y: b, mode: c },

@@ -88,7 +88,8 @@ fn any_bytes(random: &mut Random) -> Buffers {
     let mut buffers = Buffers::zero();
     random.fill(&mut buffers.memory);
     buffers.panels.iter_mut().for_each(|panel| random.fill(panel));
-    buffers.record = random.valid_record();
+    let edge = random.below(2) as u8;
+    buffers.record = random.valid_record(edge);
     if random.one_in(4) {
         let place = random.below(buffers.record.len());
         buffers.record[place] = random.byte();

@@ -3,6 +3,7 @@
 mod area;
 mod demand3;
 mod difference;
+mod edge;
 pub mod panics;
 mod reckon;
 mod sends;
@@ -21,6 +22,9 @@ use reference::{Reference, Told};
 /// Memory is compared whole after this many calls, and at the end of a list; between that the
 /// screen, the text and the poked byte are.
 const WHOLE_EVERY: u32 = 64;
+
+/// The edge flag that the reference doesn't know.
+const STOP: u8 = 1;
 
 pub struct Judge {
     reference: Reference,
@@ -79,7 +83,7 @@ impl Judge {
         for (place, step) in list.steps.iter().enumerate() {
             self.step(step, tally).map_err(|difference| difference.at(place))?;
         }
-        tally.lists += 1;
+        tally.lists[list.edge() as usize] += 1;
         tally.fewer_panels += (list.start.panels < PANELS) as u64;
         self.end(list, tally).map_err(|difference| difference.at(list.steps.len()))
     }
@@ -143,7 +147,8 @@ impl Judge {
         Ok(answer)
     }
 
-    /// An accepted call is held to the reckoning; a send to document 01, others to the reference.
+    /// An accepted call is held to the reckoning; a send to document 01, others to the reference. Two
+    /// numbers are never accepted.
     fn accepted_step(
         &mut self,
         call: &Call,
@@ -151,6 +156,9 @@ impl Judge {
         before: &[u8; RECORD],
         tally: &mut Tally,
     ) -> Judged<()> {
+        if let Call::Open { edge: edge @ 2.., .. } = *call {
+            return Err(Difference::new(format!("an open with edge flag {edge} is accepted")));
+        }
         let Call::Send { number } = *call else {
             self.reckon(call, before)?;
             return self.reference_step(call, answer, before, tally);
@@ -197,12 +205,24 @@ impl Judge {
                 compare_answers("reference", &Answer::done(numbers), "model", answer)?;
             }
         }
-        tally.reference_compared(call, panic_due);
+        if before[EDGE] == STOP && edge::leaves_glass(call) {
+            tally.stopped += 1;
+            self.stop_in_reference();
+        } else {
+            tally.reference_compared(call, panic_due);
+        }
         let mut record = self.reference.record();
         for added in ADDED {
             record[added.clone()].copy_from_slice(&self.own.model.record[added]);
         }
         compare_records("reference", &record, "model", &self.own.model.record)
+    }
+
+    /// The reference clamps what stops in the model. It marks the same, and its pixels are the same but for
+    /// those that lie at the edge: there it goes on from what the model left.
+    fn stop_in_reference(&mut self) {
+        let base = word(&self.own.model.record, GRAPHICS_BASE) as usize;
+        self.reference.load_edge(&self.own.model.memory[base..base + SCREEN]);
     }
 
     /// Where the reference can be asked at all about a refused call, it panics and does nothing.
