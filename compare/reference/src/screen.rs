@@ -200,3 +200,19 @@ fn silence_reference_panics() {
         }));
     });
 }
+
+#[test]
+fn the_edge_is_the_last_line_and_the_last_column() {
+    let mut reference = Reference::default();
+    let base = reference.device.graphics_base();
+    reference.load_edge(&[0xff; SCREEN]);
+    let screen = &reference.memory()[base..base + SCREEN];
+    for (line, bytes) in screen.chunks(LINE).enumerate() {
+        let due: [u8; LINE] = if line == 79 {
+            [0xff; LINE]
+        } else {
+            std::array::from_fn(|byte| if byte == 19 { 1 } else { 0 })
+        };
+        assert_eq!(bytes, due, "{line}");
+    }
+}

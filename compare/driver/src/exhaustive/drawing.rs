@@ -10,13 +10,13 @@ const MODES: [u8; 4] = [0, 1, 2, 3];
 pub fn lists() -> impl Iterator<Item = List> {
     in_turn(shown(points()))
         .chain(in_turn(shown(lines().filter(|line| !is_horizontal(line)))))
-        .chain(with_both(|| shown(lines().filter(is_horizontal))))
-        .chain(with_both(|| shown(boxes())))
+        .chain(with_both(shown(lines().filter(is_horizontal))))
+        .chain(with_both(shown(boxes())))
         .chain(in_turn(shown(ellipses(0))))
-        .chain(with_both(|| shown(ellipses(1))))
+        .chain(with_both(shown(ellipses(1))))
         .chain(in_turn(shown(circles(0))))
-        .chain(with_both(|| shown(circles(1))))
-        .chain(with_both(with_sends))
+        .chain(with_both(shown(circles(1))))
+        .chain(with_both(with_sends()))
 }
 
 /// Each with its own mark.

@@ -8,7 +8,7 @@ use calls::Call;
 const MODES: [u8; 4] = [0, 1, 2, 3];
 
 pub fn lists() -> impl Iterator<Item = List> {
-    with_both(drawings).chain(with_both(from_level)).chain(with_both(flags)).chain(with_both(resets))
+    with_both(drawings().chain(from_level()).chain(flags()).chain(resets()))
 }
 
 /// Each with its own mark.

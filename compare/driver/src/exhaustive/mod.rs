@@ -90,10 +90,9 @@ fn in_turn(lists: impl Iterator<Item = List>) -> impl Iterator<Item = List> {
     lists.zip([0, 1].into_iter().cycle()).map(|(list, edge)| with_edge(list, edge))
 }
 
-/// These lists with one edge flag and then with the other: drawings that know it.
-fn with_both<Lists: Iterator<Item = List>>(lists: impl Fn() -> Lists) -> impl Iterator<Item = List> {
-    let [clamp, stop] = [lists(), lists()];
-    clamp.map(|list| with_edge(list, 0)).chain(stop.map(|list| with_edge(list, 1)))
+/// Each of these lists with one edge flag and then with the other: drawings that know it.
+fn with_both(lists: impl Iterator<Item = List>) -> impl Iterator<Item = List> {
+    lists.flat_map(|list| [0, 1].map(|edge| with_edge(list.clone(), edge)))
 }
 
 /// The list started with this edge flag.
