@@ -1,104 +1,33 @@
 use fonts::made;
 
-/// One exported call with the numbers that it is told.
+/// One exported call with the numbers that it is told. The edge flag that open is told is 0 clamp, 1 stop.
 #[derive(Debug, Clone, PartialEq, Eq)]
 pub enum Call {
-    /// `edge` is the edge flag: 0 clamp, 1 stop.
-    Open {
-        graphics_base: u16,
-        text_base: u16,
-        version: u8,
-        keys: [u32; 8],
-        edge: u8,
-    },
+    Open { graphics_base: u16, text_base: u16, version: u8, keys: [u32; 8], edge: u8 },
     Reset,
-    DrawPoint {
-        x: u8,
-        y: u8,
-        mode: u8,
-    },
-    DrawLine {
-        x1: u8,
-        y1: u8,
-        x2: u8,
-        y2: u8,
-        mode: u8,
-    },
-    DrawBox {
-        x1: u8,
-        y1: u8,
-        x2: u8,
-        y2: u8,
-        fill: u8,
-        mode: u8,
-    },
-    DrawCircle {
-        x: u8,
-        y: u8,
-        r: u8,
-        fill: u8,
-        mode: u8,
-    },
-    DrawEllipse {
-        x: u8,
-        y: u8,
-        rx: u8,
-        ry: u8,
-        fill: u8,
-        mode: u8,
-    },
-    CheckPoint {
-        x: i32,
-        y: i32,
-    },
-    PaintBitmap {
-        address: u16,
-        x: i32,
-        y: i32,
-        width: u8,
-        height: u8,
-        mode: u8,
-    },
-    Print {
-        text: Vec<u8>,
-    },
+    DrawPoint { x: u8, y: u8, mode: u8 },
+    DrawLine { x1: u8, y1: u8, x2: u8, y2: u8, mode: u8 },
+    DrawBox { x1: u8, y1: u8, x2: u8, y2: u8, fill: u8, mode: u8 },
+    DrawCircle { x: u8, y: u8, r: u8, fill: u8, mode: u8 },
+    DrawEllipse { x: u8, y: u8, rx: u8, ry: u8, fill: u8, mode: u8 },
+    CheckPoint { x: i32, y: i32 },
+    PaintBitmap { address: u16, x: i32, y: i32, width: u8, height: u8, mode: u8 },
+    Print { text: Vec<u8> },
     Newline,
     Cls,
-    Flush {
-        fonts: FontsLent,
-    },
+    Flush { fonts: FontsLent },
     GetRow,
     GetColumn,
-    SetRow {
-        row: u8,
-    },
-    SetColumn {
-        column: u8,
-    },
-    SetScreenMode {
-        mode: u8,
-    },
-    SetPrintMode {
-        mode: u8,
-    },
+    SetRow { row: u8 },
+    SetColumn { column: u8 },
+    SetScreenMode { mode: u8 },
+    SetPrintMode { mode: u8 },
     BlinkCursor,
     ClearCursor,
-    WriteByte {
-        address: u16,
-        byte: u8,
-    },
+    WriteByte { address: u16, byte: u8 },
     TakeDirtyArea,
-    Send {
-        number: u8,
-    },
-    PaintBitmapByBytes {
-        address: u16,
-        x: i32,
-        y: i32,
-        width: u8,
-        height: u8,
-        mode: u8,
-    },
+    Send { number: u8 },
+    PaintBitmapByBytes { address: u16, x: i32, y: i32, width: u8, height: u8, mode: u8 },
 }
 
 /// What flush is lent: so many first bytes of each stand-in font, and the extra list.

@@ -144,9 +144,7 @@ impl Tally {
             self.refused_between
         );
     }
-}
 
-impl Tally {
     fn edge_in_words(&self, core: bool) -> String {
         let Self { lists: [clamp, stop], stopped, .. } = self;
         let who = if core { "core held to the model at the edge" } else { "by the model alone at the edge" };

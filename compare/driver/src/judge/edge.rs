@@ -1,11 +1,29 @@
-//! Which drawings the edge flag makes a difference to.
+//! Drawings with edge flag 1 that leave the glass: the reference knows flag 0 alone.
 
+use super::Judge;
 use super::area::{LAST_X, LAST_Y};
 use calls::Call;
+use calls::layout::{EDGE, GRAPHICS_BASE, SCREEN, word};
+
+const STOP: u8 = 1;
+
+impl Judge {
+    /// The reference clamps what stops in the model. It marks the same, and its pixels are the same but for
+    /// those that lie at the edge: there it goes on from what the model left.
+    pub(super) fn stop_in_reference(&mut self) {
+        let base = word(&self.own.model.record, GRAPHICS_BASE) as usize;
+        self.reference.load_edge(&self.own.model.memory[base..base + SCREEN]);
+    }
+}
+
+/// Whether this accepted call, made with the record as it stood before, is such a drawing.
+pub fn stops(call: &Call, before: &[u8]) -> bool {
+    before[EDGE] == STOP && leaves_glass(call)
+}
 
 /// Whether a horizontal line of this accepted call lies beyond the glass, or a part of one: there one that is
 /// clamped draws in the last column or the last line, and one that stops nothing.
-pub fn leaves_glass(call: &Call) -> bool {
+fn leaves_glass(call: &Call) -> bool {
     match *call {
         Call::DrawLine { x1, y1, x2, y2, .. } => y1 == y2 && beyond(x1.max(x2).into(), y1.into()),
         Call::DrawBox { x1, y1, x2, y2, .. } => beyond(x1.max(x2).into(), y1.max(y2).into()),

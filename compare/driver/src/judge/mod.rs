@@ -23,9 +23,6 @@ use reference::{Reference, Told};
 /// screen, the text and the poked byte are.
 const WHOLE_EVERY: u32 = 64;
 
-/// The edge flag that the reference doesn't know.
-const STOP: u8 = 1;
-
 pub struct Judge {
     reference: Reference,
     own: Sides,
@@ -147,8 +144,8 @@ impl Judge {
         Ok(answer)
     }
 
-    /// An accepted call is held to the reckoning; a send to document 01, others to the reference. Two
-    /// numbers are never accepted.
+    /// An accepted call is held to the reckoning; a send to document 01, others to the reference. No open
+    /// with another edge flag and no send to another panel is accepted.
     fn accepted_step(
         &mut self,
         call: &Call,
@@ -205,7 +202,7 @@ impl Judge {
                 compare_answers("reference", &Answer::done(numbers), "model", answer)?;
             }
         }
-        if before[EDGE] == STOP && edge::leaves_glass(call) {
+        if edge::stops(call, before) {
             tally.stopped += 1;
             self.stop_in_reference();
         } else {
@@ -216,13 +213,6 @@ impl Judge {
             record[added.clone()].copy_from_slice(&self.own.model.record[added]);
         }
         compare_records("reference", &record, "model", &self.own.model.record)
-    }
-
-    /// The reference clamps what stops in the model. It marks the same, and its pixels are the same but for
-    /// those that lie at the edge: there it goes on from what the model left.
-    fn stop_in_reference(&mut self) {
-        let base = word(&self.own.model.record, GRAPHICS_BASE) as usize;
-        self.reference.load_edge(&self.own.model.memory[base..base + SCREEN]);
     }
 
     /// Where the reference can be asked at all about a refused call, it panics and does nothing.
