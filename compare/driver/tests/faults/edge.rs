@@ -2,7 +2,7 @@
 //! beyond the glass.
 
 use super::edge_flag::{CLAMP, STOP, with_flag};
-use super::{again, assert_short, found_among};
+use super::{again, assert_short, found_among, spoiled};
 use calls::layout::*;
 use calls::{Answer, Call, Lent};
 use driver::core_side::Answering;
@@ -242,6 +242,37 @@ fn one_pixel_too_few_or_too_many() {
 fn a_row_below_the_glass_drawn_on_the_last_one() {
     assert_found(|call, lent| Some(answer(call, lent, (Kind::Filled, Fault::DrawsBelow))), 2);
     assert_found(|call, lent| Some(answer(call, lent, (Kind::Outline, Fault::DrawsBelow))), 2);
+}
+
+/// One that wraps marks and owes the whole screen with either flag.
+#[test]
+fn a_disc_that_wraps_and_marks_nothing_with_flag_1() {
+    fn answer(call: &Call, lent: Lent, place: usize) -> Answer {
+        let wraps = matches!(*call, Call::DrawEllipse { x, rx, ry: 1.., fill: 1, .. } if rx > x);
+        let before = lent.record.to_vec();
+        spoiled(call, lent, |answer, lent| {
+            if wraps && answer.accepted() && before[EDGE] == STOP {
+                lent.record[place..place + 8].copy_from_slice(&before[place..place + 8]);
+            }
+        })
+    }
+    assert_both_found!(answer(DIRTY), 2);
+    assert_both_found!(answer(owed(2)), 2);
+}
+
+/// It is a box in the reference, and the same with either flag.
+#[test]
+fn a_cursor_that_knows_the_flag() {
+    fn answer(call: &Call, lent: Lent) -> Answer {
+        let memory = lent.memory.to_vec();
+        spoiled(call, lent, |answer, lent| {
+            if *call == Call::BlinkCursor && answer.accepted() && lent.record[EDGE] == STOP {
+                lent.memory.copy_from_slice(&memory);
+            }
+        })
+    }
+    super::assert_found(|call, lent| Some(answer(call, lent)), 3);
+    super::assert_model_found(answer, 3);
 }
 
 #[test]
