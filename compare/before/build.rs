@@ -2,6 +2,7 @@
 //! that of today, and copies core's source to call it by the new names.
 
 use calls::Call;
+use calls::layout::RECORD;
 use std::path::{Path, PathBuf};
 use std::process::Command;
 use std::{env, fs};
@@ -10,13 +11,15 @@ const PREFIX: &str = "before_";
 
 fn main() {
     let library = library();
+    let record = record_length();
     let out = PathBuf::from(env::var("OUT_DIR").unwrap());
     let symbols = defined_symbols(&library);
     write_renamed(&library, &symbols, &out);
     println!("cargo:rustc-link-search=native={}", out.display());
     println!("cargo:rustc-link-lib=static:-bundle=caption_before");
-    say_calls(&symbols, &out);
+    say_calls(&symbols, record, &out);
     copy_source(&out);
+    fs::write(out.join("modules.rs"), format!("mod library;\nconst RECORD: usize = {record};\n")).unwrap();
 }
 
 /// That of the folder which CAPTION_BEFORE names.
@@ -29,6 +32,16 @@ fn library() -> PathBuf {
     println!("cargo:rerun-if-changed={}", library.display());
     assert!(library.exists(), "CAPTION_BEFORE: there is no {}: {advice}", library.display());
     library
+}
+
+/// The bytes of its record: CAPTION_BEFORE_RECORD, or as many as today.
+fn record_length() -> usize {
+    println!("cargo:rerun-if-env-changed=CAPTION_BEFORE_RECORD");
+    let Ok(text) = env::var("CAPTION_BEFORE_RECORD") else { return RECORD };
+    let length = text.parse().ok().filter(|length| (1..=RECORD).contains(length));
+    length.unwrap_or_else(|| {
+        panic!("CAPTION_BEFORE_RECORD is {text:?}: it is the length of the library's record, 1 to {RECORD}")
+    })
 }
 
 /// The symbols that other objects see.
@@ -60,12 +73,15 @@ fn run(command: &mut Command) -> String {
     printed
 }
 
-/// The calls that this library has, as core's source asks for them.
-fn say_calls(symbols: &[String], out: &Path) {
+/// The calls that this library has, as core's source asks for them. With another record it is told other
+/// things at open, so that open is left out.
+fn say_calls(symbols: &[String], record: usize, out: &Path) {
     let names = Call::NAMES.map(|name| format!("{name:?}")).join(", ");
     println!("cargo:rustc-check-cfg=cfg(has, values({names}))");
     let mut calls = String::new();
-    for name in Call::NAMES.iter().filter(|name| symbols.contains(&format!("caption_{name}"))) {
+    let has =
+        |name: &str| symbols.contains(&format!("caption_{name}")) && (name != "open" || record == RECORD);
+    for name in Call::NAMES.iter().filter(|name| has(name)) {
         println!("cargo:rustc-cfg=has=\"{name}\"");
         calls += &format!("{name}\n");
     }
@@ -78,7 +94,6 @@ fn copy_source(out: &Path) {
         fs::read_to_string(path).unwrap()
     });
     fs::create_dir_all(out.join("library")).unwrap();
-    fs::write(out.join("modules.rs"), "mod library;\n").unwrap();
     fs::write(out.join("library/mod.rs"), answer).unwrap();
     fs::write(out.join("library/ffi.rs"), with_new_names(&ffi)).unwrap();
 }

@@ -3,4 +3,13 @@
 
 include!(concat!(env!("OUT_DIR"), "/modules.rs"));
 
-pub use library::{answer, has};
+pub use library::has;
+
+use calls::{Answer, Call, Lent};
+
+/// Give the library a call; of the record it is lent as many bytes as its own has.
+pub fn answer(call: &Call, lent: Lent) -> Option<Answer> {
+    let Lent { record, memory, panel } = lent;
+    let length = record.len().min(RECORD);
+    library::answer(call, Lent { record: &mut record[..length], memory, panel })
+}

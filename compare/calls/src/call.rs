@@ -1,9 +1,9 @@
 use fonts::made;
 
-/// One exported call with the numbers that it is told.
+/// One exported call with the numbers that it is told. The edge flag that open is told is 0 clamp, 1 stop.
 #[derive(Debug, Clone, PartialEq, Eq)]
 pub enum Call {
-    Open { graphics_base: u16, text_base: u16, version: u8, keys: [u32; 8] },
+    Open { graphics_base: u16, text_base: u16, version: u8, keys: [u32; 8], edge: u8 },
     Reset,
     DrawPoint { x: u8, y: u8, mode: u8 },
     DrawLine { x1: u8, y1: u8, x2: u8, y2: u8, mode: u8 },

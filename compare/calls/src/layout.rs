@@ -2,7 +2,7 @@
 
 use std::ops::Range;
 
-pub const RECORD: usize = 230;
+pub const RECORD: usize = 231;
 pub const MEMORY: usize = 65_536;
 /// Up to four panels, each with a buffer of so many bytes.
 pub const PANELS: usize = 4;
@@ -40,9 +40,13 @@ const PANEL_0: usize = 18;
 /// Bytes of a part: two rectangles of eight, a count of four.
 pub const PART: usize = 20;
 
-/// The bytes that the reference has fields for, and those that it hasn't: the panels' parts.
+/// The edge flag: 0 clamp, 1 stop.
+pub const EDGE: usize = FLAGS_END + 3 * PART;
+
+/// The bytes that the reference has fields for, and those that it hasn't: the panels' parts and the edge
+/// flag.
 pub const IN_REFERENCE: [Range<usize>; 2] = [0..PANEL_0, KEYS..FLAGS_END];
-pub const ADDED: [Range<usize>; 2] = [PANEL_0..KEYS, FLAGS_END..RECORD];
+pub const ADDED: [Range<usize>; 3] = [PANEL_0..KEYS, FLAGS_END..EDGE, EDGE..RECORD];
 
 /// The part of a panel, and where its fields begin.
 pub const fn part(panel: usize) -> Range<usize> {
@@ -88,6 +92,7 @@ pub fn field(place: usize) -> String {
         DIRTY..PANEL_0 => "dirty",
         KEYS..FLAGS => "key addresses",
         FLAGS..FLAGS_END => "inverse flags",
+        EDGE => "edge flag",
         _ => "past the record",
     };
     field.to_string()
@@ -114,9 +119,9 @@ pub fn four(bytes: &[u8], place: usize) -> [u16; 4] {
 #[test]
 fn the_parts_of_the_record_follow_each_other() {
     let [first, second] = IN_REFERENCE;
-    let [panel0, others] = ADDED;
-    let in_order = [first, panel0, second, others];
-    assert_eq!(in_order.iter().map(|range| range.end).collect::<Vec<_>>(), [18, 38, 170, RECORD]);
+    let [panel0, others, edge] = ADDED;
+    let in_order = [first, panel0, second, others, edge];
+    assert_eq!(in_order.iter().map(|range| range.end).collect::<Vec<_>>(), [18, 38, 170, 230, RECORD]);
     assert!(in_order.windows(2).all(|two| two[0].end == two[1].start));
     assert_eq!([0, 1, 2, 3].map(part), [18..38, 170..190, 190..210, 210..230]);
 }

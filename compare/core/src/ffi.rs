@@ -35,6 +35,7 @@ unsafe extern "C" {
         record: Out, record_len: usize, memory: Out, memory_len: usize,
         graphics_base: u16, text_base: u16, version: u8,
         keys0: u32, keys1: u32, keys2: u32, keys3: u32, keys4: u32, keys5: u32, keys6: u32, keys7: u32,
+        edge: u8,
     ) -> u32;
     pub fn caption_reset(record: Out, record_len: usize, memory: Out, memory_len: usize) -> u32;
     pub fn caption_draw_point(

@@ -19,10 +19,10 @@ pub fn answer(call: &Call, lent: Lent) -> Option<Answer> {
     // them as `&mut`, and texts and fonts lie elsewhere.
     Some(unsafe { match *call {
         #[cfg(has = "open")]
-        Call::Open { graphics_base, text_base, version, keys: [k0, k1, k2, k3, k4, k5, k6, k7] } => code(
+        Call::Open { graphics_base, text_base, version, keys: [k0, k1, k2, k3, k4, k5, k6, k7], edge } => code(
             ffi::caption_open(
                 record, record_len, memory, memory_len,
-                graphics_base, text_base, version, k0, k1, k2, k3, k4, k5, k6, k7,
+                graphics_base, text_base, version, k0, k1, k2, k3, k4, k5, k6, k7, edge,
             ),
         ),
         #[cfg(has = "reset")]

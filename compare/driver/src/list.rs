@@ -1,7 +1,7 @@
 //! A list of calls: where it starts, and each call with what it is lent.
 
 use crate::random::Random;
-use calls::layout::{MEMORY, PANEL, PANELS, RECORD, field};
+use calls::layout::{EDGE, MEMORY, PANEL, PANELS, RECORD, field};
 use calls::{Buffers, Call};
 use std::fmt;
 
@@ -49,6 +49,17 @@ pub struct Other {
     pub memory_len: usize,
     /// Of every panel.
     pub panel_len: usize,
+}
+
+impl List {
+    /// The edge flag that it starts under: that of its record, or the one that its first open is told.
+    pub fn edge(&self) -> u8 {
+        match (&self.start.record, self.steps.first().map(|step| &step.call)) {
+            (Some(record), _) => record[EDGE],
+            (None, Some(Call::Open { edge, .. })) => *edge,
+            (None, _) => 0,
+        }
+    }
 }
 
 impl From<Call> for Step {

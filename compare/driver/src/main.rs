@@ -16,7 +16,8 @@ driver replay-make FOLDER
     write the replay's stdin and stdout into FOLDER
 Seeds are 0 to 4294967295 (default 1). Exit status: 0 nothing differs, 1 something does, or 10000000
 calls or more had fewer than 10000 flushes with a pair in the gap or, with the core, fewer than 100000
-accepted calls of paint_bitmap_by_bytes, 2 bad arguments.";
+accepted calls of paint_bitmap_by_bytes or fewer than two fifths of the lists with edge flag 1, 2 bad
+arguments.";
 
 fn main() -> ExitCode {
     let arguments: Vec<String> = std::env::args().skip(1).collect();

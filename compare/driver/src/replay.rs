@@ -82,7 +82,7 @@ fn replayed_numbers() -> Vec<usize> {
     names.chain(repeat_n("print", MORE_PRINTS)).filter_map(Call::number_of).collect()
 }
 
-/// An open whose key words fit into a stored call.
+/// An open whose key words fit into a stored call, with the edge flag that the reference knows.
 fn open(random: &mut Random, windows: Windows) -> Call {
     let [first, .., last] = random.key_words();
     Call::Open {
@@ -90,6 +90,7 @@ fn open(random: &mut Random, windows: Windows) -> Call {
         text_base: windows.text_base,
         version: random.below(2) as u8,
         keys: [first, 0, 0, 0, 0, 0, 0, last],
+        edge: 0,
     }
 }
 
@@ -116,12 +117,13 @@ fn prints_gap(call: &Call) -> bool {
 fn stored(call: &Call) -> [u8; STORED] {
     let mut bytes = vec![call.number() as u8];
     match *call {
-        Call::Open { graphics_base, text_base, version, keys } => {
+        Call::Open { graphics_base, text_base, version, keys, edge } => {
             bytes.extend(graphics_base.to_le_bytes());
             bytes.extend(text_base.to_le_bytes());
             bytes.push(version);
             bytes.extend(keys[0].to_le_bytes());
             bytes.extend(keys[7].to_le_bytes());
+            bytes.push(edge);
         }
         Call::DrawPoint { x, y, mode } => bytes.extend([x, y, mode]),
         Call::DrawLine { x1, y1, x2, y2, mode } => bytes.extend([x1, y1, x2, y2, mode]),

@@ -51,8 +51,12 @@ impl Run {
         println!("exhaustive lists: {} of {}", turns.exhaustive_done, exhaustive::lists().count());
         println!("{:.0} calls a second", tally.calls() as f64 / progress.seconds());
         println!("{} calls, 0 differences", tally.calls());
-        let gap_flushes = self.has_enough_gap_flushes(tally.gap_flushes.all);
-        self.has_enough_by_bytes(tally.painted_by_bytes()) && gap_flushes
+        let enough = [
+            self.has_enough_gap_flushes(tally.gap_flushes.all),
+            self.has_enough_by_bytes(tally.painted_by_bytes()),
+            self.has_enough_that_stop(tally.lists[1], tally.all_lists()),
+        ];
+        enough == [true; 3]
     }
 
     /// The reference says nothing about pairs in the gap: without flushes of our own that show them
@@ -65,6 +69,12 @@ impl Run {
     fn has_enough_by_bytes(&self, count: u64) -> bool {
         self.core.is_none()
             || self.has_enough("accepted calls of paint_bitmap_by_bytes", count, PAINTED_BY_BYTES)
+    }
+
+    /// What stops at the edge has a definition of its own: two lists in five, at least, have edge flag 1 where
+    /// the core is compared.
+    fn has_enough_that_stop(&self, count: u64, lists: u64) -> bool {
+        self.core.is_none() || self.has_enough("lists with edge flag 1", count, (2 * lists).div_ceil(5))
     }
 
     /// Whether a full run has enough of something.
@@ -162,6 +172,18 @@ mod tests {
         assert!(!enough(FULL, GAP_FLUSHES - 1));
         assert!(enough(FULL, GAP_FLUSHES));
         assert!(enough(FULL - 1, 0));
+    }
+
+    #[test]
+    fn only_a_full_run_with_the_core_needs_lists_that_stop() {
+        let enough = |calls, core, count| {
+            Run { calls, seed: 1, core, exhaustive: true }.has_enough_that_stop(count, 1_001)
+        };
+        let core: Option<Answering> = Some(|_, _| None);
+        assert!(!enough(FULL, core, 400));
+        assert!(enough(FULL, core, 401));
+        assert!(enough(FULL - 1, core, 0));
+        assert!(enough(FULL, None, 0));
     }
 
     #[test]

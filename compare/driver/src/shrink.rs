@@ -86,21 +86,22 @@ fn simpler_starts(start: &Start) -> Vec<Start> {
 /// The fields of the record; the two bases are one.
 fn record_fields() -> Vec<Range<usize>> {
     let mut starts =
-        vec![0, ROW, COLUMN, SCREEN_MODE, PRINT_MODE, CURSOR, VERSION, DIRTY, KEYS, FLAGS, RECORD];
+        vec![0, ROW, COLUMN, SCREEN_MODE, PRINT_MODE, CURSOR, VERSION, DIRTY, KEYS, FLAGS, EDGE, RECORD];
     starts.extend((0..PANELS).flat_map(|panel| [owed(panel), in_hand(panel), lines_sent(panel)]));
     starts.sort();
     starts.windows(2).map(|two| two[0]..two[1]).collect()
 }
 
-/// The first call of an unopened list stays an accepted open: without keys, or `panelrun`'s.
+/// The first call of an unopened list stays an accepted open: with `panelrun`'s windows, or its own without
+/// keys, each with edge flag 0 or its own.
 fn plain_opens(call: &Call) -> Vec<Call> {
-    let plain = Call::Open { graphics_base: 4096, text_base: 8192, version: 1, keys: [0; 8] };
-    let mut opens = vec![plain.clone()];
-    if let Call::Open { graphics_base, text_base, version, .. } = *call {
-        opens.push(Call::Open { graphics_base, text_base, version, keys: [0; 8] });
-    }
-    opens.retain(|open| *call != plain && open != call);
-    opens
+    let Call::Open { graphics_base, text_base, version, edge, .. } = *call else { return vec![] };
+    let opens = [(4096, 8192, 1), (graphics_base, text_base, version)].into_iter().flat_map(
+        |(graphics_base, text_base, version)| {
+            [0, edge].map(|edge| Call::Open { graphics_base, text_base, version, keys: [0; 8], edge })
+        },
+    );
+    opens.filter(|open| open != call).collect()
 }
 
 /// Values that count as smaller.
@@ -172,7 +173,7 @@ macro_rules! smaller_fields {
 
 fn smaller_calls(call: &Call) -> Vec<Call> {
     smaller_fields!(call,
-        Open { graphics_base, text_base, version, keys }
+        Open { graphics_base, text_base, version, keys, edge }
         DrawPoint { x, y, mode }
         DrawLine { x1, y1, x2, y2, mode }
         DrawBox { x1, y1, x2, y2, fill, mode }

@@ -38,7 +38,11 @@ pub struct Tally {
     pub level_sends: [u64; PANELS],
     /// Refused calls between those. What is made after the lists is not counted among the calls.
     pub refused_between: u64,
-    pub lists: u64,
+    /// Drawings with edge flag 1 that leave the glass. Their pixels in the last line and the last column
+    /// are not compared with the reference, which clamps them.
+    pub stopped: u64,
+    /// By the edge flag that they start under.
+    pub lists: [u64; 2],
     /// Of these, such of units with fewer than four panels.
     pub fewer_panels: u64,
 }
@@ -93,6 +97,10 @@ impl Tally {
         Call::number_of("paint_bitmap_by_bytes").map_or(0, |number| self.rows[number].accepted)
     }
 
+    pub fn all_lists(&self) -> u64 {
+        self.lists.iter().sum()
+    }
+
     fn accepted(&self) -> u64 {
         self.rows.iter().map(|row| row.accepted).sum()
     }
@@ -124,16 +132,25 @@ impl Tally {
             .collect();
         println!("refusals: {}", refusals.join(", "));
         println!("{}", self.gap_flushes.in_words(core));
+        println!("{}", self.edge_in_words(core));
         println!("sends: {}", by_panel(&self.sends));
         println!("sends after the lists, until all are idle: {}", by_panel(&self.level_sends));
         println!(
             "{} lists, {} of units with fewer than {PANELS} panels; {} of {} calls accepted; {} refused calls between the sends after the lists",
-            self.lists,
+            self.all_lists(),
             self.fewer_panels,
             self.accepted(),
             self.calls(),
             self.refused_between
         );
+    }
+
+    fn edge_in_words(&self, core: bool) -> String {
+        let Self { lists: [clamp, stop], stopped, .. } = self;
+        let who = if core { "core held to the model at the edge" } else { "by the model alone at the edge" };
+        format!(
+            "lists with edge flag 0: {clamp}, with 1: {stop}; drawings that leave the glass with 1, {who}: {stopped}"
+        )
     }
 }
 

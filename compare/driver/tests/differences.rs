@@ -6,7 +6,7 @@ use calls::{Answer, Buffers, Call, FontsLent, Painting};
 use driver::random::Random;
 use reference::{Reference, Told};
 
-const OPEN: Call = Call::Open { graphics_base: 4096, text_base: 8192, version: 1, keys: [0; 8] };
+const OPEN: Call = Call::Open { graphics_base: 4096, text_base: 8192, version: 1, keys: [0; 8], edge: 0 };
 
 /// Reference and model after the same open.
 struct Both {
@@ -48,8 +48,9 @@ fn the_reference_panics_and_the_port_finishes() {
 
 #[test]
 fn the_port_refuses() {
-    let text_on_screen = Call::Open { graphics_base: 0, text_base: 1599, version: 0, keys: [0; 8] };
-    let too_high = Call::Open { graphics_base: 63_936, text_base: 0, version: 0, keys: [0; 8] };
+    let text_on_screen = Call::Open { graphics_base: 0, text_base: 1599, version: 0, keys: [0; 8], edge: 0 };
+    let too_high = Call::Open { graphics_base: 63_936, text_base: 0, version: 0, keys: [0; 8], edge: 0 };
+    let other_edge = Call::Open { graphics_base: 4096, text_base: 8192, version: 1, keys: [0; 8], edge: 2 };
     let no_fonts = FontsLent { ascii8: 0, ascii16: 0, gb: 0, emoji: 0, extra_list: vec![], extra_font: 0 };
     let one_byte_list = FontsLent::whole(vec![0]);
     let unlisted_mode = Painting { address: 0, x: 0, y: 0, width: 0, height: 0, mode: 5 };
@@ -58,6 +59,7 @@ fn the_port_refuses() {
         (Call::Flush { fonts: one_byte_list }, 1),
         (text_on_screen, 3),
         (too_high, 3),
+        (other_edge, 4),
         (Call::SetRow { row: 5 }, 4),
         (Call::SetColumn { column: 20 }, 4),
         (Call::DrawPoint { x: 0, y: 0, mode: 4 }, 4),
@@ -100,6 +102,37 @@ fn flush_past_the_last_cell() {
     let flush = Call::Flush { fonts: FontsLent::whole(vec![]) };
     assert_eq!(both.call(&flush), (Told::Answer([0; 4]), Answer::done([0; 4])));
     assert_eq!(both.reference.memory(), both.model.memory, "the reference was lent zeros there");
+}
+
+/// The bytes of the screen that differ, each with the pixels that do.
+fn differing(both: &Both) -> Vec<(usize, u8)> {
+    let [reference, model] =
+        [both.reference.memory(), &both.model.memory].map(|memory| &memory[4096..][..SCREEN]);
+    let bytes = reference.iter().zip(model).map(|(a, b)| a ^ b).enumerate();
+    bytes.filter(|(_, pixels)| *pixels != 0).collect()
+}
+
+#[test]
+fn lines_stop_at_the_edge_with_flag_1() {
+    let line = Call::DrawLine { x1: 200, y1: 90, x2: 210, y2: 90, mode: 1 };
+    let bar = Call::DrawBox { x1: 0, y1: 78, x2: 7, y2: 80, fill: 1, mode: 2 };
+    let outline = Call::DrawBox { x1: 150, y1: 5, x2: 170, y2: 9, fill: 0, mode: 2 };
+    let disc = Call::DrawCircle { x: 20, y: 81, r: 1, fill: 1, mode: 1 };
+    for (call, differing_with_1) in [
+        (line, vec![(SCREEN - 1, 0x01)]),
+        (bar, vec![(79 * LINE, 0xff)]),
+        (outline, vec![]),
+        (disc, vec![(79 * LINE + 2, 0x1c)]),
+    ] {
+        for (edge, due) in [(0, vec![]), (1, differing_with_1)] {
+            let mut both = Both::opened();
+            let open = Call::Open { graphics_base: 4096, text_base: 8192, version: 1, keys: [0; 8], edge };
+            both.call(&open);
+            assert_eq!(both.call(&call), (Told::Answer([0; 4]), Answer::done([0; 4])), "{call:?}");
+            assert_eq!(differing(&both), due, "{call:?} with {edge}");
+            assert_eq!(four(&both.reference.record(), DIRTY), four(&both.model.record, DIRTY), "{call:?}");
+        }
+    }
 }
 
 /// Sixteen lines of two bytes.

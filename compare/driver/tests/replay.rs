@@ -1,5 +1,6 @@
 //! The stored list holds all that is needed to replay it: the model reads it back and comes to
-//! the reference's answers and checksums. No text of it holds a pair in the gap.
+//! the reference's answers and checksums. No text of it holds a pair in the gap, and its opens have edge
+//! flag 0.
 
 use calls::layout::IN_REFERENCE;
 use calls::{Buffers, Call, FontsLent, Painting};
@@ -33,6 +34,7 @@ fn call_of(stored: &[u8]) -> Call {
             text_base: word(stored, 3),
             version: e,
             keys: [signed(stored, 6) as u32, 0, 0, 0, 0, 0, 0, signed(stored, 10) as u32],
+            edge: stored[14],
         },
         "reset" => Call::Reset,
         "draw_point" => Call::DrawPoint { x: a, y: b, mode: c },
@@ -98,6 +100,14 @@ fn every_replayed_call_is_in_the_list() {
         let least = if ["open", "reset"].contains(&name) { 10 } else { 100 };
         assert!(count >= least, "{name}: {count}");
     }
+}
+
+/// The reference knows no other.
+#[test]
+fn every_open_has_edge_flag_0() {
+    let replay = replay::make();
+    let opens: Vec<&[u8]> = replay.stdin.chunks(16).filter(|stored| stored[0] == 0).collect();
+    assert!(opens.len() >= 10 && opens.iter().all(|open| open[14..] == [0, 0]), "{opens:?}");
 }
 
 #[test]

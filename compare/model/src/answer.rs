@@ -24,8 +24,8 @@ fn make(call: &Call, lent: Lent) -> Numbers {
     if !lengths_right(call, &lent) {
         return Err(Refusal::Lent);
     }
-    if let Call::Open { graphics_base, text_base, version, keys } = *call {
-        return open(lent, graphics_base as usize, text_base as usize, version, keys);
+    if let Call::Open { .. } = call {
+        return open(call, lent);
     }
     let mut record = Record::read(lent.record).ok_or(Refusal::State)?;
     let numbers = act(call, &mut record, lent.memory, lent.panel)?;
@@ -50,20 +50,27 @@ fn lengths_right(call: &Call, lent: &Lent) -> bool {
     }
 }
 
-fn open(lent: Lent, graphics_base: usize, text_base: usize, version: u8, keys: [u32; 8]) -> Numbers {
+fn open(call: &Call, lent: Lent) -> Numbers {
+    let Call::Open { graphics_base, text_base, version, keys, edge } = *call else {
+        unreachable!("not an open");
+    };
+    let (graphics_base, text_base) = (graphics_base as usize, text_base as usize);
     if !windows_fit(graphics_base, text_base) {
         return Err(Refusal::Window);
     }
     let version = modes::version(version).ok_or(Refusal::Value)?;
-    let record = Record::fresh(graphics_base, text_base, version, keys);
+    let edge = modes::edge(edge).ok_or(Refusal::Value)?;
+    let record = Record::fresh(graphics_base, text_base, version, keys, edge);
     clear_memory(&record, lent.memory);
     record.write(lent.record);
     Ok(NOTHING)
 }
 
-/// Reset keeps bases, version, keys, and of each panel the rectangle in hand and lines sent.
+/// Reset keeps bases, version, keys, the edge flag, and of each panel the rectangle in hand and lines
+/// sent.
 fn reset(record: &mut Record, memory: &mut [u8]) {
-    let mut fresh = Record::fresh(record.graphics_base, record.text_base, record.version, record.keys);
+    let Record { graphics_base, text_base, version, keys, edge, .. } = *record;
+    let mut fresh = Record::fresh(graphics_base, text_base, version, keys, edge);
     for (pending, before) in fresh.panels.iter_mut().zip(&record.panels) {
         pending.in_hand = before.in_hand;
         pending.lines_sent = before.lines_sent;

@@ -1,9 +1,10 @@
 //! The screen part of memory, one pixel at a time, and what a drawing on it marks and owes.
 
+use crate::modes::Edge;
 use crate::rect::{Rect, WHOLE_SCREEN};
 use calls::layout::LINE;
 
-/// What a drawing adds to dirty, and whether its part of owed is lowered first.
+/// What a drawing adds to dirty, and whether its part of owed is lowered first where lines are clamped.
 #[derive(Debug, Clone, Copy)]
 pub struct Mark {
     pub rect: Rect,
@@ -19,20 +20,22 @@ impl Mark {
         Self { rect, lowers: true }
     }
 
-    fn owes(&self) -> Option<Rect> {
-        if self.lowers { self.rect.lowered().clipped() } else { self.rect.clipped() }
+    fn owes(&self, edge: Edge) -> Option<Rect> {
+        if self.lowers && edge == Edge::Clamp { self.rect.lowered().clipped() } else { self.rect.clipped() }
     }
 }
 
 pub struct Canvas<'a> {
     screen: &'a mut [u8],
+    /// What horizontal lines do beyond it.
+    pub edge: Edge,
     /// The smallest rectangle around all pixels written so far.
     written: Option<Rect>,
 }
 
 impl<'a> Canvas<'a> {
-    pub fn new(screen: &'a mut [u8]) -> Self {
-        Self { screen, written: None }
+    pub fn new(screen: &'a mut [u8], edge: Edge) -> Self {
+        Self { screen, edge, written: None }
     }
 
     /// Write the pixel (x, y) of the screen: `becomes` is told the bit that stands there.
@@ -45,7 +48,7 @@ impl<'a> Canvas<'a> {
     /// What a drawing with this mark owes. The last clause of Marks: a pixel written outside of
     /// that makes it owe the whole screen.
     pub fn owes(&self, mark: Option<Mark>) -> Option<Rect> {
-        let owes = mark.and_then(|mark| mark.owes());
+        let owes = mark.and_then(|mark| mark.owes(self.edge));
         match (self.written, owes) {
             (None, _) => owes,
             (Some(written), Some(rect)) if rect.contains(&written) => owes,

@@ -1,7 +1,7 @@
-//! Document 01's section "Points and lines".
+//! Document 01's section "Points and lines", and the lines of change request 5 that stop at the edge.
 
 use crate::canvas::{Canvas, Mark};
-use crate::modes::DrawMode;
+use crate::modes::{DrawMode, Edge};
 use crate::rect::Rect;
 use calls::layout::{HEIGHT, WIDTH};
 use std::mem::swap;
@@ -28,11 +28,26 @@ pub fn point(canvas: &mut Canvas, x: usize, y: usize, mode: DrawMode) -> Option<
     on_screen(x, y).then(|| Mark::plain(Rect::pixel(x, y)))
 }
 
-/// Clamps x to 159 and y to 79; Unknown inverts.
+/// The pixels left to right of line y, as the edge flag says; Unknown inverts.
 pub fn horizontal(canvas: &mut Canvas, left: usize, right: usize, y: usize, mode: DrawMode) {
     let mode = if mode == DrawMode::Unknown { DrawMode::Xor } else { mode };
+    match canvas.edge {
+        Edge::Clamp => clamped(canvas, left, right, y, mode),
+        Edge::Stop => stopped(canvas, left, right, y, mode),
+    }
+}
+
+/// Clamps x to 159 and y to 79.
+fn clamped(canvas: &mut Canvas, left: usize, right: usize, y: usize, mode: DrawMode) {
     for x in left.min(WIDTH - 1)..=right.min(WIDTH - 1) {
         dot(canvas, x, y.min(HEIGHT - 1), mode);
+    }
+}
+
+/// Those of the pixels that are on the screen, each where it is.
+fn stopped(canvas: &mut Canvas, left: usize, right: usize, y: usize, mode: DrawMode) {
+    for x in left..=right {
+        dot(canvas, x, y, mode);
     }
 }
 

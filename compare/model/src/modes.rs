@@ -45,6 +45,13 @@ pub enum Version {
     V2,
 }
 
+/// What a horizontal line does with what lies beyond the glass.
+#[derive(Debug, Clone, Copy, PartialEq, Eq)]
+pub enum Edge {
+    Clamp,
+    Stop,
+}
+
 fn listed<T: Copy>(list: &[T], number: u8) -> Option<T> {
     list.get(number as usize).copied()
 }
@@ -77,4 +84,8 @@ pub fn cursor(number: u8) -> Option<Cursor> {
 
 pub fn version(number: u8) -> Option<Version> {
     listed(&[Version::V1, Version::V2], number)
+}
+
+pub fn edge(number: u8) -> Option<Edge> {
+    listed(&[Edge::Clamp, Edge::Stop], number)
 }

@@ -1,7 +1,7 @@
 //! The record taken apart and put together, and the tests STATE and WINDOW.
 
 use crate::canvas::{Canvas, Mark};
-use crate::modes::{self, Cursor, PrintMode, ScreenMode, Version};
+use crate::modes::{self, Cursor, Edge, PrintMode, ScreenMode, Version};
 use crate::pending::Pending;
 use crate::rect::{Rect, WHOLE_SCREEN, join};
 use calls::layout::*;
@@ -20,6 +20,7 @@ pub struct Record {
     pub panels: [Pending; PANELS],
     pub keys: [u32; 8],
     pub flags: [bool; CELLS],
+    pub edge: Edge,
 }
 
 /// How far dirty reaches at most, either way.
@@ -34,7 +35,13 @@ pub fn windows_fit(graphics_base: usize, text_base: usize) -> bool {
 
 impl Record {
     /// What `open` and `reset` share: everything as at the start, the whole screen owed to every panel.
-    pub fn fresh(graphics_base: usize, text_base: usize, version: Version, keys: [u32; 8]) -> Self {
+    pub fn fresh(
+        graphics_base: usize,
+        text_base: usize,
+        version: Version,
+        keys: [u32; 8],
+        edge: Edge,
+    ) -> Self {
         Self {
             graphics_base,
             text_base,
@@ -48,10 +55,11 @@ impl Record {
             panels: [Pending { owed: Some(WHOLE_SCREEN), in_hand: None, lines_sent: 0 }; PANELS],
             keys,
             flags: [false; CELLS],
+            edge,
         }
     }
 
-    /// The record of 230 bytes, if STATE lets it pass.
+    /// The record of 231 bytes, if STATE lets it pass.
     pub fn read(bytes: &[u8]) -> Option<Self> {
         let graphics_base = word(bytes, GRAPHICS_BASE) as usize;
         let text_base = word(bytes, TEXT_BASE) as usize;
@@ -73,6 +81,7 @@ impl Record {
             panels: Pending::read_all(bytes)?,
             keys: std::array::from_fn(|k| double_word(bytes, KEYS + 4 * k)),
             flags: read_flags(&bytes[FLAGS..FLAGS_END])?,
+            edge: modes::edge(bytes[EDGE])?,
         })
     }
 
@@ -95,6 +104,7 @@ impl Record {
         for (k, flag) in self.flags.iter().enumerate() {
             bytes[FLAGS + k] = *flag as u8;
         }
+        bytes[EDGE] = self.edge as u8;
     }
 
     pub fn screen<'a>(&self, memory: &'a mut [u8]) -> &'a mut [u8] {
@@ -112,7 +122,7 @@ impl Record {
 
     /// Draw on the screen, then mark what the drawing says.
     pub fn draw(&mut self, memory: &mut [u8], drawing: impl FnOnce(&mut Canvas) -> Option<Mark>) {
-        let mut canvas = Canvas::new(self.screen(memory));
+        let mut canvas = Canvas::new(self.screen(memory), self.edge);
         let mark = drawing(&mut canvas);
         let owes = canvas.owes(mark);
         self.dirty = join(self.dirty, mark.map(|mark| mark.rect));

@@ -30,7 +30,8 @@ impl Rect {
             && other.bottom <= self.bottom
     }
 
-    /// Horizontal lines, boxes and filled ellipses draw at column 159 and row 79 what lies beyond.
+    /// Where lines are clamped, horizontal ones, boxes and filled ellipses draw at column 159 and row 79
+    /// what lies beyond.
     pub fn lowered(self) -> Self {
         Self { left: self.left.min(WIDTH - 1), top: self.top.min(HEIGHT - 1), ..self }
     }

@@ -3,7 +3,7 @@
 use calls::layout::*;
 use calls::{Answer, Buffers, Call, Lent};
 
-const OPEN: Call = Call::Open { graphics_base: 4096, text_base: 8192, version: 1, keys: [0; 8] };
+const OPEN: Call = Call::Open { graphics_base: 4096, text_base: 8192, version: 1, keys: [0; 8], edge: 0 };
 const POINT: Call = Call::DrawPoint { x: 3, y: 2, mode: 1 };
 const WHOLE: [u16; 4] = [0, 0, 160, 80];
 
@@ -131,7 +131,7 @@ fn refusals_in_their_order() {
     for number in [0, 3, 4, 5, 255] {
         let last = if number > 3 { 9 } else { 0 };
         assert_eq!(send(&mut Screen::opened(), RECORD, PANEL, number), last);
-        for record_len in [0, 170, 190, 210, 229, 231] {
+        for record_len in [0, 170, 190, 210, 229, 230, 232] {
             assert_eq!(send(&mut Screen::opened(), record_len, PANEL, number), 1);
         }
         for panel_len in [0, 1_599, 1_601] {

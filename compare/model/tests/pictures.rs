@@ -1,8 +1,9 @@
-//! Document 01's known pictures, each with dirty and owed empty before it, and one of an empty GB
-//! row, which change request 2 takes out of GB.
+//! Document 01's known pictures, each with dirty and owed empty before it; one of an empty GB row, which
+//! change request 2 takes out of GB; and some of the lines that stop at the edge, of change request 5.
 
 use calls::layout::*;
 use calls::{Answer, Buffers, Call, FontsLent};
+use std::ops::Range;
 
 struct Screen(Buffers);
 
@@ -13,8 +14,13 @@ const SEND: Call = Call::Send { number: 0 };
 
 impl Screen {
     fn new() -> Self {
+        Self::under(0)
+    }
+
+    /// Opened with this edge flag.
+    fn under(edge: u8) -> Self {
         let mut screen = Self(Buffers::zero());
-        screen.call(Call::Open { graphics_base: 4096, text_base: 8192, version: 1, keys: [0; 8] });
+        screen.call(Call::Open { graphics_base: 4096, text_base: 8192, version: 1, keys: [0; 8], edge });
         for _ in 0..80 {
             for number in 0..PANELS as u8 {
                 screen.call(Call::Send { number });
@@ -80,6 +86,64 @@ fn boxes() {
     let mut screen = Screen::new();
     screen.call(Call::DrawBox { x1: 0, y1: 78, x2: 7, y2: 80, fill: 1, mode: 2 });
     assert_eq!(screen.pixels(), (0..8).map(|x| (x, 78)).collect::<Vec<_>>());
+}
+
+/// What a call draws on an empty screen, marks and owes with this edge flag.
+fn drawn(call: Call, edge: u8) -> (Vec<(usize, usize)>, [u16; 4], [u16; 4]) {
+    let mut screen = Screen::under(edge);
+    assert!(screen.call(call).accepted());
+    (screen.pixels(), screen.dirty(), screen.owed())
+}
+
+/// The pixels of these columns and rows.
+fn filled(columns: Range<usize>, rows: Range<usize>) -> Vec<(usize, usize)> {
+    rows.flat_map(|y| columns.clone().map(move |x| (x, y))).collect()
+}
+
+#[test]
+fn lines_that_stop() {
+    let line = |x1, y1, x2| Call::DrawLine { x1, y1, x2, y2: y1, mode: 1 };
+    let dirty = [200, 90, 211, 91];
+    assert_eq!(drawn(line(200, 90, 210), 1), (vec![], dirty, [0; 4]));
+    assert_eq!(drawn(line(200, 90, 210), 0), (vec![(159, 79)], dirty, [159, 79, 160, 80]));
+    let ten = filled(150..160, 79..80);
+    assert_eq!(drawn(line(150, 79, 170), 1), (ten.clone(), [150, 79, 171, 80], [150, 79, 160, 80]));
+    assert_eq!(drawn(line(170, 79, 150), 1), (ten, [150, 79, 171, 80], [150, 79, 160, 80]));
+    assert_eq!(drawn(line(3, 80, 9), 1), (vec![], [3, 80, 10, 81], [0; 4]));
+    assert_eq!(drawn(line(160, 5, 170), 1), (vec![], [160, 5, 171, 6], [0; 4]));
+    let unknown = Call::DrawLine { x1: 158, y1: 79, x2: 255, y2: 79, mode: 3 };
+    assert_eq!(drawn(unknown, 1), (vec![(158, 79), (159, 79)], [158, 79, 256, 80], [158, 79, 160, 80]));
+}
+
+#[test]
+fn boxes_that_stop() {
+    let (dirty, owed) = ([0, 78, 8, 81], [0, 78, 8, 80]);
+    let bar = Call::DrawBox { x1: 0, y1: 78, x2: 7, y2: 80, fill: 1, mode: 2 };
+    assert_eq!(drawn(bar.clone(), 1), (filled(0..8, 78..80), dirty, owed));
+    assert_eq!(drawn(bar, 0), (filled(0..8, 78..79), dirty, owed));
+    // Its upper horizontal is cut, its left vertical as ever; the others are beyond the glass.
+    let outline = Call::DrawBox { x1: 150, y1: 70, x2: 170, y2: 90, fill: 0, mode: 1 };
+    let pixels = [filled(150..160, 70..71), filled(150..151, 71..80)].concat();
+    assert_eq!(drawn(outline, 1), (pixels, [150, 70, 171, 91], [150, 70, 160, 80]));
+    for fill in [0, 1] {
+        let below = Call::DrawBox { x1: 5, y1: 80, x2: 9, y2: 99, fill, mode: 1 };
+        assert_eq!(drawn(below, 1), (vec![], [5, 80, 10, 100], [0; 4]));
+    }
+}
+
+#[test]
+fn discs_that_stop() {
+    let disc = |x, y, r| Call::DrawCircle { x, y, r, fill: 1, mode: 1 };
+    assert_eq!(drawn(disc(10, 82, 2), 1), (vec![], [8, 80, 160, 85], [0; 4]));
+    let clamped = filled(8..13, 79..80);
+    assert_eq!(drawn(disc(10, 82, 2), 0), (clamped.clone(), [8, 80, 160, 85], [8, 79, 160, 80]));
+    assert_eq!(drawn(disc(10, 81, 2), 1), (clamped, [8, 79, 160, 84], [8, 79, 160, 80]));
+    assert_eq!(drawn(disc(170, 40, 5), 1), (vec![], [165, 35, 176, 80], [0; 4]));
+    // The rule for a left end that wraps, and the mark of a disc that wraps, stay.
+    let whole = [0, 0, 160, 80];
+    assert_eq!(drawn(disc(1, 82, 2), 1), (vec![], whole, whole));
+    let wrapped = drawn(disc(1, 40, 2), 1);
+    assert_eq!((wrapped.0, wrapped.1), (filled(0..4, 38..43), whole));
 }
 
 #[test]
@@ -148,14 +212,14 @@ fn empty_gb_rows() {
 fn bases() {
     let mut screen = Screen::new();
     for (graphics_base, code) in [(63_935, 0), (63_936, 3)] {
-        let open = Call::Open { graphics_base, text_base: 0, version: 0, keys: [0; 8] };
+        let open = Call::Open { graphics_base, text_base: 0, version: 0, keys: [0; 8], edge: 0 };
         assert_eq!(screen.call(open).code, code);
     }
 }
 
 #[test]
 fn scripts() {
-    let open = Call::Open { graphics_base: 4096, text_base: 8192, version: 1, keys: [0; 8] };
+    let open = Call::Open { graphics_base: 4096, text_base: 8192, version: 1, keys: [0; 8], edge: 0 };
     let point = Call::DrawPoint { x: 3, y: 0, mode: 1 };
     let sent = Answer::done([1, 0, 0, 160]);
     let mut screen = Screen(Buffers::zero());

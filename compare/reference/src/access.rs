@@ -59,7 +59,7 @@ impl DefaultDevice {
         self.column = column;
     }
 
-    /// The fields as a record; the panels' parts, which the reference lacks, are zero.
+    /// The fields as a record; the panels' parts and the edge flag, which the reference lacks, are zero.
     pub(crate) fn record(&self) -> [u8; RECORD] {
         let mut record = [0; RECORD];
         put_word(&mut record, GRAPHICS_BASE, self.props.graphics_base_addr);

@@ -2,11 +2,15 @@ use crate::device::default::DefaultDevice;
 use crate::device::default::access::{print_mode, screen_mode};
 use crate::device::{Device, DrawMode, PaintMode};
 use crate::flush::{Walk, behind_text, can_follow};
-use calls::layout::RECORD;
+use calls::layout::{HEIGHT, LINE, RECORD, SCREEN};
 use calls::{Call, FontsLent};
 use std::cell::Cell;
 use std::panic::{self, AssertUnwindSafe};
 use std::sync::Once;
+
+const LAST_LINE: usize = HEIGHT - 1;
+/// The last byte of a line; its lowest bit is the last pixel.
+const LAST_BYTE: usize = LINE - 1;
 
 /// What the reference made of a call.
 #[derive(Debug, Clone, Copy, PartialEq, Eq)]
@@ -32,7 +36,7 @@ impl Reference {
         self.device.memory()
     }
 
-    /// The fields as a record; the panels' parts are zero.
+    /// The fields as a record; the panels' parts and the edge flag are zero.
     pub fn record(&self) -> [u8; RECORD] {
         self.device.record()
     }
@@ -44,6 +48,21 @@ impl Reference {
 
     pub fn set_dirty(&mut self, dirty: [u16; 4]) {
         self.device.set_dirty(dirty);
+    }
+
+    /// Take over the pixels of a screen's last line and last column: all that lines which are clamped and
+    /// lines which stop can leave differently.
+    pub fn load_edge(&mut self, screen: &[u8]) {
+        let base = self.device.graphics_base();
+        let own = &mut self.device.memory_mut()[base..base + SCREEN];
+        for (place, (byte, edge)) in own.iter_mut().zip(screen).enumerate() {
+            let mask = match (place / LINE, place % LINE) {
+                (LAST_LINE, _) => 0xff,
+                (_, LAST_BYTE) => 1,
+                _ => 0,
+            };
+            *byte = *byte & !mask | edge & mask;
+        }
     }
 
     /// Row and column by plain stores, for calls that are measured from the same place each time.
@@ -76,7 +95,7 @@ impl Reference {
     pub fn call_uncaught(&mut self, call: &Call) -> [u32; 4] {
         let device = &mut *self.device;
         match *call {
-            Call::Open { graphics_base, text_base, version, ref keys } => {
+            Call::Open { graphics_base, text_base, version, ref keys, .. } => {
                 self.open(graphics_base, text_base, version, keys);
             }
             Call::Reset => device.reset(),
@@ -180,4 +199,20 @@ fn silence_reference_panics() {
             }
         }));
     });
+}
+
+#[test]
+fn the_edge_is_the_last_line_and_the_last_column() {
+    let mut reference = Reference::default();
+    let base = reference.device.graphics_base();
+    reference.load_edge(&[0xff; SCREEN]);
+    let screen = &reference.memory()[base..base + SCREEN];
+    for (line, bytes) in screen.chunks(LINE).enumerate() {
+        let due: [u8; LINE] = if line == 79 {
+            [0xff; LINE]
+        } else {
+            std::array::from_fn(|byte| if byte == 19 { 1 } else { 0 })
+        };
+        assert_eq!(bytes, due, "{line}");
+    }
 }

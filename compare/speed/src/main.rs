@@ -45,7 +45,8 @@ fn print_columns() {
     println!(
         "Each row: {PAIRS} pairs of slices of about {} microseconds, Rust and core in turn.
 Rust ns  one turn of the reference, or of what the name says: plain Rust, the core's pixel painter, its
-         set_row with a plain copy or as often as there are calls. The median
+         set_row with a plain copy or as often as there are calls, its drawing with edge flag 0. The
+         median
 core ns  one turn of the core: the median
 ratio    core / Rust within a pair: the median
 limit    what the ratio may be at most, - where none was set. A row above it is measured up to

@@ -4,7 +4,7 @@ use crate::before::{Pair, pairs};
 use crate::plain;
 use crate::rows::{Row, rows};
 use crate::side::Side;
-use calls::layout::PANELS;
+use calls::layout::{EDGE, PANELS};
 use calls::{Answer, Buffers, Call, Lent};
 use driver::core_side::Answering;
 use driver::random::Random;
@@ -39,6 +39,18 @@ fn without_a_painter_by_bytes_nothing_of_it_is_measured() {
     assert_eq!(with.iter().filter(|row| of_core(row)).count(), 3);
     assert!(with.iter().all(|row| row.core.is_some()));
     assert!(!without.is_empty() && !without.iter().any(|row| of_core(row) || row.core.is_some()));
+}
+
+#[test]
+fn drawings_that_stop_are_measured_against_such_as_are_clamped() {
+    let stopping = |row: &Row| row.name.ends_with("edge flag 1, core's flag 0");
+    let with: Vec<Row> = rows(Some(model)).into_iter().filter(stopping).collect();
+    assert_eq!(with.len(), 5);
+    for row in with {
+        let core = row.core.expect("the model's side");
+        assert_eq!([row.rust.left().record[EDGE], core.left().record[EDGE]], [0, 1], "{}", row.name);
+    }
+    assert!(!rows(None).iter().any(stopping));
 }
 
 /// What each library before has in common with the model, by the rows' names: measured ones, and such as
@@ -83,12 +95,24 @@ fn other_bytes_or_answers_of_the_library_before_are_seen() {
     assert_eq!(other_answers.len(), 3, "{other_answers:?}");
 }
 
+/// That of CAPTION_BEFORE: the entry, a drawing and a send are the same work as today's.
+#[cfg(feature = "before")]
+#[test]
+fn the_linked_library_before_does_the_same() {
+    let before = crate::before::linked().expect("the library before");
+    let [same, _] = compared_with_model(before);
+    for name in ["set_row, plain", "point", "line, horizontal", "send, a line"] {
+        assert!(same.iter().any(|row| row.starts_with(name)), "{name}: {same:?}");
+    }
+}
+
 /// Bytes of any kind under a record that is valid, or has one byte changed.
 fn any_bytes(random: &mut Random) -> Buffers {
     let mut buffers = Buffers::zero();
     random.fill(&mut buffers.memory);
     buffers.panels.iter_mut().for_each(|panel| random.fill(panel));
-    buffers.record = random.valid_record();
+    let edge = random.below(2) as u8;
+    buffers.record = random.valid_record(edge);
     if random.one_in(4) {
         let place = random.below(buffers.record.len());
         buffers.record[place] = random.byte();

@@ -1,6 +1,6 @@
 //! Points, lines, boxes and ellipses over the edges of the glass and of a byte.
 
-use super::{bytes, from_record, opened, pairs, record, unmarked};
+use super::{bytes, from_record, in_turn, open, opened, pairs, record, unmarked, with_both};
 use crate::list::List;
 use calls::Call;
 
@@ -8,12 +8,24 @@ const EDGES: [u8; 11] = [0, 1, 7, 8, 79, 80, 127, 128, 159, 160, 255];
 const MODES: [u8; 4] = [0, 1, 2, 3];
 
 pub fn lists() -> impl Iterator<Item = List> {
-    from_record(record(1, 0, 0), unmarked(points()))
-        .chain(from_record(record(1, 0, 0), unmarked(lines())))
-        .chain(from_record(record(1, 0, 0), unmarked(boxes())))
-        .chain(from_record(record(1, 0, 0), unmarked(ellipses())))
-        .chain(from_record(record(1, 0, 0), unmarked(circles())))
-        .chain(with_sends())
+    in_turn(shown(points()))
+        .chain(in_turn(shown(lines().filter(|line| !is_horizontal(line)))))
+        .chain(with_both(shown(lines().filter(is_horizontal))))
+        .chain(with_both(shown(boxes())))
+        .chain(in_turn(shown(ellipses(0))))
+        .chain(with_both(shown(ellipses(1))))
+        .chain(in_turn(shown(circles(0))))
+        .chain(with_both(shown(circles(1))))
+        .chain(with_both(with_sends()))
+}
+
+/// Each with its own mark.
+fn shown(calls: impl Iterator<Item = Call>) -> impl Iterator<Item = List> {
+    from_record(record(1, 0, 0), unmarked(calls))
+}
+
+fn is_horizontal(call: &Call) -> bool {
+    matches!(call, Call::DrawLine { y1, y2, .. } if y1 == y2)
 }
 
 fn all_points() -> impl Iterator<Item = (u8, u8)> {
@@ -53,14 +65,14 @@ fn boxes() -> impl Iterator<Item = Call> {
 /// Centres on the glass, on and beyond its last pixel, and at both ends of the coordinates.
 const CENTRES: [(u8, u8); 5] = [(0, 0), (80, 40), (159, 79), (160, 80), (255, 255)];
 
-/// All radii, filled and not, in every mode, around each of the centres, and around all edge
-/// centres in turn.
-fn ellipses() -> impl Iterator<Item = Call> {
+/// All radii, filled or not, in every mode, around each of the centres, and around all edge centres in
+/// turn.
+fn ellipses(fill: u8) -> impl Iterator<Item = Call> {
     let edges = pairs(&EDGES, &EDGES);
     let mut turn = 0;
     (0..=127).flat_map(|rx| (0..=127).map(move |ry| (rx, ry))).flat_map(move |(rx, ry)| {
         let mut calls = vec![];
-        for (fill, mode) in pairs(&[0, 1], &MODES) {
+        for mode in MODES {
             turn = (turn + 37) % edges.len();
             for (x, y) in CENTRES.into_iter().chain([edges[turn]]) {
                 calls.push(Call::DrawEllipse { x, y, rx, ry, fill, mode });
@@ -70,12 +82,11 @@ fn ellipses() -> impl Iterator<Item = Call> {
     })
 }
 
-/// All circles around all edge centres, and the first refused radius.
-fn circles() -> impl Iterator<Item = Call> {
-    (0..=128).flat_map(|r| {
-        pairs(&EDGES, &EDGES).into_iter().flat_map(move |(x, y)| {
-            [0, 1].map(|fill| Call::DrawCircle { x, y, r, fill, mode: (x ^ y ^ r) % 4 })
-        })
+/// All circles, filled or not, around all edge centres, and the first refused radius.
+fn circles(fill: u8) -> impl Iterator<Item = Call> {
+    (0..=128).flat_map(move |r| {
+        let centres = pairs(&EDGES, &EDGES).into_iter();
+        centres.map(move |(x, y)| Call::DrawCircle { x, y, r, fill, mode: (x ^ y ^ r) % 4 })
     })
 }
 
@@ -84,7 +95,6 @@ const POLLS: [u8; 8] = [0, 1, 0, 2, 0, 1, 0, 3];
 
 /// Lists from an open, with sends to all panels between drawings over the edges.
 fn with_sends() -> impl Iterator<Item = List> {
-    let open = Call::Open { graphics_base: 4096, text_base: 8192, version: 1, keys: [0; 8] };
     let corners = pairs(&EDGES, &EDGES);
     let calls = corners.into_iter().flat_map(|(x, y)| {
         pairs(&[0, 5, 127], &MODES).into_iter().flat_map(move |(r, mode)| {
@@ -95,5 +105,5 @@ fn with_sends() -> impl Iterator<Item = List> {
             [line, circle].into_iter().chain(sends)
         })
     });
-    opened(open, calls)
+    opened(open(1), calls)
 }

@@ -2,22 +2,27 @@
 
 mod bitmaps;
 mod drawing;
+mod edges;
 mod numbers;
 mod pokes;
 mod records;
 mod text;
 
 pub use bitmaps::paintings;
+pub use edges::lists as edges;
 
 use crate::list::{Lending, List, Start, Step};
 use calls::Call;
 use calls::layout::*;
 
-/// All of them, one after another.
+/// All of them, one after another. Half of them start with edge flag 1: drawings that know the flag come
+/// with both, other calls with either in turn.
 pub fn lists() -> impl Iterator<Item = List> {
-    let drawn = pokes::screen_bytes().chain(bitmaps::lists()).chain(drawing::lists());
-    let others = text::lists().chain(records::lists()).chain(numbers::lists());
-    drawn.chain(others).chain(pokes::all_addresses())
+    let others = text::lists().chain(records::lists()).chain(numbers::lists()).chain(pokes::all_addresses());
+    in_turn(pokes::screen_bytes().chain(bitmaps::lists()))
+        .chain(edges::lists())
+        .chain(drawing::lists())
+        .chain(in_turn(others))
 }
 
 /// Calls in a list at most, those that all lists start with not counted: a multiple of 2, 3, 6 and 9, the
@@ -72,6 +77,38 @@ fn after(first: Vec<Call>, calls: impl Iterator<Item = Call>) -> impl Iterator<I
             List { start: Start::unopened(seed), steps: all.map(Step::from).collect() }
         })
     })
+}
+
+/// An open and the sends that bring all panels level after it.
+fn levelled(open: Call) -> Vec<Call> {
+    let sends = (0..HEIGHT).flat_map(|_| (0..PANELS as u8).map(|number| Call::Send { number }));
+    [open].into_iter().chain(sends).collect()
+}
+
+/// These lists with the edge flags in turn: calls that know no flag.
+fn in_turn(lists: impl Iterator<Item = List>) -> impl Iterator<Item = List> {
+    lists.zip([0, 1].into_iter().cycle()).map(|(list, edge)| with_edge(list, edge))
+}
+
+/// Each of these lists with one edge flag and then with the other: drawings that know it.
+fn with_both(lists: impl Iterator<Item = List>) -> impl Iterator<Item = List> {
+    lists.flat_map(|list| [0, 1].map(|edge| with_edge(list.clone(), edge)))
+}
+
+/// The list started with this edge flag.
+fn with_edge(mut list: List, flag: u8) -> List {
+    if let Some(record) = &mut list.start.record {
+        record[EDGE] = flag;
+    } else if let Some(Step { call: Call::Open { edge, .. }, .. }) = list.steps.first_mut() {
+        *edge = flag;
+    }
+    list
+}
+
+/// `panelrun`'s open, for one version.
+fn open(version: u8) -> Call {
+    let (graphics_base, text_base) = WINDOWS;
+    Call::Open { graphics_base, text_base, version, keys: [0; 8], edge: 0 }
 }
 
 /// Every pair of two lists.

@@ -32,8 +32,8 @@ fn told() -> impl Iterator<Item = Call> {
             Call::DrawEllipse { x: 9, y: 9, rx: 0, ry: number, fill: 1, mode: 1 },
             Call::DrawEllipse { x: 9, y: 9, rx: number, ry: 0, fill: 0, mode: 1 },
             Call::Send { number },
-            Call::Open { graphics_base: 0, text_base: 1600, version: number, keys: [7; 8] },
-            Call::Open { graphics_base: 0, text_base: 1599, version: number, keys: [7; 8] },
+            Call::Open { graphics_base: 0, text_base: 1600, version: number, keys: [7; 8], edge: 1 },
+            Call::Open { graphics_base: 0, text_base: 1599, version: number, keys: [7; 8], edge: number },
         ];
         for (address, width) in [(4096, 0), (4096, 9), (65_535, 9)] {
             let painting = Painting { address, x: 1, y: 1, width, height: 3, mode: number };

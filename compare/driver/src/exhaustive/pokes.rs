@@ -1,6 +1,6 @@
 //! Pokes: of every screen byte where all are taken, and of every address where some are ignored.
 
-use super::{WINDOWS, after, from_record, opened, record, unmarked};
+use super::{WINDOWS, after, from_record, levelled, opened, record, unmarked};
 use crate::list::List;
 use calls::Call;
 use calls::layout::*;
@@ -15,9 +15,9 @@ const TAKEN: [u16; 3] = [256, 4_097, 0xe000 - SCREEN as u16];
 /// level panels, which only the marks bring level again.
 pub fn screen_bytes() -> impl Iterator<Item = List> {
     TAKEN.into_iter().flat_map(|graphics_base| {
-        let open = Call::Open { graphics_base, text_base: WINDOWS.1, version: 1, keys: ALL_KEYS };
+        let open = Call::Open { graphics_base, text_base: WINDOWS.1, version: 1, keys: ALL_KEYS, edge: 0 };
         from_record(record_at(graphics_base), unmarked(around(graphics_base)))
-            .chain(after([open].into_iter().chain(level()).collect(), around(graphics_base)))
+            .chain(after(levelled(open), around(graphics_base)))
     })
 }
 
@@ -27,11 +27,6 @@ fn record_at(graphics_base: u16) -> Vec<u8> {
     record[GRAPHICS_BASE..][..2].copy_from_slice(&graphics_base.to_le_bytes());
     record[KEYS..FLAGS].fill(0xff);
     record
-}
-
-/// The sends that bring all panels level after an open.
-fn level() -> impl Iterator<Item = Call> {
-    (0..HEIGHT).flat_map(|_| (0..PANELS as u8).map(|number| Call::Send { number }))
 }
 
 /// The bytes of a screen and one on either side, in address order.
@@ -48,7 +43,7 @@ pub fn all_addresses() -> impl Iterator<Item = List> {
         (100, 65_435, [0x00ff_ff00; 8]),
     ];
     layouts.into_iter().flat_map(|(graphics_base, text_base, keys)| {
-        let open = Call::Open { graphics_base, text_base, version: 0, keys };
+        let open = Call::Open { graphics_base, text_base, version: 0, keys, edge: 0 };
         opened(open, (0..=65_535).map(poke))
     })
 }

@@ -1,6 +1,6 @@
 //! Records and lengths around what STATE and LENT test, for every call.
 
-use super::{from_record, pairs, record};
+use super::{bytes, from_record, open, pairs, record};
 use crate::list::{Lending, List, Other, Step};
 use calls::layout::*;
 use calls::{Call, FontsLent, Painting};
@@ -8,6 +8,7 @@ use calls::{Call, FontsLent, Painting};
 pub fn lists() -> impl Iterator<Item = List> {
     let valid = full_record();
     from_record(valid.clone(), changed_bytes())
+        .chain(from_record(valid.clone(), edge_flags()))
         .chain(from_record(valid.clone(), lengths()))
         .chain(from_record(valid.clone(), rects()))
         .chain(from_record(valid.clone(), bases()))
@@ -43,7 +44,7 @@ const BITMAP: Painting = Painting { address: 4096, x: 1, y: 1, width: 9, height:
 /// One accepted call of each kind, a send to each panel.
 fn each_call() -> Vec<Call> {
     let mut calls = vec![
-        Call::Open { graphics_base: 4096, text_base: 8192, version: 1, keys: [0; 8] },
+        open(1),
         Call::Reset,
         Call::DrawPoint { x: 1, y: 1, mode: 1 },
         Call::DrawLine { x1: 0, y1: 0, x2: 9, y2: 5, mode: 2 },
@@ -89,11 +90,17 @@ fn changed_bytes() -> impl Iterator<Item = Step> {
     let calls = each_call();
     (0..RECORD).flat_map(move |place| {
         let calls = calls.clone();
-        super::bytes().map(move |byte| {
+        bytes().map(move |byte| {
             let call = &calls[(place * 5 + byte as usize) % calls.len()];
             changed(call, vec![(place, byte)])
         })
     })
+}
+
+/// Every value of the edge flag for every call.
+fn edge_flags() -> impl Iterator<Item = Step> {
+    let calls = each_call().into_iter();
+    calls.flat_map(|call| bytes().map(move |flag| changed(&call, vec![(EDGE, flag)])))
 }
 
 /// Wrong and right lengths for every call, those of panels for sends, also for such as name none.
@@ -139,7 +146,7 @@ fn bases() -> impl Iterator<Item = Step> {
         texts.filter_map(|text| u16::try_from(text).ok()).flat_map(move |text_base| {
             let words = [graphics_base, text_base].map(u16::to_le_bytes);
             let record_bytes = words.concat().into_iter().enumerate().collect();
-            let open = Call::Open { graphics_base, text_base, version: 0, keys: [1; 8] };
+            let open = Call::Open { graphics_base, text_base, version: 0, keys: [1; 8], edge: 1 };
             [changed(&Call::GetColumn, record_bytes), lent(&open, Other::same())]
         })
     })

@@ -1,6 +1,6 @@
 //! Texts at every cell, cursors at every cell, and every code that flush can show.
 
-use super::{from_record, opened, pairs, record};
+use super::{from_record, open, opened, pairs, record};
 use crate::list::{List, Step};
 use calls::{Call, FontsLent};
 use reference::in_gap;
@@ -89,8 +89,7 @@ fn codes() -> impl Iterator<Item = List> {
         let gap = gap.chunks(40).flat_map(|codes| {
             [0, 1].into_iter().flat_map(move |first| shown(mode, codes, codes[first..].iter().step_by(2)))
         });
-        let open = Call::Open { graphics_base: 4096, text_base: 8192, version, keys: [0; 8] };
-        opened(open, others.chain(gap).collect::<Vec<_>>().into_iter())
+        opened(open(version), others.chain(gap).collect::<Vec<_>>().into_iter())
     })
 }
 
@@ -129,8 +128,7 @@ fn row_ends() -> impl Iterator<Item = List> {
             calls.push(Call::Flush { fonts: FontsLent::whole(extra.clone()) });
             calls
         });
-        let open = Call::Open { graphics_base: 4096, text_base: 8192, version: 1, keys: [0; 8] };
-        opened(open, calls)
+        opened(open(1), calls)
     })
 }
 

@@ -14,6 +14,10 @@ const MOST_LINES: u32 = 159;
 /// A refused call comes before one in so many sends.
 const REFUSED: usize = 48;
 
+/// An open that is refused for its edge flag.
+const OTHER_EDGE: Call =
+    Call::Open { graphics_base: 4096, text_base: 8192, version: 1, keys: [0; 8], edge: 2 };
+
 impl Judge {
     /// For each panel of the unit: L is at most 159 and every differing pixel lies in owed or in hand.
     /// Then all are polled, each at its own pace, with refused calls between: the first send that names
@@ -121,7 +125,8 @@ impl Judge {
         let answer = match order.below(16) {
             0 => self.other_step(&send, &short, tally)?,
             1 => self.other_step(&send, &broken, tally)?,
-            2..5 => self.own_step(&Call::SetRow { row: ROWS as u8 }, tally)?,
+            2..4 => self.own_step(&Call::SetRow { row: ROWS as u8 }, tally)?,
+            4 => self.own_step(&OTHER_EDGE, tally)?,
             5..8 => self.own_step(&Call::DrawPoint { x: 1, y: 1, mode: 4 }, tally)?,
             _ => self.own_step(&Call::Send { number: 4 + order.below(252) as u8 }, tally)?,
         };

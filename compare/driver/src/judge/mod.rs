@@ -3,6 +3,7 @@
 mod area;
 mod demand3;
 mod difference;
+mod edge;
 pub mod panics;
 mod reckon;
 mod sends;
@@ -79,7 +80,7 @@ impl Judge {
         for (place, step) in list.steps.iter().enumerate() {
             self.step(step, tally).map_err(|difference| difference.at(place))?;
         }
-        tally.lists += 1;
+        tally.lists[list.edge() as usize] += 1;
         tally.fewer_panels += (list.start.panels < PANELS) as u64;
         self.end(list, tally).map_err(|difference| difference.at(list.steps.len()))
     }
@@ -143,7 +144,8 @@ impl Judge {
         Ok(answer)
     }
 
-    /// An accepted call is held to the reckoning; a send to document 01, others to the reference.
+    /// An accepted call is held to the reckoning; a send to document 01, others to the reference. No open
+    /// with another edge flag and no send to another panel is accepted.
     fn accepted_step(
         &mut self,
         call: &Call,
@@ -151,6 +153,9 @@ impl Judge {
         before: &[u8; RECORD],
         tally: &mut Tally,
     ) -> Judged<()> {
+        if let Call::Open { edge: edge @ 2.., .. } = *call {
+            return Err(Difference::new(format!("an open with edge flag {edge} is accepted")));
+        }
         let Call::Send { number } = *call else {
             self.reckon(call, before)?;
             return self.reference_step(call, answer, before, tally);
@@ -197,7 +202,12 @@ impl Judge {
                 compare_answers("reference", &Answer::done(numbers), "model", answer)?;
             }
         }
-        tally.reference_compared(call, panic_due);
+        if edge::stops(call, before) {
+            tally.stopped += 1;
+            self.stop_in_reference();
+        } else {
+            tally.reference_compared(call, panic_due);
+        }
         let mut record = self.reference.record();
         for added in ADDED {
             record[added.clone()].copy_from_slice(&self.own.model.record[added]);

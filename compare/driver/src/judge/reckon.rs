@@ -1,6 +1,6 @@
 //! Owed, in hand and lines sent of each panel, reckoned from the list of accepted calls alone, never
-//! read from a record: a second reading of document 01's sections "Marks" and "Sends" and of change
-//! request 1, apart from the model.
+//! read from a record, and the edge flag with them: a second reading of document 01's sections "Marks" and
+//! "Sends" and of the change requests 1 and 5, apart from the model.
 
 use super::Difference;
 use super::area::{Area, LAST_X, LAST_Y, Span, byte_span, span};
@@ -18,10 +18,12 @@ struct Panel {
 #[derive(Debug, Default)]
 pub struct Reckoner {
     panels: [Panel; PANELS],
+    edge: u8,
 }
 
 const UNKNOWN: u8 = 3;
 const GRAPH: u8 = 1;
+const CLAMP: u8 = 0;
 
 impl Panel {
     /// That of a valid record.
@@ -56,7 +58,7 @@ impl Panel {
 impl Reckoner {
     /// For a list that starts from a valid record: what that says.
     pub fn of_record(record: &[u8]) -> Self {
-        Self { panels: [0, 1, 2, 3].map(|panel| Panel::of_record(record, panel)) }
+        Self { panels: [0, 1, 2, 3].map(|panel| Panel::of_record(record, panel)), edge: record[EDGE] }
     }
 
     pub fn empty_owed(&mut self) {
@@ -74,6 +76,10 @@ impl Reckoner {
                 )));
             }
         }
+        if self.edge != record[EDGE] {
+            let (due, found) = (self.edge, record[EDGE]);
+            return Err(Difference::new(format!("edge flag: reckoned {due}, in the record {found}")));
+        }
         Ok(())
     }
 
@@ -87,19 +93,19 @@ impl Reckoner {
     /// An accepted call, made with the record as it stood `before`; memory as it stands after.
     pub fn take(&mut self, call: &Call, before: &[u8], memory: &[u8]) {
         match *call {
-            Call::Open { .. } => {
-                self.panels = Default::default();
+            Call::Open { edge, .. } => {
+                *self = Self { edge, ..Self::default() };
                 self.whole();
             }
             Call::Reset | Call::Cls | Call::Flush { .. } | Call::SetScreenMode { .. } => self.whole(),
             Call::DrawPoint { x, y, .. } => self.add(byte_span(x, x), byte_span(y, y)),
             Call::DrawLine { x1, y1, x2, y2, .. } if y1 == y2 => {
-                self.add_lowered(byte_span(x1, x2), byte_span(y1, y1));
+                self.add_lines(byte_span(x1, x2), byte_span(y1, y1));
             }
             Call::DrawLine { mode: UNKNOWN, .. } => {}
             Call::DrawLine { x1, y1, x2, y2, .. } => self.add(byte_span(x1, x2), byte_span(y1, y2)),
             Call::DrawBox { x1, y1, x2, y2, .. } => {
-                self.add_lowered(byte_span(x1, x2), byte_span(y1, y2));
+                self.add_lines(byte_span(x1, x2), byte_span(y1, y2));
             }
             Call::DrawCircle { x, y, r, fill, mode } => self.ellipse((x, y), (r, r), fill, mode),
             Call::DrawEllipse { x, y, rx, ry, fill, mode } => self.ellipse((x, y), (rx, ry), fill, mode),
@@ -150,8 +156,13 @@ impl Reckoner {
         }
     }
 
-    fn add_lowered(&mut self, across: Span, down: Span) {
-        self.add(across.lowered(LAST_X), down.lowered(LAST_Y));
+    /// What horizontal lines make: those that are clamped lie at the edge where they would lie beyond it.
+    fn add_lines(&mut self, across: Span, down: Span) {
+        if self.edge == CLAMP {
+            self.add(across.lowered(LAST_X), down.lowered(LAST_Y));
+        } else {
+            self.add(across, down);
+        }
     }
 
     fn ellipse(&mut self, (x, y): (u8, u8), (rx, ry): (u8, u8), fill: u8, mode: u8) {
@@ -163,7 +174,7 @@ impl Reckoner {
             self.whole();
         } else {
             let (across, down) = (span(x - rx, (x + rx).max(LAST_X)), span(y - ry, (y + ry).max(LAST_Y)));
-            if fill == 1 { self.add_lowered(across, down) } else { self.add(across, down) }
+            if fill == 1 { self.add_lines(across, down) } else { self.add(across, down) }
         }
     }
 

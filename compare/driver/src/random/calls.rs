@@ -7,10 +7,10 @@ use calls::Call;
 use calls::layout::PANELS;
 
 impl Random {
-    /// A call by its number among `Call::NAMES`, of any panel, with codes outside the gap.
+    /// A call by its number among `Call::NAMES`, of any panel, with codes outside the gap and edge flag 0.
     pub fn call(&mut self, number: usize, windows: Windows) -> Call {
         match Call::NAMES[number] {
-            "open" => self.open(),
+            "open" => self.open(0),
             "reset" => Call::Reset,
             "draw_point" => Call::DrawPoint { x: self.x(), y: self.y(), mode: self.mode(4) },
             "draw_line" => self.line(),
@@ -54,20 +54,21 @@ impl Random {
         }
     }
 
-    /// An open that is accepted.
-    pub fn accepted_open(&mut self) -> Call {
+    /// An open that is accepted, with this edge flag.
+    pub fn accepted_open(&mut self, edge: u8) -> Call {
         let Windows { graphics_base, text_base } = self.windows();
-        Call::Open { graphics_base, text_base, version: self.below(2) as u8, keys: self.key_words() }
+        Call::Open { graphics_base, text_base, version: self.below(2) as u8, keys: self.key_words(), edge }
     }
 
-    /// An open that may be refused.
-    fn open(&mut self) -> Call {
+    /// An open that may be refused, told this edge flag.
+    pub fn open(&mut self, edge: u8) -> Call {
         let windows = if self.one_in(2) { self.windows() } else { self.any_windows() };
         Call::Open {
             graphics_base: windows.graphics_base,
             text_base: windows.text_base,
             version: self.mode(2),
             keys: self.key_words(),
+            edge,
         }
     }
 

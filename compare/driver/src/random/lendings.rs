@@ -4,6 +4,9 @@ use super::Random;
 use crate::list::Other;
 use calls::layout::*;
 
+/// Bytes that have only a few values.
+const MODES: [usize; 5] = [SCREEN_MODE, PRINT_MODE, CURSOR, VERSION, EDGE];
+
 impl Random {
     pub fn other(&mut self) -> Other {
         let mut other = Other::same();
@@ -18,7 +21,8 @@ impl Random {
         other
     }
 
-    /// Also a record that ends before the part of a panel: 170 bytes hold panel 0's alone.
+    /// Also a record that ends before the part of a panel: 170 bytes hold panel 0's alone. One byte too few
+    /// lacks the edge flag.
     fn record_length(&mut self) -> usize {
         if self.one_in(3) { part(self.below(PANELS)).start } else { self.length(RECORD, 70) }
     }
@@ -37,7 +41,7 @@ impl Random {
             0 => bytes.push((self.below(4), self.byte())),
             1 => bytes.push((ROW, self.pick(&[4, 5, 6, 128, 255]))),
             2 => bytes.push((COLUMN, self.pick(&[19, 20, 21, 128, 255]))),
-            3 => bytes.push((SCREEN_MODE + self.below(4), self.pick(&[0, 1, 2, 3, 4, 128, 255]))),
+            3 => bytes.push((self.pick(&MODES), self.pick(&[0, 1, 2, 3, 4, 128, 255]))),
             4..7 => self.change_rect(bytes),
             7 => bytes.push((FLAGS + self.below(CELLS), self.pick(&[0, 1, 2, 3, 128, 255]))),
             8 if self.one_in(2) => bytes.push((KEYS + self.below(32), self.byte())),

@@ -2,6 +2,7 @@
 
 mod bitmaps;
 mod calls;
+mod edges;
 mod lendings;
 mod lists;
 mod numbers;

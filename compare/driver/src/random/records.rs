@@ -4,7 +4,8 @@ use super::Random;
 use calls::layout::*;
 
 impl Random {
-    pub fn valid_record(&mut self) -> Vec<u8> {
+    /// One with this edge flag.
+    pub fn valid_record(&mut self, edge: u8) -> Vec<u8> {
         let mut record = vec![0; RECORD];
         let windows = self.windows();
         record[GRAPHICS_BASE..][..2].copy_from_slice(&windows.graphics_base.to_le_bytes());
@@ -33,6 +34,7 @@ impl Random {
                 _ => self.below(2) as u8,
             };
         }
+        record[EDGE] = edge;
         record
     }
 

@@ -12,6 +12,8 @@ macro_rules! assert_both_found {
 }
 
 mod bitmaps;
+mod edge;
+mod edge_flag;
 mod gap;
 mod panels;
 mod pokes;
@@ -110,9 +112,9 @@ fn a_made_up_lines_sent_count() {
 fn owed_always_the_whole_screen() {
     fn answer(call: &Call, lent: Lent) -> Answer {
         spoiled(call, lent, |answer, lent| {
-            let owed = &mut lent.record[owed(0)..in_hand(0)];
-            if answer.accepted() && *owed != [0; 8] {
-                owed.copy_from_slice(&[0, 0, 0, 0, 160, 0, 80, 0]);
+            let place = owed(0)..in_hand(0);
+            if answer.accepted() && lent.record[place.clone()] != [0; 8] {
+                lent.record[place].copy_from_slice(&[0, 0, 0, 0, 160, 0, 80, 0]);
             }
         })
     }

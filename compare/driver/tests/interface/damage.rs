@@ -13,7 +13,7 @@ const NAMES: Text = |texts| &mut texts.names;
 /// A text, what stands there, what is put in its first place, and what the complaint names.
 type Damage = (Text, &'static str, &'static str, &'static str);
 
-const DAMAGES: [Damage; 42] = [
+const DAMAGES: [Damage; 51] = [
     // A parameter left out, or one too many.
     (SOURCES, "x : u8 , ", "", "caption_draw_"),
     (HEADER, "uint8_t x , ", "", "caption_draw_point"),
@@ -26,6 +26,10 @@ const DAMAGES: [Damage; 42] = [
     (HEADER, ", uint8_t number", "", "caption_send"),
     (TABLE, "| record, const memory, panel | number |", "| record, const memory, panel | |", "caption_send"),
     (DECLARATIONS, "number : u8 , ", "", "caption_send"),
+    (SOURCES, "keys7 : u32 , edge : u8", "keys7 : u32", "caption_open"),
+    (HEADER, "uint32_t keys7 , uint8_t edge", "uint32_t keys7", "caption_open"),
+    (TABLE, "keys0-7 (u32), edge", "keys0-7 (u32)", "caption_open"),
+    (DECLARATIONS, "keys7 : u32 , edge : u8", "keys7 : u32", "caption_open"),
     // A length left out, or of another kind.
     (HEADER, "size_t record_len , ", "", "record_len"),
     (HEADER, "size_t record_len", "uint32_t record_len", "record_len"),
@@ -41,7 +45,12 @@ const DAMAGES: [Damage; 42] = [
     (SOURCES, "number : u8", "number : u32", "caption_send"),
     (HEADER, "uint8_t number", "uint32_t number", "caption_send"),
     (DECLARATIONS, "number : u8", "number : u32", "caption_send"),
+    (SOURCES, "keys7 : u32 , edge : u8", "keys7 : u32 , edge : u32", "caption_open"),
+    (HEADER, "uint8_t edge", "uint32_t edge", "caption_open"),
+    (TABLE, "keys0-7 (u32), edge", "keys0-7 (u32), edge (u32)", "caption_open"),
+    (DECLARATIONS, "edge : u8", "edge : u32", "caption_open"),
     // Two parameters in each other's place.
+    (HEADER, "uint32_t keys7 , uint8_t edge", "uint8_t edge , uint32_t keys7", "caption_open"),
     (HEADER, "uint8_t x , uint8_t y", "uint8_t y , uint8_t x", "caption_draw_point"),
     (TABLE, "| x, y, mode |", "| y, x, mode |", "caption_draw_point"),
     (DECLARATIONS, "x : u8 , y : u8", "y : u8 , x : u8", "caption_draw_point"),

@@ -9,7 +9,7 @@ use calls::layout::{HEIGHT, WIDTH};
 use calls::{Buffers, Call};
 
 const LONGEST: usize = 4_096;
-const OPEN: Call = Call::Open { graphics_base: 4_096, text_base: 8_192, version: 1, keys: [0; 8] };
+const OPEN: Call = Call::Open { graphics_base: 4_096, text_base: 8_192, version: 1, keys: [0; 8], edge: 0 };
 
 /// The panel that the program sends to, and whose pixels and lines it counts.
 pub const SENT_TO: u8 = 0;

@@ -28,6 +28,7 @@ pub fn valid(record: &[u8]) -> bool {
         && rect_valid(record, DIRTY, 256, 256)
         && (0..PANELS).all(|panel| panel_valid(record, panel))
         && flags_valid(&record[FLAGS..FLAGS_END])
+        && record[EDGE] <= 1
 }
 
 /// No bit but the lowest is set in any. Joined first: some 20 ns faster than a test for each.

@@ -3,6 +3,7 @@
 mod bitmaps;
 mod cues;
 mod drawings;
+mod edges;
 mod flushes;
 mod pokes;
 mod sends;
@@ -32,6 +33,7 @@ pub fn rows(core: Option<Answering>) -> Vec<Row> {
         set_row("set_row, all owed, plain Rust with its tests", all_owed(), core),
     ];
     rows.extend(drawings::rows(core));
+    rows.extend(edges::rows(core));
     rows.extend(pokes::rows(core));
     rows.extend(bitmaps::rows(core));
     rows.extend(text::rows(core));
