@@ -131,15 +131,15 @@ uint32_t caption_reset(uint8_t *record, size_t record_len, uint8_t *memory, size
 uint32_t caption_draw_point(uint8_t *record, size_t record_len, uint8_t *memory, size_t memory_len, uint8_t x, uint8_t y, uint8_t mode);
 
 /* Both ends included; marks their rectangle. A horizontal line (y1 = y2, so equal ends too) is clamped, not clipped: x beyond 159 counts as 159, y beyond 79 as
-   79; with CAPTION_EDGE_STOP its pixels off the screen are left out, and it owes only what of its mark lies on the screen. Of any other line the pixels off the
-   screen are left out, and in Unknown it does nothing and marks nothing. A sloped line goes from its left end by 8-bit
-   error sums, as in the Rust original: where the ends lie over 256 apart, across and down together, the sums wrap and it may miss its right end.
-   Refusals: LENT, STATE, VALUE (mode). */
+   79; with CAPTION_EDGE_STOP its pixels off the screen are left out, and only what of its mark lies on the screen is owed. Of any other line the pixels off the
+   screen are left out, and in Unknown it does nothing and marks nothing. A sloped line goes from its left end by 8-bit error sums, as in the Rust original: where
+   the ends lie over 256 apart, across and down together, the sums wrap and it may miss its right end. Refusals: LENT, STATE, VALUE (mode). */
 uint32_t caption_draw_line(uint8_t *record, size_t record_len, uint8_t *memory, size_t memory_len, uint8_t x1, uint8_t y1, uint8_t x2,
                            uint8_t y2, uint8_t mode);
 
 /* Any two opposite corners, included; marks their rectangle. fill 1: every row is a horizontal line, so each beyond 79 falls on row 79 again, or with
-   CAPTION_EDGE_STOP on none. fill 0: top and bottom, which are horizontal lines, then left and right, which are not, unless Unknown; in Xor a pixel that is drawn twice, as each corner, is as it was. Refusals: LENT, STATE, VALUE (fill, mode). */
+   CAPTION_EDGE_STOP on none. fill 0: top and bottom as horizontal lines, then left and right unless Unknown, clipped with either flag; in Xor a pixel that is
+   drawn twice, as each corner, is as it was. Refusals: LENT, STATE, VALUE (fill, mode). */
 uint32_t caption_draw_box(uint8_t *record, size_t record_len, uint8_t *memory, size_t memory_len, uint8_t x1, uint8_t y1, uint8_t x2,
                           uint8_t y2, uint8_t fill, uint8_t mode);
 

@@ -146,7 +146,7 @@ unfolding filledBox draw beyond
 box-beyond st h Clamp left top right bottom d s p q = clash _ q p
 box-beyond st h Stop left top right bottom d s p q = rw (rows-off st h left right top (suc (bottom - top)) d (beyond-off st h left top (sym p ∙ q)))
 
--- it ends below its top
+-- that row lies no higher than the top
 pub low-in : (st h : ℕ) (edge : Edge) (left top bottom : ℕ) {t : Bool} {low : ℕ} → top ≤ bottom → t ≡ beyond st h edge left top → t ≡ false → low ≡ lastRow h edge bottom → top ≤ low
 unfolding lastRow
 low-in st h Clamp left top bottom o p q k = omega arith
