@@ -114,11 +114,13 @@ fn differing(both: &Both) -> Vec<(usize, u8)> {
 
 #[test]
 fn lines_stop_at_the_edge_with_flag_1() {
+    let smallest = Call::DrawLine { x1: 160, y1: 0, x2: 160, y2: 0, mode: 1 };
     let line = Call::DrawLine { x1: 200, y1: 90, x2: 210, y2: 90, mode: 1 };
     let bar = Call::DrawBox { x1: 0, y1: 78, x2: 7, y2: 80, fill: 1, mode: 2 };
     let outline = Call::DrawBox { x1: 150, y1: 5, x2: 170, y2: 9, fill: 0, mode: 2 };
     let disc = Call::DrawCircle { x: 20, y: 81, r: 1, fill: 1, mode: 1 };
     for (call, differing_with_1) in [
+        (smallest, vec![(LINE - 1, 0x01)]),
         (line, vec![(SCREEN - 1, 0x01)]),
         (bar, vec![(79 * LINE, 0xff)]),
         (outline, vec![]),

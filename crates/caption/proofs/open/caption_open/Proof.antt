@@ -37,7 +37,8 @@ returns c =
     let if2 = edge-fits .before in
     let windows-fit = if2 .before in
     let if1 = windows-fit .before in
-    open-ends _ _ _ _ _ _ _ (if1 .before .before .glass-of .ensures) (if1 .if1 .taken) (windows-fit .windows-fit .ensures) (if2 .if2 .taken)
+    let s = if1 .before .before .before .before .before in
+    open-ends _ _ _ _ _ _ (s .args .edge) (if1 .before .before .glass-of .ensures) (if1 .if1 .taken) (windows-fit .windows-fit .ensures) (if2 .if2 .taken)
     (edge-fits .edge-fits .ensures) (if3 .if3 .taken) (opens .«open» .ensures)
 
 returns-2 : tie.Need-returns-2
@@ -46,7 +47,8 @@ returns-2 c =
     let if2 = edge-fits .before in
     let windows-fit = if2 .before in
     let if1 = windows-fit .before in
-    open-value _ _ _ _ _ _ _ (if1 .before .before .glass-of .ensures) (if1 .if1 .taken) (windows-fit .windows-fit .ensures) (if2 .if2 .taken)
+    let s = if1 .before .before .before .before .before in
+    open-value _ _ _ _ _ _ (s .args .edge) (if1 .before .before .glass-of .ensures) (if1 .if1 .taken) (windows-fit .windows-fit .ensures) (if2 .if2 .taken)
     (edge-fits .edge-fits .ensures) (c .if3 .left)
 
 returns-3 : tie.Need-returns-3
