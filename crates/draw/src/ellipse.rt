@@ -5,12 +5,13 @@ ghost use Prim.Native.Nat.{_+_, _≤_, _<_, max};
 ghost use lib.Dec.{ltb};
 ghost use Rattle.model.specs.Pixels.{Screen, draw, seen};
 ghost use Rattle.model.specs.Marks.{drawn, drawnOn};
-ghost use Rattle.model.specs.Ellipses.{part, parts, up, down, corners, chord, chords, partWrites, wraps, ellipseMark, isPoint, isNothing, ellipse, radiiFit};
+ghost use Rattle.model.specs.Ellipses.{part, parts, up, down, corners, chords, partWrites, wraps, ellipseMark, isPoint, isNothing, ellipse, radiiFit};
 ghost use Rattle.laws.specs.Ellipses.{Round};
 ghost use Rattle.laws.specs.EllipseWalks.{painted};
 ghost use Rattle.pixels.specs.Raster.{modeOf, IsOp};
 ghost use Rattle.ellipse_walk.specs.Walk.{partsOf};
 use draw_lines::ends::greatest;
+use draw_lines::line::draw_clamped;
 use draw_lines::line::draw_hor_line;
 use draw_lines::line::is_unknown;
 use ellipse_walk::EllipsePart;
@@ -68,17 +69,7 @@ fn chord_left(left: u8, right: u8) -> u8
     if right < left { 0 } else { left }
 }
 
-// From corner to corner of line y; where the left one wrapped, from 0.
-fn draw_chord(canvas: Canvas, screen: &mut [u8], edge: Edge, x: u8, a: u8, y: u8, op: RasterOp)
-    requires { ⌜ Screen (canvas .stride) (canvas .height) (now screen) ⌝ }
-    requires { ⌜ IsOp op ⌝ }
-    ensures { λ _. ⌜ now (screen .exit) ≡ draw (canvas .stride) (seen (canvas .stride) (canvas .height) (chord (canvas .stride) (canvas .height) edge x a y (modeOf op))) (now (screen .entry)) ⌝ }
-{
-    let right = up(x, a);
-    let left = chord_left(down(x, a), right);
-    draw_hor_line(canvas, screen, edge, left, right, y, op);
-}
-
+// Two horizontals from corner to corner; where the left one wrapped, from 0. Where they are clamped none is left out, so the flag is asked for once.
 fn draw_chords(
     canvas: Canvas,
     screen: &mut [u8],
@@ -93,8 +84,20 @@ fn draw_chords(
     requires { ⌜ IsOp op ⌝ }
     ensures { λ _. ⌜ now (screen .exit) ≡ draw (canvas .stride) (seen (canvas .stride) (canvas .height) (chords (canvas .stride) (canvas .height) edge x y (modeOf op) (part a b))) (now (screen .entry)) ⌝ }
 {
-    draw_chord(canvas, screen, edge, x, a, down(y, b), op);
-    draw_chord(canvas, screen, edge, x, a, up(y, b), op);
+    let right = up(x, a);
+    let left = chord_left(down(x, a), right);
+    let top = down(y, b);
+    let bottom = up(y, b);
+    match edge {
+        Edge::Clamp => {
+            draw_clamped(canvas, screen, left, right, top, op);
+            draw_clamped(canvas, screen, left, right, bottom, op);
+        }
+        Edge::Stop => {
+            draw_hor_line(canvas, screen, edge, left, right, top, op);
+            draw_hor_line(canvas, screen, edge, left, right, bottom, op);
+        }
+    }
 }
 
 fn draw_part(

@@ -41,14 +41,15 @@ pub fn is_beyond(canvas: Canvas, edge: Edge, x: u8, y: u8) -> bool
     requires { ⌜ canvas .stride ≤ 32 ⌝ }
     ensures { λ r. ⌜ r ≡ beyond (canvas .stride) (canvas .height) edge x y ⌝ }
 {
+    let off = !on_screen(canvas, x as usize, y as usize);
     match edge {
         Edge::Clamp => false,
-        Edge::Stop => !on_screen(canvas, x as usize, y as usize),
+        Edge::Stop => off,
     }
 }
 
 // Clamped to the screen, not clipped.
-fn draw_clamped(canvas: Canvas, screen: &mut [u8], left: u8, right: u8, y: u8, op: RasterOp)
+pub fn draw_clamped(canvas: Canvas, screen: &mut [u8], left: u8, right: u8, y: u8, op: RasterOp)
     requires { ⌜ Screen (canvas .stride) (canvas .height) (now screen) ⌝ }
     requires { ⌜ left ≤ right ⌝ }
     requires { ⌜ IsOp op ⌝ }

@@ -9,6 +9,7 @@ use lib.Dec.{ltb, leb, eqb}
 use borrow.Author.Tests.{le-ltb}
 use Rattle.model.specs.declared.Rect.{Rect}
 use Rattle.model.specs.declared.Edge.{Edge}
+use Rattle.model.specs.declared.Edge.the-variants.{Clamp}
 use Rattle.model.specs.declared.DrawMode.{DrawMode}
 use Rattle.model.specs.Pixels.{PixelWrite, onScreen, seen, draw}
 use Rattle.model.specs.Rects.{none, fits, In}
@@ -16,7 +17,7 @@ use Rattle.model.specs.Marks.{whole, within, owes, drawn, drawnOn}
 use Rattle.model.specs.Points.{point, pointWrite}
 use Rattle.model.specs.Ellipses.{Part, parts, up, down, corners, chord, chords, partWrites, partsWrites, wraps, ellipseMark, ellipseDrawn, isPoint, isNothing, ellipse, radiiFit, stepsFit, part}
 use Rattle.model.specs.declared.Marks.{Marks}
-use Rattle.model.specs.Lines.{horizontal, owedBy}
+use Rattle.model.specs.Lines.{clamped, horizontal, owedBy}
 use Rattle.laws.specs.Tests.{tests, if-cases, by-test, either, and-true, and-false, or-right, neither, clash}
 use Rattle.laws.specs.Rects.{fits-passes}
 use Rattle.laws.specs.Pixels.{Each}
@@ -156,16 +157,18 @@ corners-drawn st h x y a b d s s₁ e {l} {r} {t} {m} pl pr pt pm k₁ k =
 pub chord-order : (left right : ℕ) {l : ℕ} → l ≡ cond (ltb right left) 0 left → l ≤ right
 chord-order left right e = rw e (if-cases (λ (n : ℕ). n ≤ right) (ltb right left) (λ t. omega arith) (λ t. omega (arith, tests)))
 
-pub chord-drawn : (st h : ℕ) (edge : Edge) (x a y : ℕ) (d : DrawMode) (s e : List ℕ) {l f r : ℕ} → r ≡ up x a → l ≡ down x a → f ≡ cond (ltb r l) 0 l
-    → e ≡ draw st (seen st h (horizontal st h edge f r y d)) s → e ≡ draw st (seen st h (chord st h edge x a y d)) s
-unfolding chord
-chord-drawn st h edge x a y d s e pr pl pf k = cc
+-- of the part (a, b): two horizontals one after the other, from f to r of the lines t and m
+module _ (st h : ℕ) (edge : Edge) (x y a b : ℕ) (d : DrawMode) (s s₁ e : List ℕ) {l f r t m : ℕ}
+    (pr : r ≡ up x a) (pl : l ≡ down x a) (pf : f ≡ cond (ltb r l) 0 l) (pt : t ≡ down y b) (pm : m ≡ up y b) where
+  pub chords-drawn : s₁ ≡ draw st (seen st h (horizontal st h edge f r t d)) s → e ≡ draw st (seen st h (horizontal st h edge f r m d)) s₁
+      → e ≡ draw st (seen st h (chords st h edge x y d (part a b))) s
+  unfolding chords chord
+  chords-drawn k₁ k = cc (drawn-append st h (horizontal st h edge f r t d) (horizontal st h edge f r m d) s)
 
-pub chords-drawn : (st h : ℕ) (edge : Edge) (x y a b : ℕ) (d : DrawMode) (s s₁ e : List ℕ) {t m : ℕ} → t ≡ down y b → m ≡ up y b
-    → s₁ ≡ draw st (seen st h (chord st h edge x a t d)) s → e ≡ draw st (seen st h (chord st h edge x a m d)) s₁
-    → e ≡ draw st (seen st h (chords st h edge x y d (part a b))) s
-unfolding chords
-chords-drawn st h edge x y a b d s s₁ e {t} {m} pt pm k₁ k = cc (drawn-append st h _ _ s)
+  pub chords-clamped : edge ≡ Clamp → s₁ ≡ draw st (seen st h (clamped st h f r t d)) s → e ≡ draw st (seen st h (clamped st h f r m d)) s₁
+      → e ≡ draw st (seen st h (chords st h edge x y d (part a b))) s
+  unfolding horizontal
+  chords-clamped c k₁ k = chords-drawn (rw c k₁) (rw c k)
 
 pub part-filled : (st h : ℕ) (edge : Edge) (x y : ℕ) (d : DrawMode) (q : Part) (s e : List ℕ) {fill : Bool} → fill ≡ true
     → e ≡ draw st (seen st h (chords st h edge x y d q)) s → e ≡ draw st (seen st h (partWrites st h edge x y fill d q)) s
