@@ -102,7 +102,8 @@ module _ (graphics text version : ℕ) (keys : List ℕ) (edge : ℕ) (t : Typed
       let l = lent (b .rec) (b .memory) [] in
       let resets : accepted base reset l =
       own-decide base reset l (record { sized = opened .record-length; lengths = eq-eqb (length (b .memory)) 65536 (opened .memory-length); state = (opened .passes, tt) }) in
-      promised (here reset tt ∷ []) .edge ∙ rw (a, resets) refl
+      let told : lastEdge base k 0 start (first ∷ here reset tt ∷ []) ≡ edge = rw (a, resets) refl in
+      omega (arith, promised (here reset tt ∷ []) .edge, told)
 
   module _ (all : (k : ℕ) → k < 4 → length (getD ps k []) ≡ 1600) where
     abbrev opened : Buffers
