@@ -3,22 +3,24 @@
 use mathlib.Core.Path.{_≡_, refl, ap, _∙_}
 use mathlib.Core.Logic.{_⊎_, inl, inr, _↔_}
 use mathlib.Core.Bool.{true, false, _&&_}
-use mathlib.Core.List.{List, [], _∷_}
-use Prim.Native.Nat.{ℕ, suc, _+_, _-_, _*_, _≤_, _<_, min, zero}
+use mathlib.Core.List.{List, [], _∷_, _++_}
+use Prim.Native.Nat.{ℕ, zero, suc, _+_, _-_, _*_, _/_, _≤_, _<_, min}
+use native.Mathlib.Nat.{div-mul-le-self, div-lt-iff-lt-mul, lt-div-mul-add}
 use native.Mathlib.Omega.{arith}
-use lib.ListN.{length, replicate, length-replicate}
+use lib.ListN.{length, getD, set, replicate, length-set, length-append, length-replicate}
+use lib.Seq.{set-at, getD-at, append-snoc}
 use lib.Dec.{ltb}
 use borrow.Author.Tests.{le-ltb}
 use Rattle.model.specs.declared.Rect.{Rect}
-use Rattle.model.specs.Rects.{none, In, isEmpty, cut, linesOf, fits}
+use Rattle.model.specs.Rects.{none, In, isEmpty, join, cut, linesOf, fits}
 use Rattle.model.specs.Marks.{joinOwed, whole, owing}
 use Rattle.model.specs.Sends.{firstOwed, restOwed, takeOwed, nextLine, lineSent, sendPending, lineNumbers, sendNumbers}
-use Rattle.model.specs.Lists.{owedLines, InAny, linesLeft}
+use Rattle.model.specs.Lists.{owedLines, ownBand, linesLeft}
 use Rattle.model.specs.Geometry.{Geometry, width, height}
 use Rattle.model.specs.Record.{Pending, nothingPending, bandsFit, pendingFits, WellPending}
 use Rattle.model.specs.Open.{openPending}
-use Rattle.laws.specs.Tests.{if-cases, clash, by-test, by-lt, either, tests, and-true}
-use Rattle.laws.specs.Rects.{Fits, join-none, empty-none, is-some, in-not-none, join-left, join-right, join-fits, cut-fits, cut-in, Proper, fits-passes, passes-fits}
+use Rattle.laws.specs.Tests.{if-cases, clash, by-test, either, tests, and-true}
+use Rattle.laws.specs.Rects.{Fits, join-none, empty-none, is-some, not-in-none, in-not-none, join-left, join-right, join-fits, cut-fits, cut-in, Proper, fits-passes, passes-fits}
 
 -- each rectangle lies in its band, of b lines, the first from line lo
 abbrev pub BandsFit : ℕ → ℕ → ℕ → List Rect → Type 0
@@ -37,20 +39,44 @@ unfolding joinOwed
 joinOwed-fits w b lo m [] f = tt
 joinOwed-fits w b lo m (r ∷ rs) f = (join-fits w lo (lo + b) r (cut w lo (lo + b) m) (f .0) (cut-fits w lo (lo + b) m), joinOwed-fits w b (lo + b) m rs (f .1))
 
-pub joinOwed-keeps : (w b lo : ℕ) (m : Rect) (rs : List Rect) (x y : ℕ) → InAny rs x y → InAny (joinOwed w b lo m rs) x y
+-- band i has its own part of the mark
+getD-joinOwed : (w b lo : ℕ) (m : Rect) (rs : List Rect) (i : ℕ) → i < length rs → getD (joinOwed w b lo m rs) i none ≡ join (getD rs i none) (cut w (lo + i * b) (lo + i * b + b) m)
 unfolding joinOwed
-joinOwed-keeps w b lo m [] x y i = i
-joinOwed-keeps w b lo m (r ∷ rs) x y (inl i) = inl (join-left r (cut w lo (lo + b) m) x y i)
-joinOwed-keeps w b lo m (r ∷ rs) x y (inr i) = inr (joinOwed-keeps w b (lo + b) m rs x y i)
+getD-joinOwed w b lo m [] i h = absurd (omega arith)
+getD-joinOwed w b lo m (r ∷ rs) zero h = let e : lo + 0 * b ≡ lo = omega arith in rw e refl
+getD-joinOwed w b lo m (r ∷ rs) (suc i) h =
+    let e : lo + b + i * b ≡ lo + suc i * b = omega arith in
+    getD-joinOwed w b (lo + b) m rs i (omega arith) ∙ ap (λ (k : ℕ). join (getD rs i none) (cut w k (k + b) m)) e
 
-pub joinOwed-marks : (w b lo : ℕ) (m : Rect) (rs : List Rect) (x y : ℕ) → x < w → lo ≤ y → y < lo + length rs * b → In m x y
-    → InAny (joinOwed w b lo m rs) x y
-unfolding joinOwed
-joinOwed-marks w b lo m [] x y hx hl hh i = omega arith
-joinOwed-marks w b lo m (r ∷ rs) x y hx hl hh i =
-    by-lt y (lo + b)
-    (λ l. inl (join-right r (cut w lo (lo + b) m) x y (cut-in w lo (lo + b) m x y hx hl l i)))
-    (λ l. inr (joinOwed-marks w b (lo + b) m rs x y hx l (omega arith) i))
+-- ---- a line's own band
+
+-- line y is one of its band's
+record OwnBand (g : Geometry) (y : ℕ) : Type 0 where
+  there : y / g .band < g .bands
+  from : 0 + y / g .band * g .band ≤ y
+  to : y < 0 + y / g .band * g .band + g .band
+
+pub band-some : (n b y : ℕ) → y < n * b → 0 < b
+band-some n zero y h = absurd (omega arith)
+band-some n (suc b) y h = omega arith
+
+own-band : (g : Geometry) (y : ℕ) → y < height g → OwnBand g y
+own-band g y h =
+    let s = band-some (g .bands) (g .band) y h in
+    record { there = div-lt-iff-lt-mul s .1 h; from = omega (arith, div-mul-le-self y (g .band)); to = omega (arith, lt-div-mul-add {a = y} s) }
+
+module _ (g : Geometry) (m : Rect) (p : Pending) (n : length (p .owed) ≡ g .bands) (x y : ℕ) (h : y < height g) where
+  own : ownBand g (owing g m p .owed) y ≡ join (ownBand g (p .owed) y) (cut (width g) (0 + y / g .band * g .band) (0 + y / g .band * g .band + g .band) m)
+  unfolding owing
+  own = getD-joinOwed (width g) (g .band) 0 m (p .owed) (y / g .band) (omega (arith, own-band g y h))
+
+  -- a mark keeps the pixels that are owed in their own band ..
+  pub owing-keeps : In (ownBand g (p .owed) y) x y → In (ownBand g (owing g m p .owed) y) x y
+  owing-keeps i = rw own (join-left _ _ x y i)
+
+  -- .. and adds its own
+  pub owing-marks : x < width g → In m x y → In (ownBand g (owing g m p .owed) y) x y
+  owing-marks hx i = let b = own-band g y h in rw own (join-right _ _ x y (cut-in (width g) _ _ m x y hx (b .from) (b .to) i))
 
 -- ---- owedLines
 
@@ -80,11 +106,18 @@ taken w b lo hi (r ∷ rs) f l =
     rw e (record { count = refl; rest = (inl refl, f .1); first = inr (omega arith); low = omega arith; sum = omega arith }))
 
 -- and no pixel is lost
-pub in-split : (rs : List Rect) (x y : ℕ) → InAny rs x y → In (firstOwed rs) x y ⊎ InAny (restOwed rs) x y
+pub in-split : (rs : List Rect) (i x y : ℕ) → In (getD rs i none) x y → In (firstOwed rs) x y ⊎ In (getD (restOwed rs) i none) x y
 unfolding firstOwed restOwed
-in-split [] x y i = absurd i
-in-split (r ∷ rs) x y (inl i) = rw (in-not-none r x y i) (inl i)
-in-split (r ∷ rs) x y (inr i) = by-test (isEmpty r) (λ e. rw e (either (in-split rs x y i) inl (λ k. inr (inr k)))) (λ e. rw e (inr (inr i)))
+in-split [] i x y k = absurd (not-in-none x y k)
+in-split (r ∷ rs) zero x y k = rw (in-not-none r x y k) (inl k)
+in-split (r ∷ rs) (suc i) x y k = by-test (isEmpty r) (λ e. rw e (in-split rs i x y k)) (λ e. rw e (inr k))
+
+-- a pixel that is owed is one of a line that is owed
+pub in-lines : (rs : List Rect) (i x y : ℕ) → In (getD rs i none) x y → 0 < owedLines rs
+unfolding owedLines
+in-lines [] i x y k = absurd (not-in-none x y k)
+in-lines (r ∷ rs) zero x y k = omega arith
+in-lines (r ∷ rs) (suc i) x y k = omega (arith, in-lines rs i x y k)
 
 -- nothing is taken only where nothing is owed
 first-none : (rs : List Rect) → isEmpty (firstOwed rs) ≡ true → (owedLines rs ≡ 0) × (restOwed rs ≡ rs)
@@ -132,11 +165,60 @@ module _ (g : Geometry) (p : Pending) where
 
 -- ---- a mark
 
+-- the rectangle of one band, and another in its place
+bands-at : (w b lo : ℕ) (rs : List Rect) (i : ℕ) → i < length rs → BandsFit w b lo rs → Fits w (lo + i * b) (lo + i * b + b) (getD rs i none)
+bands-at w b lo [] i h f = absurd (omega arith)
+bands-at w b lo (r ∷ rs) zero h f = let e : lo + 0 * b ≡ lo = omega arith in rw e (f .0)
+bands-at w b lo (r ∷ rs) (suc i) h f = let e : lo + suc i * b ≡ lo + b + i * b = omega arith in rw e (bands-at w b (lo + b) rs i (omega arith) (f .1))
+
+bands-set : (w b lo : ℕ) (rs : List Rect) (i : ℕ) (q : Rect) → i < length rs → Fits w (lo + i * b) (lo + i * b + b) q → BandsFit w b lo rs → BandsFit w b lo (set rs i q)
+bands-set w b lo [] i q h n f = absurd (omega arith)
+bands-set w b lo (r ∷ rs) zero q h n f = let e : lo + 0 * b ≡ lo = omega arith in (rw e at n, f .1)
+bands-set w b lo (r ∷ rs) (suc i) q h n f = let e : lo + suc i * b ≡ lo + b + i * b = omega arith in (f .0, bands-set w b (lo + b) rs i q (omega arith) (rw e at n) (f .1))
+
 pub well-owing : (g : Geometry) (m : Rect) (p : Pending) → WellPending g p → WellPending g (owing g m p)
 unfolding owing
 well-owing g m p w =
     well-pending g (owing g m p) (length-joinOwed (width g) (g .band) 0 m (p .owed) ∙ w .bands)
     (joinOwed-fits (width g) (g .band) 0 m (p .owed) (owed-fits g p w)) (hand-fits g p w) (w .counted)
+
+-- the part of a mark in band i
+abbrev pub bandPart : Geometry → Rect → ℕ → Rect
+bandPart g m i = cut (width g) (i * g .band) (i * g .band + g .band) m
+
+-- it is joined to what a panel is owed there
+unfoldable pub owingIn : Geometry → Rect → ℕ → Pending → Pending
+owingIn g m i p = record { owed = set (p .owed) i (join (getD (p .owed) i none) (bandPart g m i)); hand = p .hand; sent = p .sent }
+
+pub well-in : (g : Geometry) (m : Rect) (i : ℕ) → i < g .bands → (p : Pending) → WellPending g p → WellPending g (owingIn g m i p)
+unfolding owingIn
+well-in g m i h p w =
+    let f = owed-fits g p w in
+    let there : i < length (p .owed) = omega (arith, w .bands) in
+    let e : 0 + i * g .band ≡ i * g .band = omega arith in
+    let stands = bands-at (width g) (g .band) 0 (p .owed) i there f in
+    let new = join-fits (width g) (i * g .band) (i * g .band + g .band) (getD (p .owed) i none) (bandPart g m i) (rw e at stands) (cut-fits (width g) (i * g .band) (i * g .band + g .band) m) in
+    well-pending g (owingIn g m i p) (length-set (p .owed) i _ ∙ w .bands) (bands-set (width g) (g .band) 0 (p .owed) i _ there (rw e new) f) (hand-fits g p w) (w .counted)
+
+-- the parts in the bands from i on, n of them, one after another
+unfoldable pub owingFrom : Geometry → Rect → ℕ → ℕ → Pending → Pending
+owingFrom g m i zero p = p
+owingFrom g m i (suc n) p = owingFrom g m (suc i) n (owingIn g m i p)
+
+from-owed : (g : Geometry) (m : Rect) (a b : List Rect) (i : ℕ) (p : Pending) → p .owed ≡ a ++ b → length a ≡ i
+    → owingFrom g m i (length b) p ≡ record { owed = a ++ joinOwed (width g) (g .band) (i * g .band) m b; hand = p .hand; sent = p .sent }
+unfolding owingFrom owingIn joinOwed
+from-owed g m a [] i p e n = λ j. record { owed = e j; hand = p .hand; sent = p .sent }
+from-owed g m a (q ∷ b) i p e n =
+    let new = join q (bandPart g m i) in
+    let next : suc i * g .band ≡ i * g .band + g .band = omega arith in
+    let here : owingIn g m i p .owed ≡ (a ++ (new ∷ [])) ++ b = cc (set-at a q b new i n, getD-at a q b none i n, append-snoc a new b) in
+    cc (from-owed g m (a ++ (new ∷ [])) b (suc i) (owingIn g m i p) here (omega (arith, length-append a (new ∷ []))), append-snoc a new (joinOwed (width g) (g .band) (i * g .band + g .band) m b))
+
+-- in all of them: the whole mark
+pub owing-bands : (g : Geometry) (m : Rect) (p : Pending) → length (p .owed) ≡ g .bands → owingFrom g m 0 (g .bands) p ≡ owing g m p
+unfolding owing
+owing-bands g m p n = let e : 0 * g .band ≡ 0 = omega arith in cc (from-owed g m [] (p .owed) 0 p refl refl)
 
 bands-none : (w b lo n : ℕ) → BandsFit w b lo (replicate n none)
 bands-none w b lo zero = tt

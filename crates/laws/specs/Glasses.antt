@@ -12,13 +12,13 @@ base-glass = search arith
 pub record RecordTable : Type 0 where
   pub head-at : at base head ≡ 0
   pub panel-at : at base (panel 0) ≡ 18
-  pub keys-at : at base keys ≡ 38
-  pub flags-at : at base flags ≡ 70
-  pub panel-1-at : at base (panel 1) ≡ 170
-  pub panel-2-at : at base (panel 2) ≡ 190
-  pub panel-3-at : at base (panel 3) ≡ 210
-  pub edge-at : at base edge ≡ 230
-  pub bytes : recordBytes base ≡ 231
+  pub keys-at : at base keys ≡ 70
+  pub flags-at : at base flags ≡ 102
+  pub panel-1-at : at base (panel 1) ≡ 202
+  pub panel-2-at : at base (panel 2) ≡ 254
+  pub panel-3-at : at base (panel 3) ≡ 306
+  pub edge-at : at base edge ≡ 358
+  pub bytes : recordBytes base ≡ 359
 
 pub record-table : RecordTable
 unfolding offset total

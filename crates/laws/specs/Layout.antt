@@ -4,13 +4,16 @@ use mathlib.Core.List.{List, [], _∷_, _++_}
 use Prim.Native.Nat.{ℕ, zero, suc, _+_, _*_, _/_, _%_, _<_, _≤_}
 use native.Mathlib.Nat.{add-zero, zero-add, add-assoc, div-div-eq-div-mul}
 use native.Mathlib.Omega.{arith}
-use lib.ListN.{length, getD, take, drop, length-take, length-drop, take-append-drop, List·getD-eq-default}
+use lib.ListN.{length, getD, set, take, drop, length-take, length-drop, take-append-drop, List·getD-eq-default}
 use lib.Seq.{length-take-le, take-all, drop-drop, ext-getD, getD-take, getD-drop}
 use Rattle.model.specs.declared.Rect.{Rect}
+use Rattle.model.specs.Rects.{none}
+use Rattle.model.specs.Memory.{withWindow}
 use Rattle.model.specs.Bytes.{two, four, rectAt, rectsAt, wordsAt, fourBytes, rectBytes, rectsBytes, wordsBytes, Bytes, Words}
 use Rattle.model.specs.Record.{listing}
 use Rattle.laws.specs.Tests.{by-lt, either}
 use Rattle.laws.specs.Rects.{Fits, rect-equal}
+use Rattle.laws.specs.Memory.{window-past}
 use Rattle.laws.specs.Bands.{BandsFit}
 
 -- ---- bytes
@@ -36,6 +39,18 @@ bytes-append (x ∷ a) b p q = bytes-cons x (a ++ b) (p 0) (bytes-append a b (λ
 pub bytes-take : (n : ℕ) (l : List ℕ) → Bytes l → Bytes (take n l)
 unfolding Bytes
 bytes-take n l b i = by-lt i n (λ h. rw (getD-take n l i 0 h) (b i)) (λ h. rw (List·getD-eq-default (take n l) 0 {n = i} (simp length-take (omega arith))) (omega arith))
+
+-- elements that are each a byte
+abbrev pub AllBytes : List ℕ → Type 0
+AllBytes [] = Unit {0}
+AllBytes (x ∷ l) = (x < 256) × AllBytes l
+
+pub bytes-all : (l : List ℕ) → AllBytes l → Bytes l
+bytes-all [] a = bytes-nil
+bytes-all (x ∷ l) a = bytes-cons x l (a .0) (bytes-all l (a .1))
+
+pub bytes-rect : (q : Rect) → Bytes (rectBytes q)
+bytes-rect q = bytes-all (rectBytes q) (omega arith)
 
 -- ---- where the same bytes stand, the same is read
 
@@ -180,6 +195,22 @@ length-read n r a = cc (length-rects (rectsAt n r a), length-rectsAt n r a)
 pub length-words : (ws : List ℕ) → length (wordsBytes ws) ≡ 4 * length ws
 length-words [] = refl
 length-words (w ∷ ws) = omega (arith, length-words ws)
+
+-- ---- one rectangle of several
+
+pub rect-of : (n : ℕ) (r : List ℕ) (a i : ℕ) → i < n → getD (rectsAt n r a) i none ≡ rectAt r (a + 8 * i)
+rect-of zero r a i h = absurd (omega arith)
+rect-of (suc n) r a zero h = let e : a ≡ a + 8 * 0 = omega arith in ap (rectAt r) e
+rect-of (suc n) r a (suc i) h = let e : a + 8 + 8 * i ≡ a + 8 * suc i = omega arith in rect-of n r (a + 8) i (omega arith) ∙ ap (rectAt r) e
+
+-- another in its place
+pub rects-set : (qs : List Rect) (l : List ℕ) (i : ℕ) (q : Rect) → i < length qs → withWindow (8 * i) (rectBytes q) (rectsBytes qs ++ l) ≡ rectsBytes (set qs i q) ++ l
+unfolding withWindow
+rects-set [] l i q h = absurd (omega arith)
+rects-set (x ∷ qs) l zero q h = refl
+rects-set (x ∷ qs) l (suc i) q h =
+    let e : 8 * suc i ≡ 8 + 8 * i = omega arith in
+    cc (window-past (rectBytes x) (rectsBytes qs ++ l) (rectBytes q) 8 (8 * i) refl, rects-set qs l i q (omega arith))
 
 -- ---- one word of several
 

@@ -15,6 +15,7 @@ pub mod States
 pub mod Windows
 pub mod Owed
 pub mod Panels
+pub mod Marking
 pub mod StateTest
 pub mod Loops
 pub mod Glasses

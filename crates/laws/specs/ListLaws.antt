@@ -10,6 +10,10 @@ getD-map f [] i d h = absurd (omega arith)
 getD-map f (x ∷ l) zero d h = refl
 getD-map f (x ∷ l) (suc i) d h = getD-map f l i d (omega arith)
 
+pub map-map : {A B C : Type 0} (f : B → C) (g : A → B) (l : List A) → map f (map g l) ≡ map (λ x. f (g x)) l
+map-map f g [] = refl
+map-map f g (x ∷ l) = ap (λ m. f (g x) ∷ m) (map-map f g l)
+
 pub map-agree : {A B : Type 0} (f g : A → B) (l : List A) (d : A) → ((i : ℕ) → i < length l → f (getD l i d) ≡ g (getD l i d)) → map f l ≡ map g l
 map-agree f g [] d e = refl
 map-agree f g (x ∷ l) d e = λ i. e 0 (omega arith) i ∷ map-agree f g l d (λ j h. e (suc j) (omega arith)) i

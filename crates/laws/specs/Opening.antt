@@ -18,10 +18,10 @@ use Rattle.model.specs.Marks.{whole, owing}
 use Rattle.model.specs.Open.{clearHead, clearFlags, openPending, openState}
 use Rattle.laws.specs.ListLaws.{map-replicate}
 use Rattle.laws.specs.Flags.{no-flags}
-use Rattle.laws.specs.Bands.{well-nothing}
+use Rattle.laws.specs.Bands.{well-nothing, well-open}
 use Rattle.laws.specs.PartLists.{written-same}
 use Rattle.laws.specs.Record.{Sized, all-owed, panel-has, keys-back, put-head, put-keys, put-edge}
-use Rattle.laws.specs.Panels.{markFrom, marks-state, length-owing}
+use Rattle.laws.specs.Marking.{markFrom, marks-state}
 
 -- ---- zeros
 
@@ -64,7 +64,7 @@ clear-sized g h p ks x n m = record {
 -- zeros, then the head, the keys, the edge flag and the mark
 pub opens : {v : Glass} {a b c d f : List ℕ} {h : Head} {w : Rect} (r : List ℕ) (graphics text version : ℕ) (ks : List ℕ) (x : ℕ) → Suits v → length r ≡ recordBytes (geometry v) → length ks ≡ 8
     → a ≡ zeros (length r) → h ≡ clearHead graphics text version → b ≡ withWindow 0 (bytesOfHead h) a → c ≡ withWindow (v .keys) (wordsBytes ks) b → d ≡ withWindow (v .edge) (x ∷ []) c
-    → w ≡ whole (v .stride) (height (geometry v)) → f ≡ markFrom (geometry v) w 0 (v .panels) d → f ≡ encode (geometry v) (openState (geometry v) graphics text version ks x)
+    → w ≡ whole (v .stride) (height (geometry v)) → f ≡ markFrom (geometry v) w 0 (v .bands) d → f ≡ encode (geometry v) (openState (geometry v) graphics text version ks x)
 unfolding openState openPending nothingPending
 opens {v} {h = h} r graphics text version ks x z n m e t i k y q j =
     let g = geometry v in
@@ -74,8 +74,11 @@ opens {v} {h = h} r graphics text version ks x z n m e t i k y q j =
     let first = put-head g h (clear g (headOf []) p (keysOf []) 0) (z .glass) (clear-sized g (headOf []) p (keysOf []) 0 count refl) in
     let second = put-keys g ks (clear g h p (keysOf []) 0) (z .glass) (clear-sized g h p (keysOf []) 0 count refl) m in
     let third = put-edge g x (clear g h p ks 0) (z .glass) (clear-sized g h p ks 0 count m) in
-    let fourth = marks-state g all (z .glass) (clear g h p ks x) (length-replicate (g .panels) p) (clear-sized g h p ks x count m)
-    (λ i l. rw (getD-replicate (v .panels) i p p l) (well-nothing g)) in
+    let fourth = marks-state g all (z .glass) (clear g h p ks x) (record {
+      count = length-replicate (g .panels) p;
+      sized = clear-sized g h p ks x count m;
+      well = λ i l. rw (getD-replicate (v .panels) i p p l) (well-nothing g);
+    }) in
     cc (zeros-encode g (z .glass), map-replicate (owing g all) (g .panels) p)
 
 -- what open wrote: its keys read again
@@ -83,5 +86,5 @@ pub open-keys : (g : Geometry) (graphics text version : ℕ) (ks : List ℕ) (x 
 unfolding openState openPending nothingPending
 open-keys g graphics text version ks x n w =
     let p = openPending g in
-    let count = length-owing g (whole (g .stride) (height g)) (nothingPending g) ∙ length-replicate (g .bands) none in
+    let count = well-open g .bands in
     keys-back g (clear g (clearHead graphics text version) p ks x) (clear-sized g (clearHead graphics text version) p ks x count n) w

@@ -1,5 +1,5 @@
--- The owed rectangles on the bytes, band after band: a mark joined to them, the first taken from them, the test of them. In each law `left` bands are to come, the first from
--- byte a and line lo; what is left, done to what stands, gives the whole.
+-- The owed rectangles on the bytes: one joined with a mark's part; band after band, the first taken from them, and the test of them. In these two loops what is left, done to what
+-- stands, gives the whole.
 use mathlib.Core.Path.{_≡_, refl, _∙_}
 use mathlib.Core.Bool.{Bool, true, false, not}
 use mathlib.Core.List.{List, [], _++_, append-assoc}
@@ -10,13 +10,13 @@ use lib.Seq.{drop-at, length-take-le}
 use borrow.Author.Tests.{not-true, not-false}
 use Rattle.model.specs.declared.Rect.{Rect}
 use Rattle.model.specs.Memory.{withWindow}
-use Rattle.model.specs.Rects.{none, isEmpty, fits, join, cut}
+use Rattle.model.specs.Rects.{none, isEmpty, fits, join}
 use Rattle.model.specs.Bytes.{rectAt, rectsAt, rectBytes, rectsBytes, Bytes}
 use Rattle.model.specs.Record.{bandsFit}
-use Rattle.model.specs.Marks.{joinOwed}
 use Rattle.model.specs.Sends.{firstOwed, restOwed}
+use Rattle.laws.specs.Rects.{join-none}
 use Rattle.laws.specs.Memory.{window-extend, length-withWindow}
-use Rattle.laws.specs.Layout.{rects-from, rects-again, length-read}
+use Rattle.laws.specs.Layout.{bytes-append, bytes-take, bytes-drop, bytes-rect, rects-again, length-read}
 
 -- the band that comes ends within the lines of the bands that are left
 pub band-in : (lo band left h : ℕ) → 0 < left → lo + left * band ≤ h → lo + band ≤ h
@@ -39,44 +39,29 @@ window-tail a n k s t r e f h =
     let l : a + length (s ++ t) ≡ a + n + k = omega (arith, length-append s t) in
     cc (append-assoc s t (drop (a + n + k) r))
 
--- rectangles past a store
-rects-past : (n a : ℕ) (q : Rect) (r : List ℕ) → a ≤ length r → rectsAt n (withWindow a (rectBytes q) r) (a + 8) ≡ rectsAt n r (a + 8)
-unfolding withWindow
-rects-past n a q r h =
-    let past = drop-at (take a r ++ rectBytes q) (drop (a + 8) r) (a + 8) (omega (arith, length-append (take a r) (rectBytes q), length-take-le a r h)) in
-    cc (rects-from (withWindow a (rectBytes q) r) (a + 8) n, append-assoc (take a r) (rectBytes q) (drop (a + 8) r), rects-from r (a + 8) n)
+-- ---- a rectangle joined to one that stands there
 
--- ---- a mark
+unfoldable pub joinedAt : ℕ → Rect → List ℕ → List ℕ
+joinedAt a q r = withWindow a (rectBytes (join (rectAt r a) q)) r
 
--- the bytes r with the mark m joined to the bands that are left
-unfoldable pub joined : ℕ → ℕ → ℕ → Rect → ℕ → ℕ → List ℕ → List ℕ
-joined w band lo m left a r = withWindow a (rectsBytes (joinOwed w band lo m (rectsAt left r a))) r
+pub joins-at : (a : ℕ) (q : Rect) (r : List ℕ) {s j : Rect} {r′ : List ℕ} → s ≡ rectAt r a → j ≡ join s q → r′ ≡ withWindow a (rectBytes j) r → r′ ≡ joinedAt a q r
+unfolding joinedAt
+joins-at a q r e f g = cc
 
--- where the loop stands: what is left of the bytes and of the lines, and what it comes to
-pub record Joining (w band : ℕ) (m : Rect) (bands at : ℕ) (r₀ r : List ℕ) (a lo left : ℕ) : Type 0 where
-  pub room : a + 8 * left ≤ length r
-  pub lines : lo + left * band ≤ 65535
-  pub sized : length r ≡ length r₀
-  pub same : joined w band lo m left a r ≡ joined w band 0 m bands at r₀
+pub length-joined : (a : ℕ) (q : Rect) (r : List ℕ) → a + 8 ≤ length r → length (joinedAt a q r) ≡ length r
+unfolding joinedAt
+length-joined a q r h = length-withWindow a (rectBytes (join (rectAt r a) q)) r h
 
-pub join-starts : (w band : ℕ) (m : Rect) (bands at : ℕ) (r : List ℕ) → at + 8 * bands ≤ length r → bands * band ≤ 65535 → Joining w band m bands at r r at 0 bands
-join-starts w band m bands at r h l = record { room = h; lines = omega arith; sized = refl; same = refl }
+pub bytes-joined : (a : ℕ) (q : Rect) (r : List ℕ) → Bytes r → Bytes (joinedAt a q r)
+unfolding joinedAt withWindow
+bytes-joined a q r b =
+    let s = rectBytes (join (rectAt r a) q) in
+    bytes-append (take a r) (s ++ drop (a + 8) r) (bytes-take a r b) (bytes-append s (drop (a + 8) r) (bytes-rect (join (rectAt r a) q)) (bytes-drop (a + 8) r b))
 
-pub join-goes : {w band : ℕ} {m : Rect} {bands at : ℕ} {r₀ r : List ℕ} {a lo left : ℕ} {q c j : Rect} {r′ : List ℕ} → Joining w band m bands at r₀ r a lo left → 0 < left
-    → q ≡ rectAt r a → c ≡ cut w lo (lo + band) m → j ≡ join q c → r′ ≡ withWindow a (rectBytes j) r
-    → Joining w band m bands at r₀ r′ (a + 8) (lo + band) (left - 1)
-unfolding joined joinOwed
-join-goes {left = zero} k p e f g h = absurd (omega arith)
-join-goes {w} {band} {m} {r = r} {a} {lo} {left = suc n} {j = j} {r′ = r′} k p e f g h =
-    let z : suc n - 1 ≡ n = omega arith in
-    let s : length r′ ≡ length r = cc (length-withWindow a (rectBytes j) r (omega arith)) in
-    let t = window-extend a 8 (rectBytes j) (rectsBytes (joinOwed w band (lo + band) m (rectsAt n r (a + 8)))) r refl (omega arith) in
-    record { room = omega arith; lines = rw z (omega arith); sized = s ∙ k .sized; same = cc (rects-past n a j r (omega arith)) }
-
-pub join-ends : (w band : ℕ) (m : Rect) (bands at : ℕ) (r₀ r : List ℕ) (a lo left : ℕ) → Joining w band m bands at r₀ r a lo left → left ≤ 0
-    → r ≡ joined w band 0 m bands at r₀
-unfolding joined joinOwed
-join-ends w band m bands at r₀ r a lo left k z = let e : left ≡ 0 = omega arith in cc (window-nothing a r)
+-- an empty one adds nothing
+pub joined-none : (a : ℕ) (r : List ℕ) → Bytes r → a + 8 ≤ length r → joinedAt a none r ≡ r
+unfolding joinedAt
+joined-none a r b h = cc (join-none (rectAt r a), owed-again 1 a r b (omega arith))
 
 -- ---- the first taken
 
@@ -89,44 +74,57 @@ pub record Took (left a : ℕ) (r : List ℕ) (q : Rect) (r′ : List ℕ) : Typ
   pub first : q ≡ firstOwed (rectsAt left r a)
   pub rest : r′ ≡ rested left a r
 
--- where the loop stands
-pub record Taking (bands at : ℕ) (r₀ r : List ℕ) (a left : ℕ) : Type 0 where
+-- where the loop stands: the bands before i owe nothing
+pub record Taking (bands at : ℕ) (r₀ r : List ℕ) (i : ℕ) : Type 0 where
   pub kept : r ≡ r₀
   pub sized : length r ≡ length r₀
-  pub room : a + 8 * left ≤ length r₀
-  pub first : firstOwed (rectsAt left r a) ≡ firstOwed (rectsAt bands r₀ at)
-  pub rest : rested left a r ≡ rested bands at r₀
+  pub room : at + 8 * bands ≤ length r₀
+  pub some : i ≤ bands
+  pub first : firstOwed (rectsAt (bands - i) r (at + 8 * i)) ≡ firstOwed (rectsAt bands r₀ at)
+  pub rest : rested (bands - i) (at + 8 * i) r ≡ rested bands at r₀
 
-pub take-starts : (bands at : ℕ) (r : List ℕ) → at + 8 * bands ≤ length r → Taking bands at r r at bands
-take-starts bands at r h = record { kept = refl; sized = refl; room = h; first = refl; rest = refl }
+pub take-starts : (bands at : ℕ) (r : List ℕ) → at + 8 * bands ≤ length r → Taking bands at r r 0
+take-starts bands at r h =
+    let e : at + 8 * 0 ≡ at = omega arith in
+    let f : bands - 0 ≡ bands = omega arith in
+    record { kept = refl; sized = refl; room = h; some = omega arith; first = rw (e, f) refl; rest = rw (e, f) refl }
 
--- a band that owes nothing is passed
-pub take-goes : {bands at : ℕ} {r₀ r : List ℕ} {a left : ℕ} {q : Rect} {t : Bool} → Taking bands at r₀ r a left → 0 < left → ((i : ℕ) → getD r₀ i 0 < 256)
-    → q ≡ rectAt r a → t ≡ isEmpty q → t ≡ true → Taking bands at r₀ r (a + 8) (left - 1)
-unfolding rested restOwed firstOwed Bytes
-take-goes {left = zero} k p b e f g = absurd (omega arith)
-take-goes {r = r} {a} {left = suc n} k p b e f g =
-    let z : suc n - 1 ≡ n = omega arith in
-    let again = owed-again 1 a r (rw (k .kept) b) (omega arith) in
-    let t = window-extend a 8 (rectBytes (rectAt r a)) (rectsBytes (restOwed (rectsAt n r (a + 8)))) r refl (omega arith) in
-    record { kept = k .kept; sized = k .sized; room = omega arith; first = cc; rest = cc }
+-- the next band lies in the bytes
+pub take-room : (bands at : ℕ) (r₀ r : List ℕ) (i : ℕ) → Taking bands at r₀ r i → i < bands → at + 8 * i + 8 ≤ length r
+take-room bands at r₀ r i k h = omega arith
 
--- the first that owes anything
-pub take-finds : {bands at : ℕ} {r₀ r : List ℕ} {a left : ℕ} {q z : Rect} {t : Bool} {r′ : List ℕ} → Taking bands at r₀ r a left → 0 < left → ((i : ℕ) → getD r₀ i 0 < 256)
-    → q ≡ rectAt r a → t ≡ isEmpty q → t ≡ false → z ≡ none → r′ ≡ withWindow a (rectBytes z) r → Took bands at r₀ q r′
-unfolding rested restOwed firstOwed Bytes
-take-finds {left = zero} k p b e f g h i = absurd (omega arith)
-take-finds {r = r} {a} {left = suc n} k p b e f g h i =
-    let t = window-tail a 8 (8 * n) (rectBytes none) (rectsBytes (rectsAt n r (a + 8))) r refl (length-read n r (a + 8)) (rects-again n r (a + 8) (rw (k .kept) b) (omega arith)) in
-    record { first = cc; rest = cc }
+module _ {bands at : ℕ} {r₀ r : List ℕ} {i a : ℕ} {q : Rect} {t : Bool} (k : Taking bands at r₀ r i) (h : i < bands) (b : (j : ℕ) → getD r₀ j 0 < 256)
+    (p : a ≡ at + 8 * i) (e : q ≡ rectAt r a) (f : t ≡ isEmpty q) where
+  left : bands - i ≡ suc (bands - (i + 1))
+  left = omega arith
 
-pub take-ends : (bands at : ℕ) (r₀ r : List ℕ) (a left : ℕ) {z : Rect} → Taking bands at r₀ r a left → left ≤ 0 → z ≡ none → Took bands at r₀ z r
+  -- a band that owes nothing is passed
+  pub take-goes : t ≡ true → Taking bands at r₀ r (i + 1)
+  unfolding rested restOwed firstOwed Bytes
+  take-goes g =
+      let n = bands - (i + 1) in
+      let c : at + 8 * (i + 1) ≡ at + 8 * i + 8 = omega arith in
+      let l = left in
+      let again = owed-again 1 a r (rw (k .kept) b) (omega arith) in
+      let w = window-extend a 8 (rectBytes (rectAt r a)) (rectsBytes (restOwed (rectsAt n r (a + 8)))) r refl (omega arith) in
+      record { kept = k .kept; sized = k .sized; room = k .room; some = omega arith; first = cc (k .first); rest = cc (k .rest) }
+
+  -- the first that owes anything
+  pub take-finds : {z : Rect} {r′ : List ℕ} → t ≡ false → z ≡ none → r′ ≡ withWindow a (rectBytes z) r → Took bands at r₀ q r′
+  unfolding rested restOwed firstOwed Bytes
+  take-finds g o w =
+      let n = bands - (i + 1) in
+      let l = left in
+      let v = window-tail a 8 (8 * n) (rectBytes none) (rectsBytes (rectsAt n r (a + 8))) r refl (length-read n r (a + 8)) (rects-again n r (a + 8) (rw (k .kept) b) (omega arith)) in
+      record { first = cc (k .first); rest = cc (k .rest) }
+
+pub take-ends : (bands at : ℕ) (r₀ r : List ℕ) (i : ℕ) {z : Rect} → Taking bands at r₀ r i → bands ≤ i → z ≡ none → Took bands at r₀ z r
 unfolding rested restOwed firstOwed
-take-ends bands at r₀ r a left k n e = let z : left ≡ 0 = omega arith in record { first = cc; rest = cc (window-nothing a r) }
+take-ends bands at r₀ r i k n e = let z : bands - i ≡ 0 = omega arith in record { first = cc (k .first); rest = cc (k .rest, window-nothing (at + 8 * i) r) }
 
 -- ---- STATE's test
 
--- where the loop stands: the bands before have passed
+-- where the loop stands: `left` bands are to come, the first from byte a and line lo; those before have passed
 pub record Testing (w band bands at : ℕ) (r : List ℕ) (a lo left : ℕ) : Type 0 where
   pub room : a + 8 * left ≤ length r
   pub lines : lo + left * band ≤ 65535

@@ -19,7 +19,7 @@ use Rattle.laws.specs.Tests.{tests, by-test, by-lt, by-eq, clash, or-rig
 use Rattle.laws.specs.Rects.{passes-fits}
 use Rattle.laws.specs.Memory.{length-window}
 use Rattle.laws.specs.Bands.{owed-fits, hand-fits}
-use Rattle.laws.specs.PartLists.{same-part, written-same, all-at, part-written, part-stored, parts-written}
+use Rattle.laws.specs.PartLists.{same-part, written-same, all-at, length-written, part-written, part-stored, parts-written}
 use Rattle.laws.specs.Flags.{flags-read, flags-written, length-flags, length-flagsIn}
 use Rattle.laws.specs.Layout.{getD-listing, length-listing, bytes-drop, bytes-take, four-from, rect-from, all-again, low, high, byte0, byte1, byte2, byte3, rect-again, four-again, rects-again, two-back, four-back, rect-back, rects-back, words-back, length-rects, length-rectsAt, length-words}
 
@@ -158,6 +158,10 @@ sizes g s z (panel k) =
 sizes g s z keys = cc (length-words (s .keys))
 sizes g s z flags = length-flags (s .flags) ∙ z .flags
 sizes g s z edge = refl
+
+pub length-encode : (g : Geometry) (s : State) → Sized g s → length (encode g s) ≡ recordBytes g
+unfolding encode
+length-encode g s z = length-written (size g) (partBytes g s) (layout g) (sizes g s z)
 
 pub count-decode : (g : Geometry) (r : List ℕ) → length (decode g r .panels) ≡ g .panels
 unfolding decode

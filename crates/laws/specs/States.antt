@@ -10,7 +10,7 @@ use Rattle.model.specs.Bytes.{wordsAt, four, rectBytes, rectsBytes, wordsBytes,
 use Rattle.model.specs.Record.{RecordPart, written, head, panel, keys, flags, edge, has, layout, size, partIn, State, decode, encode, bytesOfHead, partBytes, panelOf, partFits, valid, WellFormed}
 use Rattle.model.specs.Glass.{IsGlass}
 use Rattle.laws.specs.Tests.{tests}
-use Rattle.laws.specs.Layout.{bytes-cons, bytes-nil, bytes-append, length-rectsAt}
+use Rattle.laws.specs.Layout.{bytes-nil, bytes-append, bytes-all, bytes-rect, length-rectsAt}
 use Rattle.laws.specs.PartLists.{length-written, all-of}
 use Rattle.laws.specs.Flags.{length-flagsIn, flags-fit, flags-bytes}
 use Rattle.laws.specs.Record.{Passing, head-tells, part-passes, has-head, has-flags, has-edge, has-panel, panel-has, length-part, bytes-part, panel-decoded, count-decode, well-sized, sizes, part-encode, head-back, pending-back}
@@ -43,17 +43,9 @@ well-formed g r p = record {
 
 -- ---- a well formed state
 
-abbrev AllBytes : List ℕ → Type 0
-AllBytes [] = Unit {0}
-AllBytes (x ∷ l) = (x < 256) × AllBytes l
-
-bytes-all : (l : List ℕ) → AllBytes l → Bytes l
-bytes-all [] a = bytes-nil
-bytes-all (x ∷ l) a = bytes-cons x l (a .0) (bytes-all l (a .1))
-
 rects-bytes : (qs : List Rect) → Bytes (rectsBytes qs)
 rects-bytes [] = bytes-nil
-rects-bytes (q ∷ qs) = bytes-append (rectBytes q) (rectsBytes qs) (bytes-all (rectBytes q) (omega arith)) (rects-bytes qs)
+rects-bytes (q ∷ qs) = bytes-append (rectBytes q) (rectsBytes qs) (bytes-rect q) (rects-bytes qs)
 
 words-bytes : (ws : List ℕ) → Bytes (wordsBytes ws)
 words-bytes [] = bytes-nil

@@ -20,13 +20,14 @@ use Rattle.model.specs.Marks.{whole, owing, withDirty, updateDirty, marked}
 use Rattle.model.specs.Open.{clearHead, clearFlags, resetState}
 use Rattle.laws.specs.ListLaws.{getD-map, map-same}
 use Rattle.laws.specs.Rects.{join-none}
-use Rattle.laws.specs.Bands.{joinOwed-none}
+use Rattle.laws.specs.Bands.{joinOwed-none, well-owing}
 use Rattle.laws.specs.Parts.{part-back}
 use Rattle.laws.specs.Flags.{length-flags, no-flags, length-no-flags}
 use Rattle.laws.specs.Record.{Passing, Sized, Numbers, head-tells, part-passes, has-head, has-keys, has-flags, length-part, put-head, put-flags, all-owed, part-in, encode-decode, decode-encode, sized-decode, count-decode}
 use Rattle.laws.specs.States.{well-formed, encode-passing}
 use Rattle.laws.specs.StateTest.{flags-part}
-use Rattle.laws.specs.Panels.{Known, markFrom, marks-all, length-owing}
+use Rattle.laws.specs.Panels.{Known}
+use Rattle.laws.specs.Marking.{markFrom, marks-all, markable, still-markable}
 
 -- what STATE tells of the head
 pub head-numbers : (v : Glass) (r : List ℕ) (h : Head) → Known v r → h ≡ decode (geometry v) r .head → Numbers (geometry v) h
@@ -52,22 +53,14 @@ whole-of v e = ap (λ (x : Canvas). whole (x .stride) (x .height)) e
 
 -- ---- what is marked, with another head
 
--- the mark joined to each panel leaves the other sizes
-sized-marked : (g : Geometry) (m : Rect) (s : State) → Sized g s → length (s .panels) ≡ g .panels → Sized g (withPanels (map (owing g m) (s .panels)) s)
-sized-marked g m s z c =
-    record { owed = all-owed g (withPanels (map (owing g m) (s .panels)) s) (length-map (s .panels) (owing g m) ∙ c) each-owed; keys = z .keys; flags = z .flags }
-  where
-    each-owed : (k : ℕ) → k < g .panels → length (panelOf g (withPanels (map (owing g m) (s .panels)) s) k .owed) ≡ g .bands
-    each-owed k h = ap (λ (p : Pending). length (p .owed)) (getD-map (owing g m) (s .panels) k (nothingPending g) (omega arith)) ∙ length-owing g m (panelOf g s k) ∙ z .owed k
-
-pub marks-head : {v : Glass} {r : List ℕ} (n : Head) (d o : Rect) {m : Head} {s t : List ℕ} → Known v r → s ≡ markFrom (geometry v) o 0 (v .panels) r
+pub marks-head : {v : Glass} {r : List ℕ} (n : Head) (d o : Rect) {m : Head} {s t : List ℕ} → Known v r → s ≡ markFrom (geometry v) o 0 (v .bands) r
     → m ≡ updateDirty d n → t ≡ withWindow 0 (bytesOfHead m) s → t ≡ encode (geometry v) (marked (geometry v) d o (withHead n (decode (geometry v) r)))
 unfolding marked
 marks-head {v} {r} n d o {m} k f i j =
     let g = geometry v in
     let s = decode g r in
     j ∙ ap (withWindow 0 (bytesOfHead m)) (f ∙ marks-all g o (k .suits .glass) r (k .passing))
-    ∙ put-head g m (withPanels (map (owing g o) (s .panels)) s) (k .suits .glass) (sized-marked g o s (sized-decode g r (k .passing .sized)) (count-decode g r))
+    ∙ put-head g m (withPanels (map (owing g o) (s .panels)) s) (k .suits .glass) (still-markable g (owing g o) s (well-owing g o) (markable g r (k .passing)) .sized)
     ∙ ap (λ (x : Head). encode g (withHead x (withPanels (map (owing g o) (s .panels)) s))) i
 
 -- an empty mark changes nothing

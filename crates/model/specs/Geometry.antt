@@ -1,7 +1,7 @@
 -- The glass and its panels. Document 01's glass is `base`; definitions and laws take the geometry as a parameter.
 use Prim.Native.Nat.{ℕ, _*_, _/_}
 
--- A line is `stride` bytes. The lines fall into `bands` bands of `band` lines each, top to bottom: what is owed is kept by bands, and one band is the whole screen.
+-- A line is `stride` bytes. The lines fall into `bands` bands of `band` lines each, top to bottom: what is owed is kept by bands.
 -- `panels` panels are sent to, each by itself.
 pub record Geometry : Type 0 where
   pub stride : ℕ
@@ -9,9 +9,9 @@ pub record Geometry : Type 0 where
   pub band : ℕ
   pub panels : ℕ
 
--- 160 by 80, one band, four panels
+-- 160 by 80, five bands, a text row each, four panels
 abbrev pub base : Geometry
-base = record { stride = 20; bands = 1; band = 80; panels = 4 }
+base = record { stride = 20; bands = 5; band = 16; panels = 4 }
 
 -- the screen in pixels, and in bytes
 abbrev pub width : Geometry → ℕ

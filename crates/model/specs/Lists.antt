@@ -1,13 +1,13 @@
 -- Calls in any order: what a list of calls leaves, and what is said of it.
 use mathlib.Core.Bool.{Bool, true, false, cond}
 use mathlib.Core.List.{List, [], _∷_}
-use mathlib.Core.Logic.{_≢_, _⊎_}
+use mathlib.Core.Logic.{_≢_}
 use mathlib.Core.Path.{_≡_}
-use Prim.Native.Nat.{ℕ, zero, suc, _+_, _<_}
+use Prim.Native.Nat.{ℕ, zero, suc, _+_, _/_, _<_}
 use lib.Dec.{eqb}
 use Rattle.model.specs.Geometry.{Geometry, width, height, rows, columns}
 use Rattle.model.specs.Pixels.{bit, seen}
-use Rattle.model.specs.Rects.{Rect, In, linesOf}
+use Rattle.model.specs.Rects.{Rect, none, linesOf}
 use Rattle.model.specs.Record.{Pending, decode}
 use Rattle.model.specs.Bytes.{Bytes, Words}
 use Rattle.model.specs.Refusals.{refusal}
@@ -200,13 +200,13 @@ unfoldable pub owedLines : List Rect → ℕ
 owedLines [] = 0
 owedLines (r ∷ rs) = linesOf r + owedLines rs
 
--- L: the heights of what is in hand and what is owed
+-- L: the heights of what is in hand and of what each band owes
 unfoldable pub linesLeft : Pending → ℕ
 linesLeft p = linesOf (p .hand) + owedLines (p .owed)
 
-abbrev pub InAny : List Rect → ℕ → ℕ → Type 0
-InAny [] x y = ⊥
-InAny (r ∷ rs) x y = In r x y ⊎ InAny rs x y
+-- what is owed in line y's own band
+abbrev pub ownBand : Geometry → List Rect → ℕ → Rect
+ownBand g owed y = getD owed (y / g .band) none
 
 -- a pixel differs when its bits on screen and panel do
 abbrev pub Differs : Geometry → List ℕ → List ℕ → ℕ → ℕ → Type 0

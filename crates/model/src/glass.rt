@@ -27,11 +27,11 @@ pub struct Glass {
     pub edge: usize,
 }
 
-// 160 by 80, one band, four panels. The glass's numbers stand here and nowhere else in the code.
+// 160 by 80, five bands, four panels. The glass's numbers stand here and nowhere else in the code.
 pub const SMALL: Glass = Glass {
     stride: 20,
-    bands: 1,
-    band: 80,
+    bands: 5,
+    band: 16,
     panels: 4,
     reciprocal: 13108,
     width: 160,
@@ -43,11 +43,11 @@ pub const SMALL: Glass = Glass {
     graphics: 63935,
     text: 65435,
     bytes: RECORD_BYTES,
-    pending: 20,
-    keys: 38,
-    flags: 70,
-    others: 170,
-    edge: 230,
+    pending: 52,
+    keys: 70,
+    flags: 102,
+    others: 202,
+    edge: 358,
 };
 
 // The bits after the point where bytes are counted in lines: they do for 256 lines of up to 32 bytes.
@@ -66,7 +66,7 @@ pub const GLYPH_LINES: usize = 16;
 // Lengths of arrays: the text that a flush keeps, and the record and panel of a program that lends them.
 pub const TEXT_BYTES: usize = 100;
 
-pub const RECORD_BYTES: usize = 231;
+pub const RECORD_BYTES: usize = 359;
 
 pub const SCREEN_BYTES: usize = 1600;
 

@@ -2,10 +2,10 @@
 use mathlib.Core.Path.{_≡_, refl, sym, ap, _∙_}
 use mathlib.Core.Logic.{_≢_, _⊎_, inl, inr}
 use mathlib.Core.List.{List, [], _∷_}
-use Prim.Native.Nat.{ℕ, _+_, _-_, _≤_, _<_}
+use Prim.Native.Nat.{ℕ, _+_, _-_, _/_, _≤_, _<_}
 use native.Mathlib.Omega.{arith}
 use lib.Dec.{ltb}
-use lib.ListN.{length, replicate, length-replicate}
+use lib.ListN.{length}
 use Rattle.model.specs.declared.Rect.{Rect}
 use Rattle.model.specs.Geometry.{Geometry, width, height, screenBytes}
 use Rattle.model.specs.Rects.{none, In, isEmpty, linesOf}
@@ -13,11 +13,11 @@ use Rattle.model.specs.Record.{Pending, nothingPending, WellPending}
 use Rattle.model.specs.Marks.{whole, owing}
 use Rattle.model.specs.Open.{openPending}
 use Rattle.model.specs.Sends.{takeOwed, nextLine, lineSent, sendPending, copyLine, sendPanel}
-use Rattle.model.specs.Lists.{Effect, nothing, marks, opens, sends, affected, InAny, Differs, owedLines, linesLeft, differing}
+use Rattle.model.specs.Lists.{Effect, nothing, marks, opens, sends, affected, ownBand, Differs, linesLeft, differing}
 use Rattle.laws.specs.Tests.{tests, if-cases, by-test, by-eq, by-lt, clash, either}
 use Rattle.laws.specs.Pixels.{place-lt, length-copyRun, copyRun-other, copyRun-same}
 use Rattle.laws.specs.Rects.{Proper, decIn, in-not-none, not-in-none}
-use Rattle.laws.specs.Bands.{joinOwed-keeps, joinOwed-marks, in-split, well-owing, well-open, well-send, low-send, to-send}
+use Rattle.laws.specs.Bands.{owing-keeps, owing-marks, in-split, in-lines, well-nothing, well-owing, well-open, well-send, low-send, to-send}
 use Rattle.laws.specs.Writes.{AgreeOutside}
 use Rattle.laws.specs.Counts.{none-differ}
 
@@ -49,9 +49,9 @@ pub record Follows (g : Geometry) (s : PanelState) (e : Effect) (t : PanelState)
 
 -- ---- what holds
 
--- every pixel that differs lies in hand or is owed
+-- every pixel that differs lies in hand or is owed in its own band
 abbrev pub Covered : Geometry → List ℕ → List ℕ → Pending → Type 0
-Covered g s p q = (x y : ℕ) → x < width g → y < height g → Differs g s p x y → In (q .hand) x y ⊎ InAny (q .owed) x y
+Covered g s p q = (x y : ℕ) → x < width g → y < height g → Differs g s p x y → In (q .hand) x y ⊎ In (ownBand g (q .owed) y) x y
 
 -- between calls a line of the band in hand has been sent, so its height is at most that of a band less one
 pub record Held (g : Geometry) (s : PanelState) : Type 0 where
@@ -66,7 +66,7 @@ covered-take : (g : Geometry) (s p : List ℕ) (q : Pending) → Covered g s p q
 unfolding takeOwed
 covered-take g s p q c =
     if-cases (Covered g s p) (isEmpty (q .hand))
-    (λ e x y hx hy d. either (c x y hx hy d) (λ i. clash (isEmpty (q .hand)) e (in-not-none (q .hand) x y i)) (in-split (q .owed) x y))
+    (λ e x y hx hy d. either (c x y hx hy d) (λ i. clash (isEmpty (q .hand)) e (in-not-none (q .hand) x y i)) (in-split (q .owed) (y / g .band) x y))
     (λ e. c)
 
 -- a pixel of r below its top line is one of what is left
@@ -112,9 +112,8 @@ length-send st s p q =
 pub held-open : (g : Geometry) (t : PanelState) → length (t .panel) ≡ screenBytes g → t .pending ≡ openPending g → Held g t
 unfolding openPending owing nothingPending
 held-open g t l e =
-    let all = whole (g .stride) (height g) in
     let c : Covered g (t .screen) (t .panel) (openPending g) = λ x y hx hy d.
-    inr (joinOwed-marks (width g) (g .band) 0 all (replicate (g .bands) none) x y hx (omega arith) (rw (length-replicate (g .bands) none) (omega arith)) (omega arith)) in
+    inr (owing-marks g (whole (g .stride) (height g)) (nothingPending g) (well-nothing g .bands) x y hy hx (omega arith)) in
     record { long = l; well = rw e (well-open g); low = rw e (omega arith); covered = rw e c }
 
 -- the panel and what is pending are those that the effect makes
@@ -130,8 +129,8 @@ held-after g s (marks m) t h f =
     let q = s .pending in
     held-by g s (marks m) t f (h .long) (well-owing g m q (h .well)) (h .low) (λ x y hx hy d.
     either (decIn m x y)
-    (λ i. inr (joinOwed-marks (width g) (g .band) 0 m (q .owed) x y hx (omega arith) (rw (h .well .bands) (omega arith)) i))
-    (λ n. either (h .covered x y hx hy (λ e. d (f .screen x y hx hy n ∙ e))) inl (λ i. inr (joinOwed-keeps (width g) (g .band) 0 m (q .owed) x y i))))
+    (λ i. inr (owing-marks g m q (h .well .bands) x y hy hx i))
+    (λ n. either (h .covered x y hx hy (λ e. d (f .screen x y hx hy n ∙ e))) inl (λ i. inr (owing-keeps g m q (h .well .bands) x y hy i))))
 held-after g s (opens edge) t h f = held-open g t (ap length (f .panel) ∙ h .long) (f .pending)
 held-after g s sends t h f =
     let q = s .pending in
@@ -140,14 +139,8 @@ held-after g s sends t h f =
 
 -- ---- no line left: no pixel differs
 
-in-lines : (rs : List Rect) (x y : ℕ) → InAny rs x y → 0 < owedLines rs
-unfolding owedLines
-in-lines [] x y i = absurd i
-in-lines (r ∷ rs) x y (inl i) = omega arith
-in-lines (r ∷ rs) x y (inr i) = omega (arith, in-lines rs x y i)
-
 pub none-left : (g : Geometry) (s : PanelState) → Held g s → linesLeft (s .pending) ≡ 0 → differing g (s .screen) (s .panel) ≡ 0
 unfolding linesLeft
 none-left g s h z =
     none-differ g (s .screen) (s .panel)
-    (λ x y hx hy d. either (h .covered x y hx hy d) (λ i. omega arith) (λ i. omega (arith, in-lines (s .pending .owed) x y i)))
+    (λ x y hx hy d. either (h .covered x y hx hy d) (λ i. omega arith) (λ i. omega (arith, in-lines (s .pending .owed) (y / g .band) x y i)))

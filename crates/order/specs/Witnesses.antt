@@ -1,4 +1,4 @@
--- The claim is not about nothing: there is an accepted open; there are lists after which L is 159, the most that it may be; and where all four panels have their
+-- The claim is not about nothing: there is an accepted open; there are lists after which L is 95, the most that it may be; and where all four panels have their
 -- buffers, sends to any of them in any order are a list of the kind that may follow, after which one panel is level and another is not.
 use mathlib.Core.Path.{_≡_, refl, ap, _∙_}
 use mathlib.Core.Bool.{true}
@@ -31,7 +31,7 @@ use Rattle.order.specs.Order.{Standing, standing-item, standing-opened, 
 use Rattle.order.specs.Theorem.{linesIn, screenIn, Promised, calls-in-any-order}
 
 -- the open of the script program (bases 4,096 and 8,192, V2, no keys) is accepted over a record and a memory of any bytes, with both edge flags
-pub accepted-open : (edge : ℕ) (r m : List ℕ) → edgeFits edge ≡ true → length r ≡ 231 → length m ≡ 65536 → accepted base (opening 4096 8192 1 noKeys edge) (lent r m [])
+pub accepted-open : (edge : ℕ) (r m : List ℕ) → edgeFits edge ≡ true → length r ≡ 359 → length m ≡ 65536 → accepted base (opening 4096 8192 1 noKeys edge) (lent r m [])
 unfolding refusal total windows
 accepted-open edge r m e hr hm = own-decide base (opening 4096 8192 1 noKeys edge) (lent r m []) (record { sized = hr; lengths = eq-eqb (length m) 65536 hm; state = tt }) ∙ rw e refl
 
@@ -79,8 +79,8 @@ module _ (graphics text version : ℕ) (keys : List ℕ) (edge : ℕ) (t : Typed
   abbrev first : Item base
   first = here (opening graphics text version keys edge) t
 
-  -- an accepted open owes 80 lines to a panel, a send to it takes them in hand and leaves 79, and `cls` owes 80 again
-  pub most-lines : (k : ℕ) → k < 4 → length (getD ps k []) ≡ 1600 → (u : Typed (send k)) → linesIn k (run base start (first ∷ here (send k) u ∷ here cls tt ∷ [])) ≡ 159
+  -- an accepted open owes 80 lines to a panel, a send to it takes the sixteen of the first band in hand and leaves fifteen, and `cls` owes 80 again
+  pub most-lines : (k : ℕ) → k < 4 → length (getD ps k []) ≡ 1600 → (u : Typed (send k)) → linesIn k (run base start (first ∷ here (send k) u ∷ here cls tt ∷ [])) ≡ 95
   unfolding total lentTo run refusal reckoned itemEffect effectAt effect affected openPending nothingPending sendPending takeOwed firstOwed restOwed lineSent nextLine owing joinOwed
       join cut isEmpty linesLeft owedLines
   most-lines k there n u =
@@ -147,20 +147,20 @@ abbrev ones : List ℕ
 ones = replicate 1600 255
 
 abbrev fresh : Buffers
-fresh = buffers (zeros 231) (zeros 65536) (replicate 4 ones)
+fresh = buffers (zeros 359) (zeros 65536) (replicate 4 ones)
 
 abbrev open-it : Item base
 open-it = here (opening 4096 8192 1 noKeys 0) (refl, omega arith)
 
-may-open : accepted base (opening 4096 8192 1 noKeys 0) (lent (zeros 231) (zeros 65536) [])
-may-open = accepted-open 0 (zeros 231) (zeros 65536) refl (length-zeros 231) (length-zeros 65536)
+may-open : accepted base (opening 4096 8192 1 noKeys 0) (lent (zeros 359) (zeros 65536) [])
+may-open = accepted-open 0 (zeros 359) (zeros 65536) refl (length-zeros 359) (length-zeros 65536)
 
 full : (k : ℕ) → k < 4 → length (getD (replicate 4 ones) k []) ≡ 1600
 full k there = rw (getD-replicate 4 k ones [] there) (length-replicate {A = ℕ} 1600 255)
 
-pub a-list-of-most-lines : linesIn 3 (run base fresh (open-it ∷ here (send 3) (omega arith) ∷ here cls tt ∷ [])) ≡ 159
+pub a-list-of-most-lines : linesIn 3 (run base fresh (open-it ∷ here (send 3) (omega arith) ∷ here cls tt ∷ [])) ≡ 95
 a-list-of-most-lines =
-    most-lines 4096 8192 1 noKeys 0 (refl, omega arith) (zeros 231) (zeros 65536) (replicate 4 ones) may-open 3 (omega arith) (full 3 (omega arith)) (omega arith)
+    most-lines 4096 8192 1 noKeys 0 (refl, omega arith) (zeros 359) (zeros 65536) (replicate 4 ones) may-open 3 (omega arith) (full 3 (omega arith)) (omega arith)
 
 pub cleared-screen : screenOf base 4096 (clearMemory noKeys) ≡ zeros 1600
 unfolding window clearMemory withKeys isKey bitAt zeros
@@ -180,4 +180,4 @@ all-differ =
 
 -- .. and after the rounds none
 pub none-differs : let b = run base (run base fresh (open-it ∷ [])) (sendsTo (rounds 80) (round-panels 80)) in differing base (screenIn b) (panelBuffer 0 b) ≡ 0
-none-differs = polled-between 4096 8192 1 noKeys 0 (refl, omega arith) (zeros 231) (zeros 65536) (replicate 4 ones) may-open full .0
+none-differs = polled-between 4096 8192 1 noKeys 0 (refl, omega arith) (zeros 359) (zeros 65536) (replicate 4 ones) may-open full .0

@@ -1,5 +1,6 @@
 // The owed rectangles of one panel in the lent record, a rectangle for each band: they begin at byte `at`. Bands, their height and the width are numbers.
 use crate::rects;
+use crate::rects::band_at;
 use marks::rect;
 use model::Rect;
 ghost use mathlib.Core.Path.{_≡_};
@@ -7,42 +8,22 @@ ghost use Prim.Native.Nat.{_+_, _*_, _≤_};
 ghost use lib.ListN.{length};
 ghost use Rattle.model.specs.Bytes.{rectsAt};
 ghost use Rattle.model.specs.Record.{bandsFit};
-ghost use Rattle.laws.specs.Owed.{joined, Took};
-
-// The mark, cut at the edges of the screen and of the bands, joined to what is owed.
-pub fn join_owed(rec: &mut [u8], at: usize, bands: usize, band: u16, width: u16, m: Rect)
-    requires { ⌜ (at + 8 * bands ≤ length (now rec)) × (bands * band ≤ 65535) ⌝ }
-    ensures { λ _. ⌜ now (rec .exit) ≡ joined width band 0 m bands at (now (rec .entry)) ⌝ }
-{
-    let mut a = at;
-    let mut lo: u16 = 0;
-    let mut left = bands;
-    while left > 0 {
-        let q = rects::load_rect(rec, a);
-        let hi = lo + band;
-        let c = rect::cut_rect(width, lo, hi, m);
-        rects::store_rect(rec, a, rect::join_rects(q, c));
-        a += 8;
-        lo = hi;
-        left -= 1;
-    }
-}
+ghost use Rattle.laws.specs.Owed.{Took};
 
 // The first band that owes anything: its rectangle, which is then empty there.
 pub fn take_owed(rec: &mut [u8], at: usize, bands: usize) -> Rect
     requires { ⌜ at + 8 * bands ≤ length (now rec) ⌝ }
     ensures { λ r. ⌜ Took bands at (now (rec .entry)) r (now (rec .exit)) ⌝ }
 {
-    let mut a = at;
-    let mut left = bands;
-    while left > 0 {
+    let mut i: usize = 0;
+    while i < bands {
+        let a = band_at(at, i);
         let q = rects::load_rect(rec, a);
         if !rect::is_empty(q) {
             rects::store_rect(rec, a, rect::empty());
             return q;
         }
-        a += 8;
-        left -= 1;
+        i += 1;
     }
     rect::empty()
 }

@@ -1,10 +1,20 @@
 // A rectangle in lent bytes: left, top, right, bottom, two bytes each, least byte first.
+use marks::rect;
 use model::Rect;
 ghost use mathlib.Core.Path.{_≡_};
-ghost use Prim.Native.Nat.{_+_, _≤_};
+ghost use Prim.Native.Nat.{_+_, _*_, _^_, _≤_, _<_};
 ghost use lib.ListN.{length};
 ghost use Rattle.model.specs.Memory.{withWindow};
 ghost use Rattle.model.specs.Bytes.{rectAt, rectBytes};
+ghost use Rattle.laws.specs.Owed.{joinedAt};
+
+// Where the rectangle of band i stands: that of the first begins at byte `at`.
+pub fn band_at(at: usize, i: usize) -> usize
+    requires { ⌜ at + 8 * i < 2 ^ 63 ⌝ }
+    ensures { λ r. ⌜ r ≡ at + 8 * i ⌝ }
+{
+    at + 8 * i
+}
 
 pub fn load_rect(bytes: &[u8], at: usize) -> Rect
     requires { ⌜ at + 8 ≤ length (now bytes) ⌝ }
@@ -39,4 +49,13 @@ pub fn store_rect(bytes: &mut [u8], at: usize, q: Rect)
 {
     let b = rect_bytes(q);
     slices::put_bytes(bytes, at, &b);
+}
+
+// The rectangle that begins at byte `at`, joined with q.
+pub fn join_rect(bytes: &mut [u8], at: usize, q: Rect)
+    requires { ⌜ at + 8 ≤ length (now bytes) ⌝ }
+    ensures { λ _. ⌜ now (bytes .exit) ≡ joinedAt at q (now (bytes .entry)) ⌝ }
+{
+    let stands = load_rect(bytes, at);
+    store_rect(bytes, at, rect::join_rects(stands, q));
 }

@@ -2,7 +2,7 @@
 -- its writes change.
 use mathlib.Core.Path.{_≡_, refl, sym, ap, _∙_}
 use mathlib.Core.Bool.{true}
-use mathlib.Core.List.{List, [], _∷_, map}
+use mathlib.Core.List.{List, [], map}
 use Prim.Native.Nat.{ℕ, _+_, _≤_}
 use native.Mathlib.Omega.{arith}
 use lib.ListN.{length, replicate, getD-replicate}
@@ -11,7 +11,7 @@ use Rattle.model.specs.declared.Rect.{Rect}
 use Rattle.model.specs.declared.Edge.{Edge}
 use Rattle.model.specs.Geometry.{base}
 use Rattle.model.specs.Pixels.{PixelWrite, draw, seen}
-use Rattle.model.specs.Rects.{isEmpty, join, cut}
+use Rattle.model.specs.Rects.{isEmpty, join}
 use Rattle.model.specs.Memory.{screenOf, withScreen}
 use Rattle.model.specs.Record.{Pending, State, nothingPending, panelOf, windows, total, decode, encode, withHead, withPanels, WellFormed}
 use Rattle.model.specs.Marks.{withDirty, updateDirty, joinOwed, owing, owes, marked, Drawing, drawnOn}
@@ -30,7 +30,7 @@ use Rattle.laws.specs.States.{well-formed, encode-passing}
 use Rattle.laws.specs.Bands.{well-nothing}
 use Rattle.order.specs.Step.{panels-formed, marked-formed, screen-in, screen-long}
 use Rattle.order.specs.Opens.{open-formed}
-use Rattle.pictures.specs.Picture.{screenIn, graphicsIn, edgeFlag, Unmarked, withOwed, withMarks, Changed, Leaves, Drew}
+use Rattle.pictures.specs.Picture.{nothing, screenIn, graphicsIn, edgeFlag, Unmarked, withOwed, withMarks, Changed, Leaves, Drew}
 use Rattle.pictures.specs.Writes.{pictured, pictured-changed}
 
 -- ---- bytes to start from: a record as it is opened, but with nothing owed, and a memory
@@ -75,6 +75,10 @@ clear-unmarked edge h m n =
 abbrev pub owedOnScreen : Drawing → Rect
 owedOnScreen d = owes 20 80 (d .owed) (seen 20 80 (d .writes))
 
+-- a mark by bands, where nothing was owed
+abbrev pub byBands : Rect → List Rect
+byBands o = joinOwed 160 16 0 o nothing
+
 module _ (l : Lent) (u : Unmarked l) where
   abbrev s : State
   s = decode base (l .rec)
@@ -104,27 +108,27 @@ module _ (l : Lent) (u : Unmarked l) where
   done-on c e a = done-where c (entered c e) a
 
   -- nothing was marked, so its own marks are what stands
-  panels-only : (o owed : Rect) → cut 160 0 80 o ≡ owed → map (owing base o) (s .panels) ≡ map (withOwed owed) (s .panels)
-  unfolding owing joinOwed join isEmpty
+  panels-only : (o : Rect) (owed : List Rect) → byBands o ≡ owed → map (owing base o) (s .panels) ≡ map (withOwed owed) (s .panels)
+  unfolding owing
   panels-only o owed f =
       map-agree (owing base o) (withOwed owed) (s .panels) (nothingPending base)
       (λ k h. λ i. record {
-        owed = (ap (joinOwed 160 80 0 o) (u .owed k (omega (arith, formed .count))) ∙ ap (λ (q : Rect). q ∷ []) f) i;
+        owed = (ap (joinOwed 160 16 0 o) (u .owed k (omega (arith, formed .count))) ∙ f) i;
         hand = panelOf base s k .hand;
         sent = panelOf base s k .sent;
       })
 
-  marks-only : (m o dirty owed : Rect) → m ≡ dirty → cut 160 0 80 o ≡ owed → marked base m o s ≡ withMarks dirty owed s
+  marks-only : (m o dirty : Rect) (owed : List Rect) → m ≡ dirty → byBands o ≡ owed → marked base m o s ≡ withMarks dirty owed s
   unfolding marked updateDirty join isEmpty
   marks-only m o dirty owed e f = λ i. withHead (withDirty ((ap (λ (q : Rect). join q m) (u .dirty) ∙ e) i) (s .head)) (withPanels (panels-only o owed f i) s)
 
   -- a done call that leaves a screen `new`, with what it marked
-  pub leaves : (c : Call) (P : List ℕ → Type 0) (new : List ℕ) (m o dirty owed : Rect)
+  pub leaves : (c : Call) (P : List ℕ → Type 0) (new : List ℕ) (m o dirty : Rect) (owed : List Rect)
       → outcome base c l ≡ answered 0 [] (lent (encode base (marked base m o s)) (withScreen (graphicsIn l) new (l .memory)) (l .panel))
-      → length new ≡ 1600 → Fits 256 0 256 dirty → m ≡ dirty → cut 160 0 80 o ≡ owed → P new → Leaves l P dirty owed (outcome base c l)
+      → length new ≡ 1600 → Fits 256 0 256 dirty → m ≡ dirty → byBands o ≡ owed → P new → Leaves l P dirty owed (outcome base c l)
   unfolding answered
-  leaves c P new m o dirty owed d n f e cut p =
-      let only = marks-only m o dirty owed e cut in
+  leaves c P new m o dirty owed d n f e b p =
+      let only = marks-only m o dirty owed e b in
       let left = lent (encode base (marked base m o s)) (withScreen (graphicsIn l) new (l .memory)) (l .panel) in
       let state : decode base (left .rec) ≡ withMarks dirty owed s =
       decode-encode base (marked base m o s) base-glass (marked-formed base m o s (rw e f) formed) ∙ only in
@@ -144,8 +148,8 @@ module _ (l : Lent) (u : Unmarked l) where
         panel = refl;
       })
 
-  pub drew : (c : Call) (d : Drawing) (ps : List PixelWrite) (dirty owed : Rect) → takes c ≡ with-memory → AllPass (ownTests base c l)
-      → done base c l ≡ answered 0 [] (drawing base d l) → Fits 256 0 256 dirty → d .dirty ≡ dirty → cut 160 0 80 (owedOnScreen d) ≡ owed
+  pub drew : (c : Call) (d : Drawing) (ps : List PixelWrite) (dirty : Rect) (owed : List Rect) → takes c ≡ with-memory → AllPass (ownTests base c l)
+      → done base c l ≡ answered 0 [] (drawing base d l) → Fits 256 0 256 dirty → d .dirty ≡ dirty → byBands (owedOnScreen d) ≡ owed
       → pictured (seen 20 80 (d .writes)) ps ≡ true → Drew l ps dirty owed (outcome base c l)
   unfolding drawingWith drawnOn
   drew c d ps dirty owed t a k f e o p =
@@ -155,7 +159,7 @@ module _ (l : Lent) (u : Unmarked l) where
       (length-draw 20 ws (screenIn l) ∙ long) f e o (pictured-changed ws ps (screenIn l) long p)
 
   -- a drawing by the edge flag n
-  pub drew-by : (n : ℕ) (c : Call) (d : Edge → Drawing) (ps : List PixelWrite) (dirty owed : Rect) → edgeFlag l ≡ n → takes c ≡ with-memory → AllPass (ownTests base c l)
-      → done base c l ≡ answered 0 [] (drawing base (d (edgeIn base l)) l) → Fits 256 0 256 dirty → d (edgeOf n) .dirty ≡ dirty → cut 160 0 80 (owedOnScreen (d (edgeOf n))) ≡ owed
+  pub drew-by : (n : ℕ) (c : Call) (d : Edge → Drawing) (ps : List PixelWrite) (dirty : Rect) (owed : List Rect) → edgeFlag l ≡ n → takes c ≡ with-memory → AllPass (ownTests base c l)
+      → done base c l ≡ answered 0 [] (drawing base (d (edgeIn base l)) l) → Fits 256 0 256 dirty → d (edgeOf n) .dirty ≡ dirty → byBands (owedOnScreen (d (edgeOf n))) ≡ owed
       → pictured (seen 20 80 (d (edgeOf n) .writes)) ps ≡ true → Drew l ps dirty owed (outcome base c l)
   drew-by n c d ps dirty owed i t a k = drew c (d (edgeOf n)) ps dirty owed t a (k ∙ ap (λ (j : ℕ). answered 0 [] (drawing base (d (edgeOf j)) l)) i)

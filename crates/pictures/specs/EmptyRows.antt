@@ -15,11 +15,11 @@ use Rattle.model.specs.declared.Glyph.the-variants.{Extra, Hexadecimal}
 use Rattle.model.specs.declared.CellKind.{CellKind}
 use Rattle.model.specs.declared.CellKind.the-variants.{Pair}
 use Rattle.model.specs.Geometry.{base}
-use Rattle.model.specs.Rects.{cut}
+use Rattle.model.specs.Rects.{isEmpty, join, cut}
 use Rattle.model.specs.Memory.{zeros, window, withWindow}
 use Rattle.model.specs.Bytes.{twoBytes, fourBytes}
 use Rattle.model.specs.Record.{State, decode}
-use Rattle.model.specs.Marks.{whole}
+use Rattle.model.specs.Marks.{joinOwed, whole}
 use Rattle.model.specs.Open.{openState}
 use Rattle.model.specs.Codes.{extraFrom, extraOffset}
 use Rattle.model.specs.Glyphs.{Fonts, Store, digit, glyphOr, glyphOf, paint, fontsFit, columnStores, codeStores}
@@ -30,7 +30,7 @@ use Rattle.laws.specs.Glyphs.{empty-row, found-at, found-nothing, fits-append, 
 use Rattle.laws.specs.Loops.{length-zeros}
 use Rattle.laws.specs.Layout.{four-back}
 use Rattle.laws.specs.Memory.{length-withWindow, window-same}
-use Rattle.pictures.specs.Picture.{OnePair, rect, character, over, digitsOf, halfOf, corner, cornerGlyph, Shows}
+use Rattle.pictures.specs.Picture.{OnePair, rect, downFrom, character, over, digitsOf, halfOf, corner, cornerGlyph, Shows}
 use Rattle.pictures.specs.Drawings.{clearBytes, clear-state, clear-unmarked, passing, done-where, leaves}
 
 -- ---- bytes to start from: the pair on the page of a memory
@@ -130,7 +130,7 @@ module _ (lead trail : ℕ) (from : 170 ≤ lead) (to : lead ≤ 175) where
     -- the glyph g is found, lies in its font, and is painted so
     shown : (g : Glyph) (screen : List ℕ) → glyphOr (extraOffset (f .extraList) (256 * lead + trail)) Extra Hexadecimal ≡ g
         → fontsFit (pairStores (s .flags) f g) ≡ true → paint (pairStores (s .flags) f g) (zeros 1600) ≡ screen → Shows f l screen
-    unfolding done flushed cut
+    unfolding done flushed joinOwed join isEmpty cut
     shown g screen e fit q =
         let u = p .unmarked in
         let k = empty-row (s .head .version) (f .extraList) lead trail from to ∙ e in
@@ -144,7 +144,7 @@ module _ (lead trail : ℕ) (from : 170 ≤ lead) (to : lead ≤ 175) where
         let m = whole 20 80 in
         let long : length screen ≡ 1600 = ap length (sym q) ∙ (length-paint (pairStores (s .flags) f g) (zeros 1600) ∙ length-zeros 1600) in
         let new : flushed base f s (l .memory) ≡ screen = rw (p .text, w) q in
-        leaves l u (flush f) (λ (z : List ℕ). z ≡ screen) (flushed base f s (l .memory)) m m (rect 0 0 160 80) (rect 0 0 160 80)
+        leaves l u (flush f) (λ (z : List ℕ). z ≡ screen) (flushed base f s (l .memory)) m m (rect 0 0 160 80) (downFrom 0 0 160)
         (done-where l u (flush f) t (rw w fit, tt)) (ap length new ∙ long) (inr (omega arith)) refl refl new
 
     pub codes-shown : extraOffset (f .extraList) (256 * lead + trail) ≡ Nothing → trail < 256 → 568 ≤ length (f .ascii8)

@@ -23,6 +23,22 @@ use Rattle.order.specs.Step.{screenHeld}
 abbrev pub rect : ℕ → ℕ → ℕ → ℕ → Rect
 rect left top right bottom = record { left = left; top = top; right = right; bottom = bottom }
 
+-- ---- what is owed, by the five bands
+
+abbrev pub nothing : List Rect
+nothing = none ∷ none ∷ none ∷ none ∷ none ∷ []
+
+-- in the first band, and in the last
+abbrev pub first : Rect → List Rect
+first q = q ∷ none ∷ none ∷ none ∷ none ∷ []
+
+abbrev pub last : Rect → List Rect
+last q = none ∷ none ∷ none ∷ none ∷ q ∷ []
+
+-- from a line of the first band down to the last line of the screen
+abbrev pub downFrom : ℕ → ℕ → ℕ → List Rect
+downFrom left top right = rect left top right 16 ∷ rect left 16 right 32 ∷ rect left 32 right 48 ∷ rect left 48 right 64 ∷ rect left 64 right 80 ∷ []
+
 -- ---- pixels
 
 -- a pixel that is set, cleared or inverted
@@ -60,29 +76,29 @@ edgeFlag l = decode base (l .rec) .edge
 
 -- the record passes STATE, its dirty and each panel's owed are empty, and the memory has its length
 pub record Unmarked (l : Lent) : Type 0 where
-  pub sized : length (l .rec) ≡ 231
+  pub sized : length (l .rec) ≡ 359
   pub bytes : Bytes (l .rec)
   pub passes : valid base (l .rec) ≡ true
   pub memory : length (l .memory) ≡ 65536
   pub dirty : dirtyIn l ≡ none
-  pub owed : (k : ℕ) → k < 4 → owedIn k l ≡ none ∷ []
+  pub owed : (k : ℕ) → k < 4 → owedIn k l ≡ nothing
 
 -- a panel that is owed o
-abbrev pub withOwed : Rect → Pending → Pending
-withOwed o p = record { owed = o ∷ []; hand = p .hand; sent = p .sent }
+abbrev pub withOwed : List Rect → Pending → Pending
+withOwed o p = record { owed = o; hand = p .hand; sent = p .sent }
 
 -- a state with another dirty and another owed, the same for each panel
-abbrev pub withMarks : Rect → Rect → State → State
+abbrev pub withMarks : Rect → List Rect → State → State
 withMarks d o s = withHead (withDirty d (s .head)) (withPanels (map (withOwed o) (s .panels)) s)
 
 -- ---- pictures
 
 -- a call that was lent l is done; it leaves dirty d and o owed to each panel, a screen of which P holds, and nothing else is changed
-pub record Leaves (l : Lent) (P : List ℕ → Type 0) (d o : Rect) (out : Outcome) : Type 0 where
+pub record Leaves (l : Lent) (P : List ℕ → Type 0) (d : Rect) (o : List Rect) (out : Outcome) : Type 0 where
   pub code : out .code ≡ 0
   pub numbers : out .numbers ≡ []
   pub dirty : dirtyIn (out .left) ≡ d
-  pub owed : (k : ℕ) → k < 4 → owedIn k (out .left) ≡ o ∷ []
+  pub owed : (k : ℕ) → k < 4 → owedIn k (out .left) ≡ o
   pub screen : P (screenIn (out .left))
   -- no other field of the record changes, no byte of memory outside the screen, and no byte of the panel
   pub rec : out .left .rec ≡ encode base (withMarks d o (decode base (l .rec)))
@@ -90,14 +106,14 @@ pub record Leaves (l : Lent) (P : List ℕ → Type 0) (d o : Rect) (out : Outco
   pub panel : out .left .panel ≡ l .panel
 
 -- it changes the pixels that ps names
-abbrev pub Drew : Lent → List PixelWrite → Rect → Rect → Outcome → Type 0
+abbrev pub Drew : Lent → List PixelWrite → Rect → List Rect → Outcome → Type 0
 Drew l ps d o out = Leaves l (Changed ps (screenIn l)) d o out
 
-abbrev pub Picture : Call → List PixelWrite → Rect → Rect → Type 0
+abbrev pub Picture : Call → List PixelWrite → Rect → List Rect → Type 0
 Picture c ps d o = (l : Lent) → Unmarked l → Drew l ps d o (outcome base c l)
 
 -- so with one edge flag
-abbrev pub EdgePicture : ℕ → Call → List PixelWrite → Rect → Rect → Type 0
+abbrev pub EdgePicture : ℕ → Call → List PixelWrite → Rect → List Rect → Type 0
 EdgePicture edge c ps d o = (l : Lent) → Unmarked l → edgeFlag l ≡ edge → Drew l ps d o (outcome base c l)
 
 -- ---- pages
@@ -147,4 +163,4 @@ cornerGlyph l glyph = corner (halfOf glyph 0 (flagIn l 0)) (halfOf glyph 1 (flag
 
 -- a flush with the fonts f leaves the screen `shown`, and marks the whole of it
 abbrev pub Shows : Fonts → Lent → List ℕ → Type 0
-Shows f l shown = Leaves l (λ s. s ≡ shown) (rect 0 0 160 80) (rect 0 0 160 80) (outcome base (flush f) l)
+Shows f l shown = Leaves l (λ s. s ≡ shown) (rect 0 0 160 80) (downFrom 0 0 160) (outcome base (flush f) l)

@@ -13,20 +13,20 @@ use Rattle.model.specs.declared.Edge.{Edge}
 use Rattle.model.specs.Geometry.{base}
 use Rattle.model.specs.Bits.{bitAt}
 use Rattle.model.specs.Pixels.{bit, onScreen, draw, seen}
-use Rattle.model.specs.Rects.{none, inside, cut, lowered}
+use Rattle.model.specs.Rects.{none, inside, isEmpty, join, cut, lowered}
 use Rattle.model.specs.Memory.{window}
 use Rattle.model.specs.Refusals.{SOURCE, refusal, ruled}
-use Rattle.model.specs.Marks.{Drawing, within, owes, drawnOn}
+use Rattle.model.specs.Marks.{Drawing, joinOwed, within, owes, drawnOn}
 use Rattle.model.specs.Bitmaps.{paintMode, paintOp, sourceFits, visible, visibleRect, paintedLine, paintedLines, bitmap}
 use Rattle.model.specs.Points.{drawMode, pointOp, pointRect, point}
-use Rattle.model.specs.Lines.{isUnknown, runOp, pixelRun, clamped, stopped, edgeOf, horizontal, owedBy, horizontalLine, pixelColumn, vertical, stepped, nextError, slope, sloped, slopedLine, line}
+use Rattle.model.specs.Lines.{isUnknown, runOp, pixelRun, clamped, stopped, edgeOf, horizontal, owedBy, horizontalLine, pixelColumn, vertical, verticalLine, stepped, nextError, slope, sloped, slopedLine, line}
 use Rattle.model.specs.Boxes.{boxRows, filledBox, outline, boxOf, box}
 use Rattle.model.specs.Ellipses.{start, moves, advanced, turns, turned, xStep, yStep, part, xParts, yParts, step, stepParts, ended, partsFrom, stepsFrom, parts, steps, corners, chord, chords, partWrites, partsWrites, wraps, ellipseMark, ellipseDrawn, isPoint, isNothing, ellipse, circle, radiiFit, stepsFit}
 use Rattle.model.specs.Calls.{drawPoint, drawLine, drawBox, drawCircle, paintBitmap, filled, edgeIn, Lent, lent, Outcome, answered, refusals, drawingWith, drawing, done, refused, outcome}
 use Rattle.laws.specs.Memory.{window-back}
 use Rattle.laws.specs.Calls.{own-decide}
 use Rattle.laws.specs.Updates.{unmarked}
-use Rattle.pictures.specs.Picture.{screenIn, rect, sets, clears, inverts, graphicsIn, edgeFlag, Unmarked, Drew, Picture, EdgePicture}
+use Rattle.pictures.specs.Picture.{screenIn, rect, nothing, first, last, downFrom, sets, clears, inverts, graphicsIn, edgeFlag, Unmarked, Drew, Picture, EdgePicture}
 use Rattle.pictures.specs.Writes.{hits, made, alike, names, allOf, pictured}
 use Rattle.pictures.specs.Drawings.{passing, screen-fits, entered, done-on, drew, drew-by}
 
@@ -38,33 +38,38 @@ point-off mode h l u =
     done-on l u (drawPoint 160 0 mode) refl (le-leb mode 3 h, tt)
     ∙ (λ i. answered 0 [] (lent (unmarked base (l .rec) (passing l u) i) (window-back (graphicsIn l) 1600 (l .memory) (screen-fits l u) i) (l .panel)))
 
-pub point-unknown : Picture (drawPoint 5 5 3) [] (rect 5 5 6 6) (rect 5 5 6 6)
-unfolding done point pointRect pointOp onScreen seen owes within inside cut pictured hits made alike allOf names
+pub point-unknown : Picture (drawPoint 5 5 3) [] (rect 5 5 6 6) (first (rect 5 5 6 6))
+unfolding done point pointRect pointOp onScreen seen owes within inside joinOwed join isEmpty cut pictured hits made alike allOf names
 point-unknown l u = drew l u (drawPoint 5 5 3) (point 20 80 5 5 (drawMode 3)) _ _ _ refl (refl, tt) refl (inr (omega arith)) refl refl refl
 
 -- horizontals of line y in Or
 abbrev level : ℕ → ℕ → ℕ → Edge → Drawing
 level left right y edge = line 20 80 edge left y right y (drawMode 1)
 
-pub line-clamped : EdgePicture 0 (drawLine 200 90 210 90 1) (sets 159 79 ∷ []) (rect 200 90 211 91) (rect 159 79 160 80)
-unfolding done line edgeOf horizontalLine horizontal clamped owedBy pixelRun runOp lowered onScreen seen owes within inside cut pictured hits made alike allOf names
+pub line-clamped : EdgePicture 0 (drawLine 200 90 210 90 1) (sets 159 79 ∷ []) (rect 200 90 211 91) (last (rect 159 79 160 80))
+unfolding done line edgeOf horizontalLine horizontal clamped owedBy pixelRun runOp lowered onScreen seen owes within inside joinOwed join isEmpty cut pictured hits made alike allOf names
 line-clamped l u e =
     drew-by l u 0 (drawLine 200 90 210 90 1) (level 200 210 90) _ _ _ e refl (refl, tt) refl (inr (omega arith)) refl refl refl
 
-pub line-beyond : EdgePicture 1 (drawLine 200 90 210 90 1) [] (rect 200 90 211 91) none
-unfolding done line edgeOf horizontalLine horizontal stopped owedBy pixelRun runOp onScreen seen owes within inside cut pictured hits made alike allOf names
+pub line-beyond : EdgePicture 1 (drawLine 200 90 210 90 1) [] (rect 200 90 211 91) nothing
+unfolding done line edgeOf horizontalLine horizontal stopped owedBy pixelRun runOp onScreen seen owes within inside joinOwed join isEmpty cut pictured hits made alike allOf names
 line-beyond l u e =
     drew-by l u 1 (drawLine 200 90 210 90 1) (level 200 210 90) _ _ _ e refl (refl, tt) refl (inr (omega arith)) refl refl refl
 
 pub line-cut : EdgePicture 1 (drawLine 150 79 170 79 1)
     (sets 150 79 ∷ sets 151 79 ∷ sets 152 79 ∷ sets 153 79 ∷ sets 154 79 ∷ sets 155 79 ∷ sets 156 79 ∷ sets 157 79 ∷ sets 158 79 ∷ sets 159 79 ∷ [])
-    (rect 150 79 171 80) (rect 150 79 160 80)
-unfolding done line edgeOf horizontalLine horizontal stopped owedBy pixelRun runOp onScreen seen owes within inside cut pictured hits made alike allOf names
+    (rect 150 79 171 80) (last (rect 150 79 160 80))
+unfolding done line edgeOf horizontalLine horizontal stopped owedBy pixelRun runOp onScreen seen owes within inside joinOwed join isEmpty cut pictured hits made alike allOf names
 line-cut l u e =
     drew-by l u 1 (drawLine 150 79 170 79 1) (level 150 170 79) _ _ _ e refl (refl, tt) refl (inr (omega arith)) refl refl refl
 
-pub line-sloped : Picture (drawLine 0 0 2 1 1) (sets 0 0 ∷ sets 1 0 ∷ sets 2 1 ∷ []) (rect 0 0 3 2) (rect 0 0 3 2)
-unfolding done line isUnknown slopedLine sloped slope stepped nextError pointOp onScreen seen owes within inside cut pictured hits made alike allOf names
+-- over a band's edge
+pub line-down : Picture (drawLine 3 14 3 17 1) (sets 3 14 ∷ sets 3 15 ∷ sets 3 16 ∷ sets 3 17 ∷ []) (rect 3 14 4 18) (rect 3 14 4 16 ∷ rect 3 16 4 18 ∷ none ∷ none ∷ none ∷ [])
+unfolding done line isUnknown verticalLine vertical pixelColumn pointOp onScreen seen owes within inside joinOwed join isEmpty cut pictured hits made alike allOf names
+line-down l u = drew l u (drawLine 3 14 3 17 1) (line 20 80 (edgeIn base l) 3 14 3 17 (drawMode 1)) _ _ _ refl (refl, tt) refl (inr (omega arith)) refl refl refl
+
+pub line-sloped : Picture (drawLine 0 0 2 1 1) (sets 0 0 ∷ sets 1 0 ∷ sets 2 1 ∷ []) (rect 0 0 3 2) (first (rect 0 0 3 2))
+unfolding done line isUnknown slopedLine sloped slope stepped nextError pointOp onScreen seen owes within inside joinOwed join isEmpty cut pictured hits made alike allOf names
 line-sloped l u = drew l u (drawLine 0 0 2 1 1) (line 20 80 (edgeIn base l) 0 0 2 1 (drawMode 1)) _ _ _ refl (refl, tt) refl (inr (omega arith)) refl refl refl
 
 -- ---- boxes
@@ -75,8 +80,8 @@ shape x1 y1 x2 y2 fill mode edge = box 20 80 edge x1 y1 x2 y2 (filled fill) (dra
 
 pub box-past-bottom : EdgePicture 0 (drawBox 0 78 7 80 1 2)
     (inverts 0 78 ∷ inverts 1 78 ∷ inverts 2 78 ∷ inverts 3 78 ∷ inverts 4 78 ∷ inverts 5 78 ∷ inverts 6 78 ∷ inverts 7 78 ∷ [])
-    (rect 0 78 8 81) (rect 0 78 8 80)
-unfolding done box boxOf edgeOf filledBox boxRows horizontal clamped owedBy pixelRun runOp lowered onScreen seen owes within inside cut pictured hits made alike allOf names
+    (rect 0 78 8 81) (last (rect 0 78 8 80))
+unfolding done box boxOf edgeOf filledBox boxRows horizontal clamped owedBy pixelRun runOp lowered onScreen seen owes within inside joinOwed join isEmpty cut pictured hits made alike allOf names
 box-past-bottom l u e =
     drew-by l u 0 (drawBox 0 78 7 80 1 2) (shape 0 78 7 80 1 2) _ _ _ e refl (refl, tt) refl (inr (omega arith)) refl refl refl
 
@@ -89,14 +94,14 @@ box-row l u e x h =
 pub box-cut : EdgePicture 1 (drawBox 0 78 7 80 1 2)
     (inverts 0 78 ∷ inverts 1 78 ∷ inverts 2 78 ∷ inverts 3 78 ∷ inverts 4 78 ∷ inverts 5 78 ∷ inverts 6 78 ∷ inverts 7 78
     ∷ inverts 0 79 ∷ inverts 1 79 ∷ inverts 2 79 ∷ inverts 3 79 ∷ inverts 4 79 ∷ inverts 5 79 ∷ inverts 6 79 ∷ inverts 7 79 ∷ [])
-    (rect 0 78 8 81) (rect 0 78 8 80)
-unfolding done box boxOf edgeOf filledBox boxRows horizontal stopped owedBy pixelRun runOp onScreen seen owes within inside cut pictured hits made alike allOf names
+    (rect 0 78 8 81) (last (rect 0 78 8 80))
+unfolding done box boxOf edgeOf filledBox boxRows horizontal stopped owedBy pixelRun runOp onScreen seen owes within inside joinOwed join isEmpty cut pictured hits made alike allOf names
 box-cut l u e =
     drew-by l u 1 (drawBox 0 78 7 80 1 2) (shape 0 78 7 80 1 2) _ _ _ e refl (refl, tt) refl (inr (omega arith)) refl refl refl
 
 -- an outline past the right lower corner
-pub outline-cut : EdgePicture 1 (drawBox 158 78 161 81 0 1) (sets 158 78 ∷ sets 159 78 ∷ sets 158 79 ∷ []) (rect 158 78 162 82) (rect 158 78 160 80)
-unfolding done box boxOf edgeOf outline isUnknown horizontal stopped vertical pixelColumn pointOp owedBy pixelRun runOp onScreen seen owes within inside cut pictured hits made alike allOf names
+pub outline-cut : EdgePicture 1 (drawBox 158 78 161 81 0 1) (sets 158 78 ∷ sets 159 78 ∷ sets 158 79 ∷ []) (rect 158 78 162 82) (last (rect 158 78 160 80))
+unfolding done box boxOf edgeOf outline isUnknown horizontal stopped vertical pixelColumn pointOp owedBy pixelRun runOp onScreen seen owes within inside joinOwed join isEmpty cut pictured hits made alike allOf names
 outline-cut l u e =
     drew-by l u 1 (drawBox 158 78 161 81 0 1) (shape 158 78 161 81 0 1) _ _ _ e refl (refl, tt) refl (inr (omega arith)) refl refl refl
 
@@ -113,25 +118,25 @@ circle-steps = refl
 -- its parts' corners
 pub circle-two : Picture (drawCircle 10 10 2 0 1)
     (sets 8 10 ∷ sets 12 10 ∷ sets 8 9 ∷ sets 12 9 ∷ sets 8 11 ∷ sets 12 11 ∷ sets 8 8 ∷ sets 12 8 ∷ sets 8 12 ∷ sets 12 12 ∷ sets 10 8 ∷ sets 10 12 ∷ [])
-    (rect 8 8 160 80) (rect 8 8 160 80)
-unfolding done radiiFit stepsFit isPoint isNothing isUnknown ellipse ellipseDrawn ellipseMark wraps partsWrites partWrites corners steps stepsFrom parts partsFrom start step stepParts xStep yStep xParts yParts advanced moves turns turned ended pointOp onScreen seen owes within inside cut pictured hits made alike allOf names
+    (rect 8 8 160 80) (downFrom 8 8 160)
+unfolding done radiiFit stepsFit isPoint isNothing isUnknown ellipse ellipseDrawn ellipseMark wraps partsWrites partWrites corners steps stepsFrom parts partsFrom start step stepParts xStep yStep xParts yParts advanced moves turns turned ended pointOp onScreen seen owes within inside joinOwed join isEmpty cut pictured hits made alike allOf names
 circle-two l u = drew l u (drawCircle 10 10 2 0 1) (circle 20 80 (edgeIn base l) 10 10 2 false (drawMode 1)) _ _ _ refl (refl, (refl, (refl, tt))) refl (inr (omega arith)) refl refl refl
 
-pub circle-one : Picture (drawCircle 10 10 1 0 1) (sets 9 10 ∷ sets 11 10 ∷ []) (rect 9 9 160 80) (rect 9 9 160 80)
-unfolding done radiiFit stepsFit isPoint isNothing isUnknown ellipse ellipseDrawn ellipseMark wraps partsWrites partWrites corners steps stepsFrom parts partsFrom start step stepParts xStep yStep xParts yParts advanced moves turns turned ended pointOp onScreen seen owes within inside cut pictured hits made alike allOf names
+pub circle-one : Picture (drawCircle 10 10 1 0 1) (sets 9 10 ∷ sets 11 10 ∷ []) (rect 9 9 160 80) (downFrom 9 9 160)
+unfolding done radiiFit stepsFit isPoint isNothing isUnknown ellipse ellipseDrawn ellipseMark wraps partsWrites partWrites corners steps stepsFrom parts partsFrom start step stepParts xStep yStep xParts yParts advanced moves turns turned ended pointOp onScreen seen owes within inside joinOwed join isEmpty cut pictured hits made alike allOf names
 circle-one l u = drew l u (drawCircle 10 10 1 0 1) (circle 20 80 (edgeIn base l) 10 10 1 false (drawMode 1)) _ _ _ refl (refl, (refl, (refl, tt))) refl (inr (omega arith)) refl refl refl
 
 -- a disc right of the screen
 abbrev disc : Edge → Drawing
 disc edge = circle 20 80 edge 162 10 2 true (drawMode 1)
 
-pub disc-clamped : EdgePicture 0 (drawCircle 162 10 2 1 1) (sets 159 8 ∷ sets 159 9 ∷ sets 159 10 ∷ sets 159 11 ∷ sets 159 12 ∷ []) (rect 160 8 165 80) (rect 159 8 160 80)
-unfolding done radiiFit stepsFit isPoint isNothing isUnknown ellipse ellipseDrawn ellipseMark wraps partsWrites partWrites chords chord edgeOf horizontal clamped owedBy pixelRun runOp lowered steps stepsFrom parts partsFrom start step stepParts xStep yStep xParts yParts advanced moves turns turned ended onScreen seen owes within inside cut pictured hits made alike allOf names
+pub disc-clamped : EdgePicture 0 (drawCircle 162 10 2 1 1) (sets 159 8 ∷ sets 159 9 ∷ sets 159 10 ∷ sets 159 11 ∷ sets 159 12 ∷ []) (rect 160 8 165 80) (downFrom 159 8 160)
+unfolding done radiiFit stepsFit isPoint isNothing isUnknown ellipse ellipseDrawn ellipseMark wraps partsWrites partWrites chords chord edgeOf horizontal clamped owedBy pixelRun runOp lowered steps stepsFrom parts partsFrom start step stepParts xStep yStep xParts yParts advanced moves turns turned ended onScreen seen owes within inside joinOwed join isEmpty cut pictured hits made alike allOf names
 disc-clamped l u e =
     drew-by l u 0 (drawCircle 162 10 2 1 1) disc _ _ _ e refl (refl, (refl, (refl, tt))) refl (inr (omega arith)) refl refl refl
 
-pub disc-beyond : EdgePicture 1 (drawCircle 162 10 2 1 1) [] (rect 160 8 165 80) none
-unfolding done radiiFit stepsFit isPoint isNothing isUnknown ellipse ellipseDrawn ellipseMark wraps partsWrites partWrites chords chord edgeOf horizontal stopped owedBy pixelRun runOp steps stepsFrom parts partsFrom start step stepParts xStep yStep xParts yParts advanced moves turns turned ended onScreen seen owes within inside cut pictured hits made alike allOf names
+pub disc-beyond : EdgePicture 1 (drawCircle 162 10 2 1 1) [] (rect 160 8 165 80) nothing
+unfolding done radiiFit stepsFit isPoint isNothing isUnknown ellipse ellipseDrawn ellipseMark wraps partsWrites partWrites chords chord edgeOf horizontal stopped owedBy pixelRun runOp steps stepsFrom parts partsFrom start step stepParts xStep yStep xParts yParts advanced moves turns turned ended onScreen seen owes within inside joinOwed join isEmpty cut pictured hits made alike allOf names
 disc-beyond l u e =
     drew-by l u 1 (drawCircle 162 10 2 1 1) disc _ _ _ e refl (refl, (refl, (refl, tt))) refl (inr (omega arith)) refl refl refl
 
@@ -139,9 +144,9 @@ disc-beyond l u e =
 
 -- the pixels are the byte's last seven bits
 pub bitmap-clipped : (a : ℕ) → a < 65536 → (l : Lent) → Unmarked l → getD (l .memory) a 0 ≡ 0x81
-    → Drew l (clears 0 0 ∷ clears 1 0 ∷ clears 2 0 ∷ clears 3 0 ∷ clears 4 0 ∷ clears 5 0 ∷ sets 6 0 ∷ []) (rect 0 0 7 1) (rect 0 0 7 1)
+    → Drew l (clears 0 0 ∷ clears 1 0 ∷ clears 2 0 ∷ clears 3 0 ∷ clears 4 0 ∷ clears 5 0 ∷ sets 6 0 ∷ []) (rect 0 0 7 1) (first (rect 0 0 7 1))
     (outcome base (paintBitmap a (negsuc 0) (pos 0) 8 1 0) l)
-unfolding done window sourceFits bitmap visible visibleRect paintedLines paintedLine paintOp bit bitAt onScreen seen owes within inside cut pictured hits made alike allOf names
+unfolding done window sourceFits bitmap visible visibleRect paintedLines paintedLine paintOp bit bitAt onScreen seen owes within inside joinOwed join isEmpty cut pictured hits made alike allOf names
 bitmap-clipped a h l u e =
     let source : window a 1 (l .memory) ≡ 0x81 ∷ [] = ap (take 1) (drop-cons (l .memory) a 0 (omega (arith, u .memory))) ∙ ap (λ (b : ℕ). b ∷ []) e in
     drew l u (paintBitmap a (negsuc 0) (pos 0) 8 1 0)

@@ -1,14 +1,15 @@
 // The panels' parts in the lent record, for the glass that is told.
+use marks::rect;
 use model::Rect;
 use model::glass::Glass;
 use model::glass::HEAD_BYTES;
-use owed::bands;
+use owed::rects;
 ghost use mathlib.Core.Path.{_≡_};
 ghost use Prim.Native.Nat.{_+_, _*_, _≤_, _<_};
 ghost use lib.ListN.{length};
 ghost use Rattle.model.specs.Glass.{geometry, Suits};
 ghost use Rattle.model.specs.Record.{at, panel, recordBytes};
-ghost use Rattle.laws.specs.Panels.{markFrom};
+ghost use Rattle.laws.specs.Marking.{joinedFrom, markFrom};
 
 // Where panel k's part begins.
 pub fn panel_at(glass: Glass, k: usize) -> usize
@@ -30,17 +31,37 @@ pub fn sent_at(glass: Glass, at: usize) -> usize
     at + 8 * glass.bands + 8
 }
 
-// A mark joined to what each panel is owed.
-pub fn mark_panels(rec: &mut [u8], glass: Glass, m: Rect)
+// A rectangle joined to what each panel is owed in band i.
+fn join_band(rec: &mut [u8], glass: Glass, i: usize, q: Rect)
     requires { ⌜ Suits glass ⌝ }
-    requires { ⌜ length (now rec) ≡ recordBytes (geometry glass) ⌝ }
-    ensures { λ _. ⌜ now (rec .exit) ≡ markFrom (geometry glass) m 0 (glass .panels) (now (rec .entry)) ⌝ }
+    requires { ⌜ (length (now rec) ≡ recordBytes (geometry glass)) × (i < glass .bands) ⌝ }
+    ensures { λ _. ⌜ now (rec .exit) ≡ joinedFrom (geometry glass) i q 0 (glass .panels) (now (rec .entry)) ⌝ }
 {
     let panels = glass.panels;
     let mut k: usize = 0;
     while k < panels {
         let at = panel_at(glass, k);
-        bands::join_owed(rec, at, glass.bands, glass.band, glass.width, m);
+        rects::join_rect(rec, rects::band_at(at, i), q);
         k += 1;
+    }
+}
+
+// A mark cut at the edges of the screen and of the bands, each part joined to what each panel is owed in its band: from the band of the mark's top line on.
+pub fn mark_panels(rec: &mut [u8], glass: Glass, m: Rect)
+    requires { ⌜ Suits glass ⌝ }
+    requires { ⌜ length (now rec) ≡ recordBytes (geometry glass) ⌝ }
+    ensures { λ _. ⌜ now (rec .exit) ≡ markFrom (geometry glass) m 0 (glass .bands) (now (rec .entry)) ⌝ }
+{
+    let band = glass.band;
+    let width = glass.width;
+    let bottom = rect::least(m.bottom, glass.height);
+    let first = m.top / band;
+    let mut i = first as usize;
+    let mut lo = first * band;
+    while lo < bottom {
+        let hi = lo + band;
+        join_band(rec, glass, i, rect::cut_rect(width, lo, hi, m));
+        lo = hi;
+        i += 1;
     }
 }

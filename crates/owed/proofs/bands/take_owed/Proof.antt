@@ -1,20 +1,25 @@
+use Prim.Native.Nat.{_-_}
+use native.Mathlib.Omega.{arith}
 use borrow.Author.Tests.{not-true, not-false}
-use Rattle.laws.specs.Owed.{Taking, take-starts, take-goes, take-finds, take-ends}
 use borrow.Author.Needs.{needs}
+use Rattle.laws.specs.Owed.{Taking, take-starts, take-room, take-goes, take-finds, take-ends}
 use Rattle.owed.proofs.bands.take_owed.Statement.{statement}
 use Rattle.owed.proofs.bands.take_owed.Tie as tie
 
 abbrev Inv-loop : tie.InvT-loop
-Inv-loop rec₀ at bands a₀ left₀ rec a left = Taking bands at rec₀ rec a left
+Inv-loop rec₀ at bands i₀ rec i = Taking bands at rec₀ rec i
 
 abbrev μ-loop : tie.MeasureT-loop
-μ-loop rec₀ at bands a₀ left₀ rec a left = left
+μ-loop rec₀ at bands i₀ rec i = bands - i
 
 loop-holds : tie.Need-loop-holds Inv-loop μ-loop
 loop-holds c = search take-starts
 
+band-at-requires : tie.Need-band-at-requires Inv-loop μ-loop
+band-at-requires c κs = omega (arith, take-room _ _ _ _ _ (c .before .loop .inv) (c .loop-test .taken))
+
 load-rect-requires : tie.Need-load-rect-requires Inv-loop μ-loop
-load-rect-requires c κs = search needs
+load-rect-requires c κs = let l = c .before .before .before in omega (arith, take-room _ _ _ _ _ (l .loop .inv) (c .before .before .loop-test .taken), c .before .band-at .ensures)
 
 is-empty-requires : tie.Need-is-empty-requires Inv-loop μ-loop
 is-empty-requires c κs = search needs
@@ -23,31 +28,31 @@ empty-requires : tie.Need-empty-requires Inv-loop μ-loop
 empty-requires c κs = search needs
 
 store-rect-requires : tie.Need-store-rect-requires Inv-loop μ-loop
-store-rect-requires c κs = search needs
+store-rect-requires c κs =
+    let b = c .before .before .before .before .before .before in
+    omega (arith, take-room _ _ _ _ _ (b .before .before .loop .inv) (b .before .loop-test .taken), b .band-at .ensures)
 
 same-length : tie.Need-same-length Inv-loop μ-loop
 same-length c = search needs
 
 returns : tie.Need-returns Inv-loop μ-loop
 returns c =
-    let s = c .before .before in
-    let i = s .before .before .before in
-    let l = i .before .before .before .before in
-    take-finds (l .before .loop .inv) (l .loop-test .taken) (λ j. l .before .before .slice-known .given j .fits) (i .before .before .load-rect .ensures) (i .before .is-empty .ensures) (not-true _ (i .if1 .taken)) (s .before .empty .ensures) (s .store-rect .ensures)
+    let i = c .before .before .before .before .before in
+    let b = i .before .before .before .before in
+    let l = b .before .before in
+    take-finds (l .loop .inv) (b .before .loop-test .taken) (λ j. l .before .slice-known .given j .fits) (b .band-at .ensures) (i .before .before .load-rect .ensures) (i .before .is-empty .ensures) (not-true _ (i .if1 .taken)) (c .before .before .before .empty .ensures) (c .before .before .store-rect .ensures)
 
-add-a : tie.Need-add-a Inv-loop μ-loop
-add-a c = search needs
-
-sub-left : tie.Need-sub-left Inv-loop μ-loop
-sub-left c = search needs
+add-i : tie.Need-add-i Inv-loop μ-loop
+add-i c = search needs
 
 loop-less : tie.Need-loop-less Inv-loop μ-loop
 loop-less c = search needs
 
 loop-again : tie.Need-loop-again Inv-loop μ-loop
 loop-again c =
-    let l = c .before .before .before .before in
-    take-goes (l .before .loop .inv) (l .loop-test .taken) (λ j. l .before .before .slice-known .given j .fits) (c .before .before .load-rect .ensures) (c .before .is-empty .ensures) (not-false _ (c .if1 .left))
+    let b = c .before .before .before .before in
+    let l = b .before .before in
+    take-goes (l .loop .inv) (b .before .loop-test .taken) (λ j. l .before .slice-known .given j .fits) (b .band-at .ensures) (c .before .before .load-rect .ensures) (c .before .is-empty .ensures) (not-false _ (c .if1 .left))
 
 empty-requires-2 : tie.Need-empty-requires-2 Inv-loop μ-loop
 empty-requires-2 c κs = search needs
@@ -65,14 +70,14 @@ take-owed-spec =
     Inv-loop
     μ-loop
     loop-holds
+    band-at-requires
     load-rect-requires
     is-empty-requires
     empty-requires
     store-rect-requires
     same-length
     returns
-    add-a
-    sub-left
+    add-i
     loop-less
     loop-again
     empty-requires-2

@@ -1,6 +1,6 @@
 -- What is owed fails, or what is in hand decides.
 use native.Mathlib.Omega.{arith}
-use Rattle.laws.specs.Panels.{join-room, hand-room}
+use Rattle.laws.specs.Panels.{bands-room, hand-room}
 use Rattle.laws.specs.StateTest.{pending-fails, pending-is}
 use borrow.Author.Needs.{needs}
 use Rattle.record.proofs.state.pending_fits.Statement.{statement}
@@ -10,7 +10,7 @@ panel-at-requires : tie.Need-panel-at-requires
 panel-at-requires c κs = search needs
 
 bands-fit-requires : tie.Need-bands-fit-requires
-bands-fit-requires c κs = let s = c .before .before in join-room (s .args .rec .now) (s .pre .0) (s .pre .1 .0) (s .pre .1 .1) (c .panel-at .ensures)
+bands-fit-requires c κs = let s = c .before .before in bands-room (s .args .rec .now) (s .pre .0) (s .pre .1 .0) (s .pre .1 .1) (c .panel-at .ensures)
 
 returns : tie.Need-returns
 returns c =
