@@ -6,11 +6,12 @@ use lib.ListN.{length}
 use Rattle.model.specs.declared.glass.Glass.{Glass}
 use Rattle.model.specs.Geometry.{memoryBytes}
 use Rattle.model.specs.Bytes.{Words}
-use Rattle.model.specs.Glass.{geometry, Suits}
+use Rattle.model.specs.Glass.{geometry}
 use Rattle.model.specs.Record.{recordBytes}
+use Rattle.record.specs.Entry.{Chosen}
 
 pub record Opened (v : Glass) (r m : List ℕ) (keys : List ℕ) : Type 0 where
-  pub suits : Suits v
+  pub chosen : Chosen (length r) v
   pub sized : length r ≡ recordBytes (geometry v)
   pub memory : length m ≡ memoryBytes
   pub count : length keys ≡ 8

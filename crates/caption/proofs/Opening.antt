@@ -52,4 +52,4 @@ module _ {v : Glass} (r m : List ℕ) (graphics text version : ℕ) (keys : List
 
   pub may-open : (eqb (length r) (v .bytes) && eqb (length m) 65536) ≡ true → length keys ≡ 8 → Words keys → Opened v r m keys
   may-open e n w =
-      record { suits = k .suits; sized = lent-sized (eqb (length m) 65536) r k e; memory = eqb-true (length m) 65536 (and-true (eqb (length r) (v .bytes)) (eqb (length m) 65536) e .1); count = n; words = w }
+      record { chosen = k; sized = lent-sized (eqb (length m) 65536) r k e; memory = eqb-true (length m) 65536 (and-true (eqb (length r) (v .bytes)) (eqb (length m) 65536) e .1); count = n; words = w }

@@ -205,7 +205,8 @@ pub record Marking (v : Glass) (m : Rect) (r₀ r : List ℕ) (bottom lo i : ℕ
   pub line : lo ≡ i * v .band
   pub end : bottom ≡ min (m .bottom) (v .height)
   pub bytes : Bytes r
-  pub sized : length r ≡ recordBytes (geometry v)
+  pub long : length r ≡ recordBytes (geometry v)
+  pub sized : length r ≡ length r₀
   pub same : markFrom (geometry v) m i (v .bands - i) r ≡ markFrom (geometry v) m 0 (v .bands) r₀
 
 pub glass-band : (v : Glass) → Suits v → 0 < v .band
@@ -227,7 +228,7 @@ mark-starts v m r {first = first} z b e f =
     let low : v .bands * v .band ≤ first * v .band = mul-le-mul-right (v .band) h in
     let t = skip-above g r b z m (v .bands) 0 0 (omega arith) (omega arith) in
     let c : v .bands + 0 ≡ v .bands = omega arith in cc) in
-    record { line = refl; end = e; bytes = b; sized = z; same = start }
+    record { line = refl; end = e; bytes = b; long = z; sized = refl; same = start }
 
 module _ {v : Glass} {m : Rect} {r₀ r : List ℕ} {bottom lo i : ℕ} (z : Suits v) (k : Marking v m r₀ r bottom lo i) where
   -- the next is there, and its lines are the glass's
@@ -244,8 +245,8 @@ module _ {v : Glass} {m : Rect} {r₀ r : List ℕ} {bottom lo i : ℕ} (z : Sui
       let g = geometry v in
       let there = band-there h in
       let left : v .bands - i ≡ suc (v .bands - (i + 1)) = omega arith in
-      let kept = joined-from g i q (v .panels) 0 r there (omega arith) (k .bytes) (k .sized) in
-      record { line = omega (arith, k .line); end = k .end; bytes = rw j (kept .0); sized = rw j (kept .1); same = cc (add-one i, k .line, k .same, z .is-width) }
+      let kept = joined-from g i q (v .panels) 0 r there (omega arith) (k .bytes) (k .long) in
+      record { line = omega (arith, k .line); end = k .end; bytes = rw j (kept .0); long = rw j (kept .1); sized = rw j (kept .1 ∙ sym (k .long) ∙ k .sized); same = cc (add-one i, k .line, k .same, z .is-width) }
 
   pub mark-ends : bottom ≤ lo → r ≡ markFrom (geometry v) m 0 (v .bands) r₀
   unfolding markFrom
@@ -253,5 +254,5 @@ module _ {v : Glass} {m : Rect} {r₀ r : List ℕ} {bottom lo i : ℕ} (z : Sui
       by-lt i (v .bands)
       (λ j. let t : suc i * v .band ≤ v .bands * v .band = mul-le-mul-right (v .band) j in
       let some = glass-band v z in
-      sym (skip-below (geometry v) r (k .bytes) (k .sized) m (v .bands - i) i (omega arith) (omega (arith, k .line, k .end, z .is-height))) ∙ k .same)
+      sym (skip-below (geometry v) r (k .bytes) (k .long) m (v .bands - i) i (omega arith) (omega (arith, k .line, k .end, z .is-height))) ∙ k .same)
       (λ j. let e : v .bands - i ≡ 0 = omega arith in cc (k .same))

@@ -53,14 +53,13 @@ whole-of v e = ap (λ (x : Canvas). whole (x .stride) (x .height)) e
 
 -- ---- what is marked, with another head
 
-pub marks-head : {v : Glass} {r : List ℕ} (n : Head) (d o : Rect) {m : Head} {s t : List ℕ} → Known v r → s ≡ markFrom (geometry v) o 0 (v .bands) r
-    → m ≡ updateDirty d n → t ≡ withWindow 0 (bytesOfHead m) s → t ≡ encode (geometry v) (marked (geometry v) d o (withHead n (decode (geometry v) r)))
+pub marks-head : (g : Geometry) (r : List ℕ) (n : Head) (d o : Rect) {m : Head} {s t : List ℕ} → Passing g r → s ≡ markFrom g o 0 (g .bands) r
+    → m ≡ updateDirty d n → t ≡ withWindow 0 (bytesOfHead m) s → t ≡ encode g (marked g d o (withHead n (decode g r)))
 unfolding marked
-marks-head {v} {r} n d o {m} k f i j =
-    let g = geometry v in
+marks-head g r n d o {m} k f i j =
     let s = decode g r in
-    j ∙ ap (withWindow 0 (bytesOfHead m)) (f ∙ marks-all g o (k .suits .glass) r (k .passing))
-    ∙ put-head g m (withPanels (map (owing g o) (s .panels)) s) (k .suits .glass) (still-markable g (owing g o) s (well-owing g o) (markable g r (k .passing)) .sized)
+    j ∙ ap (withWindow 0 (bytesOfHead m)) (f ∙ marks-all g o (k .glass) r k)
+    ∙ put-head g m (withPanels (map (owing g o) (s .panels)) s) (k .glass) (still-markable g (owing g o) s (well-owing g o) (markable g r k) .sized)
     ∙ ap (λ (x : Head). encode g (withHead x (withPanels (map (owing g o) (s .panels)) s))) i
 
 -- an empty mark changes nothing

@@ -6,9 +6,10 @@ use marks::mark;
 use model::glass::Glass;
 ghost use mathlib.Core.Path.{_≡_};
 ghost use lib.ListN.{length};
-ghost use Rattle.model.specs.Glass.{geometry, Suits};
+ghost use Rattle.model.specs.Glass.{geometry};
 ghost use Rattle.model.specs.Record.{recordBytes, encode};
 ghost use Rattle.model.specs.Open.{openState};
+ghost use Rattle.record.specs.Entry.{Chosen};
 
 pub fn open_record(
     rec: &mut [u8],
@@ -19,7 +20,7 @@ pub fn open_record(
     keys: [u32; 8],
     edge: u8,
 )
-    requires { ⌜ Suits glass ⌝ }
+    requires { ⌜ Chosen (length (now rec)) glass ⌝ }
     requires { ⌜ (length (now rec) ≡ recordBytes (geometry glass)) × (length keys ≡ 8) ⌝ }
     ensures { λ _. ⌜ now (rec .exit) ≡ encode (geometry glass) (openState (geometry glass) graphics text version keys edge) ⌝ }
 {
@@ -27,5 +28,5 @@ pub fn open_record(
     layout::store_head(rec, layout::clear_head(graphics, text, version));
     layout::store_keys(rec, glass.keys, keys);
     layout::store_edge(rec, glass.edge, edge);
-    panels::mark_panels(rec, glass, mark::whole_screen(glass::canvas_of(glass)));
+    panels::mark_panels(rec, mark::whole_screen(glass::canvas_of(glass)));
 }

@@ -1,4 +1,5 @@
-// The panels' parts in the lent record, for the glass that is told.
+// The panels' parts in the lent record. A mark asks for the glass anew: as a parameter its numbers would not be constants.
+use crate::glass;
 use marks::rect;
 use model::Rect;
 use model::glass::Glass;
@@ -7,7 +8,7 @@ use owed::rects;
 ghost use mathlib.Core.Path.{_≡_};
 ghost use Prim.Native.Nat.{_+_, _*_, _≤_, _<_};
 ghost use lib.ListN.{length};
-ghost use Rattle.model.specs.Glass.{geometry, Suits};
+ghost use Rattle.model.specs.Glass.{geometry, glassOf, Suits};
 ghost use Rattle.model.specs.Record.{at, panel, recordBytes};
 ghost use Rattle.laws.specs.Marking.{joinedFrom, markFrom};
 
@@ -47,11 +48,11 @@ fn join_band(rec: &mut [u8], glass: Glass, i: usize, q: Rect)
 }
 
 // A mark cut at the edges of the screen and of the bands, each part joined to what each panel is owed in its band: from the band of the mark's top line on.
-pub fn mark_panels(rec: &mut [u8], glass: Glass, m: Rect)
-    requires { ⌜ Suits glass ⌝ }
-    requires { ⌜ length (now rec) ≡ recordBytes (geometry glass) ⌝ }
-    ensures { λ _. ⌜ now (rec .exit) ≡ markFrom (geometry glass) m 0 (glass .bands) (now (rec .entry)) ⌝ }
+pub fn mark_panels(rec: &mut [u8], m: Rect)
+    requires { ⌜ length (now rec) ≡ recordBytes (glassOf (length (now rec))) ⌝ }
+    ensures { λ _. ⌜ now (rec .exit) ≡ markFrom (glassOf (length (now (rec .entry)))) m 0 (glassOf (length (now (rec .entry))) .bands) (now (rec .entry)) ⌝ }
 {
+    let glass = glass::glass_of(rec.len());
     let band = glass.band;
     let width = glass.width;
     let bottom = rect::least(m.bottom, glass.height);

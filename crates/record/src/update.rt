@@ -28,7 +28,7 @@ pub fn mark_head(rec: &mut [u8], n: Head, m: Marks)
 {
     let dirty = m.dirty;
     let owed = m.owed;
-    panels::mark_panels(rec, glass::glass_of(rec.len()), owed);
+    panels::mark_panels(rec, owed);
     layout::store_head(rec, mark::update_dirty(n, dirty));
 }
 

@@ -5,6 +5,7 @@ use Rattle.model.specs.Marks.{whole}
 use Rattle.laws.specs.Updates.{head-in, keys-room, screen-small, whole-of}
 use Rattle.laws.specs.StateTest.{edge-room}
 use Rattle.laws.specs.Opening.{opens}
+use Rattle.record.proofs.Updating.{sized-for, marked-for}
 use borrow.Author.Needs.{needs}
 use Rattle.record.proofs.open.open_record.Statement.{statement}
 use Rattle.record.proofs.open.open_record.Tie as tie
@@ -26,7 +27,7 @@ store-keys-requires c κs =
     let store-head = c .before .before .before in
     let clear = store-head .before .before .before .before .before in
     let s = clear .before .before .before in
-    (omega (arith, keys-room (s .args .glass) (s .pre .0), s .pre .1 .0, clear .clear .kept .0, store-head .store-head .kept .0), s .pre .1 .1)
+    (omega (arith, keys-room (s .args .glass) (s .pre .0 .suits), s .pre .1 .0, clear .clear .kept .0, store-head .store-head .kept .0), s .pre .1 .1)
 
 store-edge-requires : tie.Need-store-edge-requires
 store-edge-requires c κs =
@@ -34,7 +35,7 @@ store-edge-requires c κs =
     let store-head = store-keys .before .before .before .before in
     let clear = store-head .before .before .before .before .before in
     let s = clear .before .before .before in
-    omega (arith, edge-room (s .args .glass) (s .pre .0), s .pre .1 .0, clear .clear .kept .0, store-head .store-head .kept .0, store-keys .store-keys .kept .0)
+    omega (arith, edge-room (s .args .glass) (s .pre .0 .suits), s .pre .1 .0, clear .clear .kept .0, store-head .store-head .kept .0, store-keys .store-keys .kept .0)
 
 canvas-of-requires : tie.Need-canvas-of-requires
 canvas-of-requires c κs = search needs
@@ -45,7 +46,7 @@ whole-screen-requires c κs =
     let store-keys = store-edge .before .before .before .before in
     let store-head = store-keys .before .before .before .before in
     let s = store-head .before .before .before .before .before .before .before .before in
-    screen-small (s .args .glass) (s .pre .0) (c .canvas-of .ensures)
+    screen-small (s .args .glass) (s .pre .0 .suits) (c .canvas-of .ensures)
 
 mark-panels-requires : tie.Need-mark-panels-requires
 mark-panels-requires c κs =
@@ -54,7 +55,7 @@ mark-panels-requires c κs =
     let store-head = store-keys .before .before .before .before in
     let clear = store-head .before .before .before .before .before in
     let s = clear .before .before .before in
-    (s .pre .0, omega (arith, s .pre .1 .0, clear .clear .kept .0, store-head .store-head .kept .0, store-keys .store-keys .kept .0, store-edge .store-edge .kept .0))
+    sized-for (s .pre .0) (store-edge .store-edge .kept .0 ∙ store-keys .store-keys .kept .0 ∙ store-head .store-head .kept .0 ∙ clear .clear .kept .0) (s .pre .1 .0)
 
 same-length : tie.Need-same-length
 same-length c = search needs
@@ -71,9 +72,10 @@ returns c =
     let clear = clear-head .before .before .before .before in
     let s = clear .before .before .before in
     let a = s .args in
-    opens (a .rec .now) (a .graphics) (a .text) (a .version) (a .keys) (a .edge) (s .pre .0) (s .pre .1 .0) (s .pre .1 .1)
+    let long = store-edge .store-edge .kept .0 ∙ store-keys .store-keys .kept .0 ∙ store-head .store-head .kept .0 ∙ clear .clear .kept .0 in
+    opens (a .rec .now) (a .graphics) (a .text) (a .version) (a .keys) (a .edge) (s .pre .0 .suits) (s .pre .1 .0) (s .pre .1 .1)
     (clear .clear .ensures) (clear-head .clear-head .ensures) (store-head .store-head .ensures) (store-keys .store-keys .ensures) (store-edge .store-edge .ensures)
-    (whole-screen .whole-screen .ensures ∙ whole-of (a .glass) (canvas-of .canvas-of .ensures) ∙ ap (whole (a .glass .stride)) (s .pre .0 .is-height)) (mark-panels .mark-panels .ensures)
+    (whole-screen .whole-screen .ensures ∙ whole-of (a .glass) (canvas-of .canvas-of .ensures) ∙ ap (whole (a .glass .stride)) (s .pre .0 .suits .is-height)) (marked-for _ _ (s .pre .0) long (mark-panels .mark-panels .ensures))
 
 pub open-record-spec : {M : Type 1} → statement M
 open-record-spec =
