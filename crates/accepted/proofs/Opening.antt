@@ -14,13 +14,13 @@ use Rattle.record.proofs.Updating.{updated-for}
 use Rattle.record.specs.Given.{Given}
 use Rattle.accepted.specs.Opened.{Opened}
 
-module _ {v : Glass} {r m keys : List ℕ} (o : Opened v r m keys) (graphics text version edge : ℕ) {s : List ℕ}
+module _ {v : Glass} {r m keys : List ℕ} (graphics text version edge : ℕ) (o : Opened v r m graphics text version keys edge) {s : List ℕ}
     (e : s ≡ encode (geometry v) (openState (geometry v) graphics text version keys edge)) where
   pub was-opened : {n : List ℕ} → n ≡ clearMemory (decode (geometry v) s .keys) → answered 0 [] (lent s n []) ≡ done (geometry v) (opening graphics text version keys edge) (lent r m [])
   unfolding done
   was-opened f =
       let g = geometry v in
-      λ i. answered 0 [] (lent (e i) ((f ∙ ap clearMemory (ap (λ (x : List ℕ). decode g x .keys) e ∙ open-keys g graphics text version keys edge (o .count) (o .words))) i) [])
+      λ i. answered 0 [] (lent (e i) ((f ∙ ap clearMemory (ap (λ (x : List ℕ). decode g x .keys) e ∙ open-keys g (o .chosen .suits .glass) graphics text version keys edge (o .told))) i) [])
 
 pub was-reset : {v : Glass} {r m : List ℕ} {h : Head} {s n : List ℕ} → Given v r h m → n ≡ clearMemory (decode (geometry v) r .keys)
     → s ≡ updated resetState r → answered 0 [] (lent s n []) ≡ done (geometry v) reset (lent r m [])

@@ -21,7 +21,7 @@ pub fn open(
     keys: [u32; 8],
     edge: u8,
 )
-    requires { ⌜ Opened glass (now rec) (now memory) keys ⌝ }
+    requires { ⌜ Opened glass (now rec) (now memory) graphics text version keys edge ⌝ }
     ensures { λ _. ⌜ answered 0 [] (lent (now (rec .exit)) (now (memory .exit)) []) ≡ done (geometry glass) (opening graphics text version keys edge) (lent (now (rec .entry)) (now (memory .entry)) []) ⌝ }
 {
     open::open_record(rec, glass, graphics, text, version, keys, edge);

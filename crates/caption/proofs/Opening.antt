@@ -50,6 +50,12 @@ module _ {v : Glass} (r m : List ℕ) (graphics text version : ℕ) (keys : List
         ∙ is-done g (opening graphics text version keys edge) (lent r m [])
         (passes LENT _ (lent-as (eqb (length m) 65536) r k e) (passes WINDOW _ (windows-as w f) (passes VALUE [] (ap (λ (y : Bool). leb version 1 && y) (sym i) ∙ h) none-left)))
 
-  pub may-open : (eqb (length r) (v .bytes) && eqb (length m) 65536) ≡ true → length keys ≡ 8 → Words keys → Opened v r m keys
-  may-open e n w =
-      record { chosen = k; sized = lent-sized (eqb (length m) 65536) r k e; memory = eqb-true (length m) 65536 (and-true (eqb (length r) (v .bytes)) (eqb (length m) 65536) e .1); count = n; words = w }
+    pub may-open : {x : Bool} → t ≡ true → x ≡ edgeFits edge → (leb version 1 && x) ≡ true → length keys ≡ 8 → Words keys → Opened v r m graphics text version keys edge
+    may-open {x} f i h n ws =
+        let listed = and-true (leb version 1) x h in
+        record {
+          chosen = k;
+          sized = lent-sized (eqb (length m) 65536) r k e;
+          memory = eqb-true (length m) 65536 (and-true (eqb (length r) (v .bytes)) (eqb (length m) 65536) e .1);
+          told = record { apart = sym w ∙ f; listed = listed .0; flag = sym i ∙ listed .1; count = n; words = ws };
+        }

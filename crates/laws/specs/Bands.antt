@@ -20,7 +20,7 @@ use Rattle.model.specs.Geometry.{Geometry, width, height}
 use Rattle.model.specs.Record.{Pending, nothingPending, bandsFit, pendingFits, WellPending}
 use Rattle.model.specs.Open.{openPending}
 use Rattle.laws.specs.Tests.{if-cases, clash, by-test, either, tests, and-true}
-use Rattle.laws.specs.Rects.{Fits, join-none, empty-none, is-some, not-in-none, in-not-none, join-left, join-right, join-fits, cut-fits, cut-in, Proper, fits-passes, passes-fits}
+use Rattle.laws.specs.Rects.{Fits, join-none, empty-none, is-some, not-in-none, in-not-none, join-left, join-right, join-whole, join-fits, cut-fits, cut-in, Proper, fits-passes, passes-fits}
 
 -- each rectangle lies in its band, of b lines, the first from line lo
 abbrev pub BandsFit : ℕ → ℕ → ℕ → List Rect → Type 0
@@ -199,6 +199,16 @@ well-in g m i h p w =
     let stands = bands-at (width g) (g .band) 0 (p .owed) i there f in
     let new = join-fits (width g) (i * g .band) (i * g .band + g .band) (getD (p .owed) i none) (bandPart g m i) (rw e at stands) (cut-fits (width g) (i * g .band) (i * g .band + g .band) m) in
     well-pending g (owingIn g m i p) (length-set (p .owed) i _ ∙ w .bands) (bands-set (width g) (g .band) 0 (p .owed) i _ there (rw e new) f) (hand-fits g p w) (w .counted)
+
+-- where the mark has the whole band, that is what is owed there
+abbrev pub wholeBand : Geometry → ℕ → Rect
+wholeBand g i = record { left = 0; top = i * g .band; right = width g; bottom = i * g .band + g .band }
+
+pub join-band : (g : Geometry) (i : ℕ) → 0 < width g → 0 < g .band → i < g .bands → (p : Pending) → WellPending g p → join (getD (p .owed) i none) (wholeBand g i) ≡ wholeBand g i
+join-band g i a b h p w =
+    let e : 0 + i * g .band ≡ i * g .band = omega arith in
+    let stands = bands-at (width g) (g .band) 0 (p .owed) i (omega (arith, w .bands)) (owed-fits g p w) in
+    join-whole (width g) (i * g .band) (i * g .band + g .band) (getD (p .owed) i none) a (omega arith) (rw e at stands)
 
 -- the parts in the bands from i on, n of them, one after another
 unfoldable pub owingFrom : Geometry → Rect → ℕ → ℕ → Pending → Pending

@@ -1,27 +1,30 @@
--- A record of zeros is the blank one, with an empty head and no keys; open writes head and keys into it and marks the whole screen.
-use mathlib.Core.Path.{_≡_, refl, sym, _∙_}
+-- A record of zeros is the blank one, with an empty head and no keys; open writes head, keys and edge flag into it and marks the whole screen.
+use mathlib.Core.Path.{_≡_, refl, sym, ap, _∙_}
 use mathlib.Core.Bool.{true, false}
 use mathlib.Core.List.{List, [], _∷_}
 use Prim.Native.Nat.{ℕ, zero, suc, _+_, _*_}
 use native.Mathlib.Omega.{arith}
+use lib.Dec.{leb}
 use lib.ListN.{length, replicate, length-replicate, getD-replicate, replicate-append-replicate}
+use borrow.Author.Tests.{lt-ltb}
 use Rattle.model.specs.declared.Rect.{Rect}
 use Rattle.model.specs.declared.Head.{Head}
 use Rattle.model.specs.declared.glass.Glass.{Glass}
-use Rattle.model.specs.Geometry.{Geometry, height, cells}
+use Rattle.model.specs.Geometry.{Geometry, height, rows, columns, cells}
 use Rattle.model.specs.Glass.{geometry, IsGlass, Suits}
 use Rattle.model.specs.Memory.{zeros, withWindow}
-use Rattle.model.specs.Rects.{none}
+use Rattle.model.specs.Rects.{none, isEmpty, fits}
 use Rattle.model.specs.Bytes.{rectsBytes, wordsBytes, Words}
-use Rattle.model.specs.Record.{RecordPart, has, head, headOf, keysOf, panel, keys, flags, edge, written, total, layout, size, recordBytes, Pending, State, decode, encode, partBytes, bytesOfHead, nothingPending}
-use Rattle.model.specs.Marks.{whole, owing}
+use Rattle.model.specs.Record.{RecordPart, has, head, headOf, keysOf, panel, keys, flags, edge, written, total, layout, size, recordBytes, Pending, State, decode, encode, partBytes, bytesOfHead, nothingPending, windows, headTests, headFits, edgeFits, withPanels, WellPending, WellFormed}
+use Rattle.model.specs.Marks.{whole, owing, owingEach}
 use Rattle.model.specs.Open.{clearHead, clearFlags, openPending, openState}
+use Rattle.laws.specs.Tests.{true-all}
 use Rattle.laws.specs.ListLaws.{map-replicate}
-use Rattle.laws.specs.Flags.{no-flags}
+use Rattle.laws.specs.Flags.{no-flags, length-no-flags}
 use Rattle.laws.specs.Bands.{well-nothing, well-open}
 use Rattle.laws.specs.PartLists.{written-same}
-use Rattle.laws.specs.Record.{Sized, all-owed, panel-has, keys-back, put-head, put-keys, put-edge}
-use Rattle.laws.specs.Marking.{markFrom, marks-state}
+use Rattle.laws.specs.Record.{Passing, Sized, all-owed, panel-has, keys-back, put-head, put-keys, put-edge, well-sized, decode-encode}
+use Rattle.laws.specs.States.{encode-passing}
 
 -- ---- zeros
 
@@ -54,6 +57,42 @@ zeros-encode g z = sym (written-same (partBytes g (clear g (headOf []) (nothingP
 
 -- ---- open
 
+-- what an accepted open is told
+pub record Told (g : Geometry) (graphics text version : ℕ) (ks : List ℕ) (x : ℕ) : Type 0 where
+  pub apart : windows g graphics text ≡ true
+  pub listed : leb version 1 ≡ true
+  pub flag : edgeFits x ≡ true
+  pub count : length ks ≡ 8
+  pub words : Words ks
+
+pub clear-fits : (g : Geometry) → IsGlass g → (graphics text version : ℕ) → windows g graphics text ≡ true → leb version 1 ≡ true
+    → headFits g (clearHead graphics text version) ≡ true
+unfolding headFits fits isEmpty
+clear-fits g z graphics text version a b =
+    true-all (headTests g (clearHead graphics text version))
+    (a, (lt-ltb 0 (rows g) (z .row), (lt-ltb 0 (columns g) (omega (arith, z .columns)), (refl, (refl, (refl, (b, (refl, tt))))))))
+
+module _ (g : Geometry) (z : IsGlass g) (graphics text version : ℕ) (ks : List ℕ) (x : ℕ) (t : Told g graphics text version ks x) where
+  clear-formed : (p : Pending) → WellPending g p → WellFormed g (clear g (clearHead graphics text version) p ks x)
+  clear-formed p w = record {
+    head = clear-fits g z graphics text version (t .apart) (t .listed);
+    count = length-replicate (g .panels) p;
+    panels = λ k h. rw (getD-replicate (g .panels) k p (nothingPending g) h) w;
+    words = t .count;
+    keys = t .words;
+    flags = length-no-flags (cells g);
+    edge = t .flag;
+  }
+
+  pub open-formed : WellFormed g (openState g graphics text version ks x)
+  unfolding openState
+  open-formed = clear-formed (openPending g) (well-open g)
+
+  -- what open wrote: its keys read again
+  pub open-keys : decode g (encode g (openState g graphics text version ks x)) .keys ≡ ks
+  unfolding openState
+  open-keys = keys-back g (openState g graphics text version ks x) (well-sized g (openState g graphics text version ks x) open-formed) (t .words)
+
 clear-sized : (g : Geometry) (h : Head) (p : Pending) (ks : List ℕ) (x : ℕ) → length (p .owed) ≡ g .bands → length ks ≡ 8 → Sized g (clear g h p ks x)
 clear-sized g h p ks x n m = record {
   owed = all-owed g (clear g h p ks x) (length-replicate (g .panels) p) (λ k l. rw (getD-replicate (g .panels) k p (nothingPending g) l) n);
@@ -61,30 +100,35 @@ clear-sized g h p ks x n m = record {
   flags = length-replicate (cells g) false;
 }
 
--- zeros, then the head, the keys, the edge flag and the mark
-pub opens : {v : Glass} {a b c d f : List ℕ} {h : Head} {w : Rect} (r : List ℕ) (graphics text version : ℕ) (ks : List ℕ) (x : ℕ) → Suits v → length r ≡ recordBytes (geometry v) → length ks ≡ 8
-    → a ≡ zeros (length r) → h ≡ clearHead graphics text version → b ≡ withWindow 0 (bytesOfHead h) a → c ≡ withWindow (v .keys) (wordsBytes ks) b → d ≡ withWindow (v .edge) (x ∷ []) c
-    → w ≡ whole (v .stride) (height (geometry v)) → f ≡ markFrom (geometry v) w 0 (v .bands) d → f ≡ encode (geometry v) (openState (geometry v) graphics text version ks x)
-unfolding openState openPending nothingPending
-opens {v} {h = h} r graphics text version ks x z n m e t i k y q j =
-    let g = geometry v in
-    let p = nothingPending g in
-    let all = whole (v .stride) (height g) in
-    let count = length-replicate (g .bands) none in
-    let first = put-head g h (clear g (headOf []) p (keysOf []) 0) (z .glass) (clear-sized g (headOf []) p (keysOf []) 0 count refl) in
-    let second = put-keys g ks (clear g h p (keysOf []) 0) (z .glass) (clear-sized g h p (keysOf []) 0 count refl) m in
-    let third = put-edge g x (clear g h p ks 0) (z .glass) (clear-sized g h p ks 0 count m) in
-    let fourth = marks-state g all (z .glass) (clear g h p ks x) (record {
-      count = length-replicate (g .panels) p;
-      sized = clear-sized g h p ks x count m;
-      well = λ i l. rw (getD-replicate (v .panels) i p p l) (well-nothing g);
-    }) in
-    cc (zeros-encode g (z .glass), map-replicate (owing g all) (g .panels) p)
+module _ {v : Glass} {a b c d : List ℕ} {h : Head} (r : List ℕ) (graphics text version : ℕ) (ks : List ℕ) (x : ℕ) (z : Suits v) (n : length r ≡ recordBytes (geometry v))
+    (t : Told (geometry v) graphics text version ks x) (e : a ≡ zeros (length r)) (f : h ≡ clearHead graphics text version) (i : b ≡ withWindow 0 (bytesOfHead h) a)
+    (k : c ≡ withWindow (v .keys) (wordsBytes ks) b) (y : d ≡ withWindow (v .edge) (x ∷ []) c) where
+  -- zeros, then the head, the keys and the edge flag: nothing is pending
+  written-clear : d ≡ encode (geometry v) (clear (geometry v) (clearHead graphics text version) (nothingPending (geometry v)) ks x)
+  unfolding nothingPending
+  written-clear =
+      let g = geometry v in
+      let p = nothingPending g in
+      let m = t .count in
+      let count = length-replicate (g .bands) none in
+      let first = put-head g h (clear g (headOf []) p (keysOf []) 0) (z .glass) (clear-sized g (headOf []) p (keysOf []) 0 count refl) in
+      let second = put-keys g ks (clear g h p (keysOf []) 0) (z .glass) (clear-sized g h p (keysOf []) 0 count refl) m in
+      let third = put-edge g x (clear g h p ks 0) (z .glass) (clear-sized g h p ks 0 count m) in
+      cc (zeros-encode g (z .glass))
 
--- what open wrote: its keys read again
-pub open-keys : (g : Geometry) (graphics text version : ℕ) (ks : List ℕ) (x : ℕ) → length ks ≡ 8 → Words ks → decode g (encode g (openState g graphics text version ks x)) .keys ≡ ks
-unfolding openState openPending nothingPending
-open-keys g graphics text version ks x n w =
-    let p = openPending g in
-    let count = well-open g .bands in
-    keys-back g (clear g (clearHead graphics text version) p ks x) (clear-sized g (clearHead graphics text version) p ks x count n) w
+  nothing-formed : WellFormed (geometry v) (clear (geometry v) (clearHead graphics text version) (nothingPending (geometry v)) ks x)
+  nothing-formed = clear-formed (geometry v) (z .glass) graphics text version ks x t (nothingPending (geometry v)) (well-nothing (geometry v))
+
+  pub opening-passes : Passing (geometry v) d
+  opening-passes = rw written-clear (encode-passing (geometry v) (z .glass) _ nothing-formed)
+
+  -- and the mark
+  pub opens : {w : Rect} {s : List ℕ} → w ≡ whole (v .stride) (height (geometry v)) → s ≡ encode (geometry v) (owingEach (geometry v) w (decode (geometry v) d))
+      → s ≡ encode (geometry v) (openState (geometry v) graphics text version ks x)
+  unfolding openState openPending
+  opens {w = w} q j =
+      let g = geometry v in
+      let p = nothingPending g in
+      let all = whole (v .stride) (height g) in
+      let state : decode g d ≡ clear g (clearHead graphics text version) p ks x = ap (decode g) written-clear ∙ decode-encode g (clear g (clearHead graphics text version) p ks x) (z .glass) nothing-formed in
+      j ∙ (λ o. encode g (owingEach g (q o) (state o))) ∙ ap (λ (ps : List Pending). encode g (withPanels ps (clear g (clearHead graphics text version) p ks x))) (map-replicate (owing g all) (g .panels) p)

@@ -1,22 +1,22 @@
 -- The owed rectangles on the bytes: one joined with a mark's part; band after band, the first taken from them, and the test of them. In these two loops what is left, done to what
 -- stands, gives the whole.
 use mathlib.Core.Path.{_≡_, refl, _∙_}
-use mathlib.Core.Bool.{Bool, true, false, not}
+use mathlib.Core.Bool.{Bool, true, false, not, _&&_}
 use mathlib.Core.List.{List, [], _++_, append-assoc}
 use Prim.Native.Nat.{ℕ, zero, suc, _+_, _-_, _*_, _<_, _≤_}
 use native.Mathlib.Omega.{arith}
+use lib.Dec.{eqb}
 use lib.ListN.{length, getD, take, drop, take-append-drop, length-append}
 use lib.Seq.{drop-at, length-take-le}
-use borrow.Author.Tests.{not-true, not-false}
+use borrow.Author.Tests.{not-true, not-false, ne-eqb}
 use Rattle.model.specs.declared.Rect.{Rect}
 use Rattle.model.specs.Memory.{withWindow}
 use Rattle.model.specs.Rects.{none, isEmpty, fits, join}
-use Rattle.model.specs.Bytes.{rectAt, rectsAt, rectBytes, rectsBytes, Bytes}
+use Rattle.model.specs.Bytes.{two, four, rectAt, rectsAt, rectBytes, rectsBytes, Bytes}
 use Rattle.model.specs.Record.{bandsFit}
 use Rattle.model.specs.Sends.{firstOwed, restOwed}
-use Rattle.laws.specs.Rects.{join-none}
-use Rattle.laws.specs.Memory.{window-extend, length-withWindow}
-use Rattle.laws.specs.Layout.{bytes-append, bytes-take, bytes-drop, bytes-rect, rects-again, length-read}
+use Rattle.laws.specs.Memory.{window-extend}
+use Rattle.laws.specs.Layout.{rects-again, length-read}
 
 -- the band that comes ends within the lines of the bands that are left
 pub band-in : (lo band left h : ℕ) → 0 < left → lo + left * band ≤ h → lo + band ≤ h
@@ -39,6 +39,23 @@ window-tail a n k s t r e f h =
     let l : a + length (s ++ t) ≡ a + n + k = omega (arith, length-append s t) in
     cc (append-assoc s t (drop (a + n + k) r))
 
+-- ---- four zeros, tested as two numbers of four bytes
+
+both-zero : (a b : ℕ) → eqb (a + 65536 * b) 0 ≡ (eqb a 0 && eqb b 0)
+both-zero zero zero = refl
+both-zero zero (suc b) = cc (ne-eqb (0 + 65536 * suc b) 0 (λ e. omega arith), ne-eqb (suc b) 0 (λ e. omega arith))
+both-zero (suc a) b = cc (ne-eqb (suc a + 65536 * b) 0 (λ e. omega arith), ne-eqb (suc a) 0 (λ e. omega arith))
+
+and-group : (s t u : Bool) → (s && (t && u)) ≡ (s && t && u)
+and-group true t u = refl
+and-group false t u = refl
+
+pub is-clear : (r : List ℕ) (a : ℕ) {x y : ℕ} → x ≡ four r a → y ≡ four r (a + 4) → (eqb x 0 && eqb y 0) ≡ isEmpty (rectAt r a)
+unfolding isEmpty
+is-clear r a e f =
+    let c : a + 4 + 2 ≡ a + 6 = omega arith in
+    cc (both-zero (two r a) (two r (a + 2)), both-zero (two r (a + 4)) (two r (a + 4 + 2)), and-group (eqb (two r a) 0 && eqb (two r (a + 2)) 0) (eqb (two r (a + 4)) 0) (eqb (two r (a + 6)) 0))
+
 -- ---- a rectangle joined to one that stands there
 
 unfoldable pub joinedAt : ℕ → Rect → List ℕ → List ℕ
@@ -47,21 +64,6 @@ joinedAt a q r = withWindow a (rectBytes (join (rectAt r a) q)) r
 pub joins-at : (a : ℕ) (q : Rect) (r : List ℕ) {s j : Rect} {r′ : List ℕ} → s ≡ rectAt r a → j ≡ join s q → r′ ≡ withWindow a (rectBytes j) r → r′ ≡ joinedAt a q r
 unfolding joinedAt
 joins-at a q r e f g = cc
-
-pub length-joined : (a : ℕ) (q : Rect) (r : List ℕ) → a + 8 ≤ length r → length (joinedAt a q r) ≡ length r
-unfolding joinedAt
-length-joined a q r h = length-withWindow a (rectBytes (join (rectAt r a) q)) r h
-
-pub bytes-joined : (a : ℕ) (q : Rect) (r : List ℕ) → Bytes r → Bytes (joinedAt a q r)
-unfolding joinedAt withWindow
-bytes-joined a q r b =
-    let s = rectBytes (join (rectAt r a) q) in
-    bytes-append (take a r) (s ++ drop (a + 8) r) (bytes-take a r b) (bytes-append s (drop (a + 8) r) (bytes-rect (join (rectAt r a) q)) (bytes-drop (a + 8) r b))
-
--- an empty one adds nothing
-pub joined-none : (a : ℕ) (r : List ℕ) → Bytes r → a + 8 ≤ length r → joinedAt a none r ≡ r
-unfolding joinedAt
-joined-none a r b h = cc (join-none (rectAt r a), owed-again 1 a r b (omega arith))
 
 -- ---- the first taken
 
@@ -93,8 +95,8 @@ take-starts bands at r h =
 pub take-room : (bands at : ℕ) (r₀ r : List ℕ) (i : ℕ) → Taking bands at r₀ r i → i < bands → at + 8 * i + 8 ≤ length r
 take-room bands at r₀ r i k h = omega arith
 
-module _ {bands at : ℕ} {r₀ r : List ℕ} {i a : ℕ} {q : Rect} {t : Bool} (k : Taking bands at r₀ r i) (h : i < bands) (b : (j : ℕ) → getD r₀ j 0 < 256)
-    (p : a ≡ at + 8 * i) (e : q ≡ rectAt r a) (f : t ≡ isEmpty q) where
+module _ {bands at : ℕ} {r₀ r : List ℕ} {i a : ℕ} {t : Bool} (k : Taking bands at r₀ r i) (h : i < bands) (b : (j : ℕ) → getD r₀ j 0 < 256)
+    (p : a ≡ at + 8 * i) (f : t ≡ isEmpty (rectAt r a)) where
   left : bands - i ≡ suc (bands - (i + 1))
   left = omega arith
 
@@ -110,9 +112,9 @@ module _ {bands at : ℕ} {r₀ r : List ℕ} {i a : ℕ} {q : Rect} {t : Bool} 
       record { kept = k .kept; sized = k .sized; room = k .room; some = omega arith; first = cc (k .first); rest = cc (k .rest) }
 
   -- the first that owes anything
-  pub take-finds : {z : Rect} {r′ : List ℕ} → t ≡ false → z ≡ none → r′ ≡ withWindow a (rectBytes z) r → Took bands at r₀ q r′
+  pub take-finds : {q z : Rect} {r′ : List ℕ} → t ≡ false → q ≡ rectAt r a → z ≡ none → r′ ≡ withWindow a (rectBytes z) r → Took bands at r₀ q r′
   unfolding rested restOwed firstOwed Bytes
-  take-finds g o w =
+  take-finds g e o w =
       let n = bands - (i + 1) in
       let l = left in
       let v = window-tail a 8 (8 * n) (rectBytes none) (rectsBytes (rectsAt n r (a + 8))) r refl (length-read n r (a + 8)) (rects-again n r (a + 8) (rw (k .kept) b) (omega arith)) in
@@ -133,20 +135,20 @@ pub record Testing (w band bands at : ℕ) (r : List ℕ) (a lo left : ℕ) : Ty
 pub test-starts : (w band bands at : ℕ) (r : List ℕ) → at + 8 * bands ≤ length r → bands * band ≤ 65535 → Testing w band bands at r at 0 bands
 test-starts w band bands at r h l = record { room = h; lines = omega arith; same = refl }
 
-pub test-goes : {w band bands at : ℕ} {r : List ℕ} {a lo left : ℕ} {q : Rect} {t : Bool} → Testing w band bands at r a lo left → 0 < left
-    → q ≡ rectAt r a → t ≡ fits w lo (lo + band) q → not t ≡ false → Testing w band bands at r (a + 8) (lo + band) (left - 1)
+pub test-goes : {w band bands at : ℕ} {r : List ℕ} {a lo left : ℕ} {t : Bool} → Testing w band bands at r a lo left → 0 < left
+    → t ≡ fits w lo (lo + band) (rectAt r a) → not t ≡ false → Testing w band bands at r (a + 8) (lo + band) (left - 1)
 unfolding bandsFit
-test-goes {left = zero} k p e f y = absurd (omega arith)
-test-goes {left = suc n} {t = t} k p e f y =
+test-goes {left = zero} k p f y = absurd (omega arith)
+test-goes {left = suc n} {t = t} k p f y =
     let z : suc n - 1 ≡ n = omega arith in
     let passed = not-false t y in
     record { room = omega arith; lines = rw z (omega arith); same = cc (k .same) }
 
-pub test-fails : {w band bands at : ℕ} {r : List ℕ} {a lo left : ℕ} {q : Rect} {t : Bool} → Testing w band bands at r a lo left → 0 < left
-    → q ≡ rectAt r a → t ≡ fits w lo (lo + band) q → not t ≡ true → false ≡ bandsFit w band 0 (rectsAt bands r at)
+pub test-fails : {w band bands at : ℕ} {r : List ℕ} {a lo left : ℕ} {t : Bool} → Testing w band bands at r a lo left → 0 < left
+    → t ≡ fits w lo (lo + band) (rectAt r a) → not t ≡ true → false ≡ bandsFit w band 0 (rectsAt bands r at)
 unfolding bandsFit
-test-fails {left = zero} k p e f y = absurd (omega arith)
-test-fails {left = suc n} {t = t} k p e f y = let failed = not-true t y in cc (k .same)
+test-fails {left = zero} k p f y = absurd (omega arith)
+test-fails {left = suc n} {t = t} k p f y = let failed = not-true t y in cc (k .same)
 
 pub test-ends : (w band bands at : ℕ) (r : List ℕ) (a lo left : ℕ) → Testing w band bands at r a lo left → left ≤ 0
     → true ≡ bandsFit w band 0 (rectsAt bands r at)

@@ -90,10 +90,10 @@ module _ (v : Glass) (r : List ℕ) (k a : ℕ) {b : Bool} (z : Suits v) (e : a 
   unfolding pendingFits
   pending-fails n = let y = not-true b n in cc (z .is-width)
 
-  pub pending-is : {t : Bool} {q : Rect} → not b ≡ false → q ≡ rectAt r (a + 8 * v .bands) → t ≡ fits (v .width) 0 (v .height) q
+  pub pending-is : {t : Bool} → not b ≡ false → t ≡ fits (v .width) 0 (v .height) (rectAt r (a + 8 * v .bands))
       → t ≡ pendingFits (geometry v) (pendingOf (geometry v) r (at (geometry v) (panel k)))
   unfolding pendingFits
-  pending-is n g h = let y = not-false b n in cc (z .is-width, z .is-height)
+  pending-is n h = let y = not-false b n in cc (z .is-width, z .is-height)
 
 -- where the loop over panels stands: those before k have passed
 pub record Fitting (v : Glass) (r : List ℕ) (panels k : ℕ) : Type 0 where

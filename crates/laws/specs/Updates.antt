@@ -16,18 +16,18 @@ use Rattle.model.specs.Memory.{zeros, withWindow}
 use Rattle.model.specs.Flags.{bytesOfFlags}
 use Rattle.model.specs.Record.{headBytes, head, keys, flags, recordBytes, offset, Pending, State, decode, encode, bytesOfHead, panelOf, nothingPending, headFits, partFits, withHead, withPanels, withFlags, WellFormed}
 use Rattle.model.specs.Rects.{none, isEmpty, join}
-use Rattle.model.specs.Marks.{whole, owing, withDirty, updateDirty, marked}
+use Rattle.model.specs.Marks.{whole, owing, owingEach, withDirty, updateDirty, marked}
 use Rattle.model.specs.Open.{clearHead, clearFlags, resetState}
 use Rattle.laws.specs.ListLaws.{getD-map, map-same}
 use Rattle.laws.specs.Rects.{join-none}
 use Rattle.laws.specs.Bands.{joinOwed-none, well-owing}
 use Rattle.laws.specs.Parts.{part-back}
 use Rattle.laws.specs.Flags.{length-flags, no-flags, length-no-flags}
-use Rattle.laws.specs.Record.{Passing, Sized, Numbers, head-tells, part-passes, has-head, has-keys, has-flags, length-part, put-head, put-flags, all-owed, part-in, encode-decode, decode-encode, sized-decode, count-decode}
+use Rattle.laws.specs.Record.{Passing, Sized, Numbers, head-tells, part-passes, has-head, has-keys, has-flags, length-part, put-head, put-flags, all-owed, part-in, encode-decode, decode-encode, well-sized, sized-decode, count-decode}
 use Rattle.laws.specs.States.{well-formed, encode-passing}
 use Rattle.laws.specs.StateTest.{flags-part}
 use Rattle.laws.specs.Panels.{Known}
-use Rattle.laws.specs.Marking.{markFrom, marks-all, markable, still-markable}
+use Rattle.laws.specs.Marking.{each-formed}
 
 -- what STATE tells of the head
 pub head-numbers : (v : Glass) (r : List ℕ) (h : Head) → Known v r → h ≡ decode (geometry v) r .head → Numbers (geometry v) h
@@ -53,14 +53,13 @@ whole-of v e = ap (λ (x : Canvas). whole (x .stride) (x .height)) e
 
 -- ---- what is marked, with another head
 
-pub marks-head : (g : Geometry) (r : List ℕ) (n : Head) (d o : Rect) {m : Head} {s t : List ℕ} → Passing g r → s ≡ markFrom g o 0 (g .bands) r
+pub marks-head : (g : Geometry) (r : List ℕ) (n : Head) (d o : Rect) {m : Head} {s t : List ℕ} → Passing g r → s ≡ encode g (owingEach g o (decode g r))
     → m ≡ updateDirty d n → t ≡ withWindow 0 (bytesOfHead m) s → t ≡ encode g (marked g d o (withHead n (decode g r)))
 unfolding marked
 marks-head g r n d o {m} k f i j =
-    let s = decode g r in
-    j ∙ ap (withWindow 0 (bytesOfHead m)) (f ∙ marks-all g o (k .glass) r k)
-    ∙ put-head g m (withPanels (map (owing g o) (s .panels)) s) (k .glass) (still-markable g (owing g o) s (well-owing g o) (markable g r k) .sized)
-    ∙ ap (λ (x : Head). encode g (withHead x (withPanels (map (owing g o) (s .panels)) s))) i
+    let s = owingEach g o (decode g r) in
+    let z = well-sized g s (each-formed g (owing g o) (decode g r) (well-owing g o) (well-formed g r k)) in
+    j ∙ ap (withWindow 0 (bytesOfHead m)) f ∙ put-head g m s (k .glass) z ∙ ap (λ (x : Head). encode g (withHead x s)) i
 
 -- an empty mark changes nothing
 pub unmarked-state : (g : Geometry) (s : State) → marked g none none s ≡ s

@@ -52,8 +52,11 @@ owes st h m ws = cond (within m ws) m (whole st h)
 
 -- ---- a state marked: dirty in the head, and what is owed to each panel
 
+abbrev pub owingEach : Geometry → Rect → State → State
+owingEach g m s = withPanels (map (owing g m) (s .panels)) s
+
 unfoldable pub marked : Geometry → Rect → Rect → State → State
-marked g dirty owed s = withHead (updateDirty dirty (s .head)) (withPanels (map (owing g owed) (s .panels)) s)
+marked g dirty owed s = withHead (updateDirty dirty (s .head)) (owingEach g owed s)
 
 -- A drawing: its pixel writes in their order, those off the screen too, which draw nothing; the dirty rectangle that it marks, empty where it marks
 -- nothing; and what it owes for that, lowered where document 01 lowers it.

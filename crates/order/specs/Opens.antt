@@ -1,33 +1,32 @@
 -- Open and reset: memory is cleared, and the whole screen is owed to each panel. Send: the pending part of the panel that it names and its buffer change as the
 -- effect says, and nothing of another panel.
 use mathlib.Core.Path.{_≡_, refl, _∙_}
-use mathlib.Core.Bool.{true}
 use mathlib.Core.List.{List, []}
 use Prim.Native.Nat.{ℕ, _<_}
 use native.Mathlib.Omega.{arith}
 use lib.Dec.{leb}
-use lib.ListN.{length, set, length-set, length-replicate, getD-replicate}
+use lib.ListN.{length, set, length-set, getD-replicate}
 use lib.Seq.{getD-set-same, getD-set-other}
-use borrow.Author.Tests.{lt-ltb, le-leb}
-use Rattle.model.specs.Geometry.{Geometry, height, screenBytes, columns, rows, cells, memoryBytes}
+use borrow.Author.Tests.{le-leb}
+use Rattle.model.specs.Geometry.{Geometry, height, screenBytes, cells, memoryBytes}
 use Rattle.model.specs.Glass.{IsGlass}
 use Rattle.model.specs.Memory.{zeros}
-use Rattle.model.specs.Rects.{none, isEmpty, fits, join}
-use Rattle.model.specs.Bytes.{Words}
-use Rattle.model.specs.Record.{nothingPending, panelOf, windows, headTests, headFits, edgeFits, encode, withHead, withPanel, withFlags, WellFormed}
+use Rattle.model.specs.Rects.{none, isEmpty, join}
+use Rattle.model.specs.Record.{nothingPending, panelOf, headTests, headFits, edgeFits, encode, withHead, withPanel, withFlags}
 use Rattle.model.specs.Marks.{whole, updateDirty, marked}
 use Rattle.model.specs.Open.{clearMemory, clearHead, clearFlags, openPending, openState, resetState}
 use Rattle.model.specs.Sends.{sendPending, sendPanel}
 use Rattle.model.specs.Calls.{opening, Lent, lent, answered, done}
 use Rattle.model.specs.Lists.{accepted, Typed, nothing, marks, opens, sends, affected, edgeAfter}
-use Rattle.laws.specs.Tests.{and-true, all-true, true-all}
+use Rattle.laws.specs.Tests.{and-true, all-true}
 use Rattle.laws.specs.Calls.{accepted-call}
 use Rattle.laws.specs.Rects.{none-fits}
 use Rattle.laws.specs.Writes.{whole-agrees}
 use Rattle.laws.specs.Loops.{length-zeros, length-withKeys}
 use Rattle.laws.specs.Record.{head-tells}
 use Rattle.laws.specs.Flags.{length-no-flags}
-use Rattle.laws.specs.Bands.{well-open, well-send}
+use Rattle.laws.specs.Bands.{well-send}
+use Rattle.laws.specs.Opening.{clear-fits, open-formed}
 use Rattle.order.specs.Held.{length-send}
 use Rattle.order.specs.Step.{panel-formed, page-formed, Lendable, old, screenHeld, Step, known, stored, rewritten-step}
 
@@ -35,26 +34,6 @@ pub length-clear-memory : (keys : List ℕ) → length (clearMemory keys) ≡ me
 unfolding clearMemory
 length-clear-memory keys =
     length-withKeys keys 256 (set (zeros memoryBytes) 65535 64) ∙ length-set (zeros memoryBytes) 65535 64 ∙ length-zeros memoryBytes
-
-clear-fits : (g : Geometry) → IsGlass g → (graphics text version : ℕ) → windows g graphics text ≡ true → leb version 1 ≡ true
-    → headFits g (clearHead graphics text version) ≡ true
-unfolding headFits fits isEmpty
-clear-fits g z graphics text version a b =
-    true-all (headTests g (clearHead graphics text version))
-    (a, (lt-ltb 0 (rows g) (z .row), (lt-ltb 0 (columns g) (omega (arith, z .columns)), (refl, (refl, (refl, (b, (refl, tt))))))))
-
-pub open-formed : (g : Geometry) → IsGlass g → (graphics text version : ℕ) (keys : List ℕ) (edge : ℕ) → windows g graphics text ≡ true → leb version 1 ≡ true → edgeFits edge ≡ true → length keys ≡ 8 → Words keys
-    → WellFormed g (openState g graphics text version keys edge)
-unfolding openState
-open-formed g z graphics text version keys edge a b x n ws = record {
-  head = clear-fits g z graphics text version a b;
-  count = length-replicate (g .panels) (openPending g);
-  panels = λ k h. rw (getD-replicate (g .panels) k (openPending g) (nothingPending g) h) (well-open g);
-  words = n;
-  keys = ws;
-  flags = length-no-flags (cells g);
-  edge = x;
-}
 
 -- an opening needs nothing of what stood before it but the panel's length
 pub opening-step : (g : Geometry) (k : ℕ) → k < g .panels → IsGlass g → (graphics text version : ℕ) (keys : List ℕ) (edge : ℕ) (r m p : List ℕ) → Typed (opening graphics text version keys edge)
@@ -65,7 +44,7 @@ opening-step g k there z graphics text version keys edge r m p t a n =
     let b = accepted-call g (opening graphics text version keys edge) (lent r m []) (omega arith) a .1 in
     let v = and-true (leb version 1) (edgeFits edge) (b .1 .0) in
     stored g k z (lent r m p) (opens edge) (openState g graphics text version keys edge) (clearMemory keys) p
-    (open-formed g z graphics text version keys edge (b .0) (v .0) (v .1) (t .0) (t .1)) (length-clear-memory keys) n
+    (open-formed g z graphics text version keys edge (record { apart = b .0; listed = v .0; flag = v .1; count = t .0; words = t .1 })) (length-clear-memory keys) n
     (record { pending = getD-replicate (g .panels) k (openPending g) (nothingPending g) there; panel = refl; screen = whole-agrees (g .stride) (height g) _ _ }) refl
 
 module _ (g : Geometry) (k : ℕ) (there : k < g .panels) (l : Lent) (q : Lendable g l) where

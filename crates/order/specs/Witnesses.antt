@@ -23,9 +23,9 @@ use Rattle.laws.specs.Glasses.{base-glass}
 use Rattle.laws.specs.Loops.{length-zeros}
 use Rattle.laws.specs.Calls.{own-decide}
 use Rattle.laws.specs.Record.{decode-encode}
+use Rattle.laws.specs.Opening.{open-formed}
 use Rattle.laws.specs.Counts.{byteDiffers, bytesDiffer, differing-bytes}
 use Rattle.order.specs.Accepted.{acceptedCall, acceptedCalls, named, leaves-done}
-use Rattle.order.specs.Opens.{open-formed}
 use Rattle.order.specs.Apart.{SentApart, send-apart}
 use Rattle.order.specs.Order.{Standing, standing-item, standing-opened, sendable}
 use Rattle.order.specs.Theorem.{linesIn, screenIn, Promised, calls-in-any-order}
@@ -175,7 +175,7 @@ pub all-differ : let b = run base fresh (open-it ∷ []) in differing base (scre
 unfolding run after lentTo givenBack done answered openState windows
 all-differ =
     let c = opening 4096 8192 1 noKeys 0 in
-    let w = open-formed base base-glass 4096 8192 1 noKeys 0 refl refl refl refl (omega arith) in
+    let w = open-formed base base-glass 4096 8192 1 noKeys 0 (record { apart = refl; listed = refl; flag = refl; count = refl; words = omega arith }) in
     rw (leaves-done base c fresh may-open, decode-encode base (openState base 4096 8192 1 noKeys 0) base-glass w, cleared-screen) ones-differ
 
 -- .. and after the rounds none

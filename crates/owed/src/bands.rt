@@ -18,8 +18,8 @@ pub fn take_owed(rec: &mut [u8], at: usize, bands: usize) -> Rect
     let mut i: usize = 0;
     while i < bands {
         let a = band_at(at, i);
-        let q = rects::load_rect(rec, a);
-        if !rect::is_empty(q) {
+        if !rects::is_clear(rec, a) {
+            let q = rects::load_rect(rec, a);
             rects::store_rect(rec, a, rect::empty());
             return q;
         }
@@ -37,9 +37,8 @@ pub fn bands_fit(rec: &[u8], at: usize, bands: usize, band: u16, width: u16) -> 
     let mut lo: u16 = 0;
     let mut left = bands;
     while left > 0 {
-        let q = rects::load_rect(rec, a);
         let hi = lo + band;
-        if !rect::rect_fits(width, lo, hi, q) {
+        if !rects::rect_fits(rec, a, width, lo, hi) {
             return false;
         }
         a += 8;

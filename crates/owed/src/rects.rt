@@ -5,6 +5,7 @@ ghost use mathlib.Core.Path.{_≡_};
 ghost use Prim.Native.Nat.{_+_, _*_, _^_, _≤_, _<_};
 ghost use lib.ListN.{length};
 ghost use Rattle.model.specs.Memory.{withWindow};
+ghost use Rattle.model.specs.Rects.{isEmpty, fits};
 ghost use Rattle.model.specs.Bytes.{rectAt, rectBytes};
 ghost use Rattle.laws.specs.Owed.{joinedAt};
 
@@ -26,6 +27,25 @@ pub fn load_rect(bytes: &[u8], at: usize) -> Rect
         right: slices::load_two(bytes, at + 4),
         bottom: slices::load_two(bytes, at + 6),
     }
+}
+
+// Four zeros stand there: two numbers are tested in place of four.
+pub fn is_clear(bytes: &[u8], at: usize) -> bool
+    requires { ⌜ at + 8 ≤ length (now bytes) ⌝ }
+    ensures { λ r. ⌜ r ≡ isEmpty (rectAt (now (bytes .entry)) at) ⌝ }
+{
+    (slices::load_four(bytes, at) == 0) & (slices::load_four(bytes, at + 4) == 0)
+}
+
+// STATE: an empty rectangle, or a proper one within its limits.
+pub fn rect_fits(bytes: &[u8], at: usize, w: u16, lo: u16, hi: u16) -> bool
+    requires { ⌜ at + 8 ≤ length (now bytes) ⌝ }
+    ensures { λ r. ⌜ r ≡ fits w lo hi (rectAt (now (bytes .entry)) at) ⌝ }
+{
+    if is_clear(bytes, at) {
+        return true;
+    }
+    rect::is_proper(w, lo, hi, load_rect(bytes, at))
 }
 
 fn rect_bytes(q: Rect) -> [u8; 8]

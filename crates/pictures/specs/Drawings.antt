@@ -29,7 +29,7 @@ use Rattle.laws.specs.Glasses.{base-glass}
 use Rattle.laws.specs.States.{well-formed, encode-passing}
 use Rattle.laws.specs.Bands.{well-nothing}
 use Rattle.order.specs.Step.{panels-formed, marked-formed, screen-in, screen-long}
-use Rattle.order.specs.Opens.{open-formed}
+use Rattle.laws.specs.Opening.{open-formed}
 use Rattle.pictures.specs.Picture.{nothing, screenIn, graphicsIn, edgeFlag, Unmarked, withOwed, withMarks, Changed, Leaves, Drew}
 use Rattle.pictures.specs.Writes.{pictured, pictured-changed}
 
@@ -44,7 +44,7 @@ clearBytes edge m = lent (encode base (clearState edge)) m []
 clear-formed : (edge : ℕ) → edge ≤ 1 → WellFormed base (clearState edge)
 unfolding openState nothingPending windows
 clear-formed edge h =
-    panels-formed base _ (open-formed base base-glass 4096 8192 1 noKeys edge refl refl (le-leb edge 1 h) refl (omega arith)) (replicate 4 (nothingPending base)) refl
+    panels-formed base _ (open-formed base base-glass 4096 8192 1 noKeys edge (record { apart = refl; listed = refl; flag = le-leb edge 1 h; count = refl; words = omega arith })) (replicate 4 (nothingPending base)) refl
     (λ k h. rw (getD-replicate 4 k (nothingPending base) (nothingPending base) h) (well-nothing base))
 
 pub clear-state : (edge : ℕ) → edge ≤ 1 → (m : List ℕ) → decode base (clearBytes edge m .rec) ≡ clearState edge

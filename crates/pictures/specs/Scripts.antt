@@ -33,7 +33,8 @@ use Rattle.laws.specs.Loops.{length-zeros}
 use Rattle.laws.specs.Counts.{byteDiffers, bytesDiffer, differing-bytes}
 use Rattle.laws.specs.Bands.{well-send}
 use Rattle.order.specs.Step.{panel-formed, marked-formed}
-use Rattle.order.specs.Opens.{length-clear-memory, open-formed}
+use Rattle.laws.specs.Opening.{open-formed}
+use Rattle.order.specs.Opens.{length-clear-memory}
 use Rattle.order.specs.Witnesses.{cleared-screen}
 use Rattle.pictures.specs.Picture.{rect}
 
@@ -52,7 +53,7 @@ sentOf s = withPanel 0 (sendPending (panelOf base s 0)) s
 
 opened-formed : WellFormed base openedState
 unfolding openedState windows
-opened-formed = open-formed base base-glass 4096 8192 1 noKeys 0 refl refl refl refl (omega arith)
+opened-formed = open-formed base base-glass 4096 8192 1 noKeys 0 (record { apart = refl; listed = refl; flag = refl; count = refl; words = omega arith })
 
 pointed-formed : (y : ℕ) → y < 80 → (s : State) → WellFormed base s → WellFormed base (pointed y s)
 unfolding pointed

@@ -5,16 +5,14 @@ use Prim.Native.Nat.{ℕ, _≤_}
 use lib.ListN.{length}
 use Rattle.model.specs.declared.Canvas.{Canvas}
 use Rattle.model.specs.declared.Head.{Head}
-use Rattle.model.specs.declared.Rect.{Rect}
 use Rattle.model.specs.declared.glass.Glass.{Glass}
 use Rattle.model.specs.Geometry.{Geometry}
 use Rattle.model.specs.Glass.{geometry, canvas, glassOf, Suits}
 use Rattle.model.specs.Marks.{whole}
 use Rattle.model.specs.Memory.{withWindow}
-use Rattle.model.specs.Record.{headBytes, recordBytes, State, decode, encode, bytesOfHead, withHead}
+use Rattle.model.specs.Record.{headBytes, State, decode, encode, bytesOfHead, withHead}
 use Rattle.laws.specs.Record.{Passing, put-head, encode-decode, sized-decode}
 use Rattle.laws.specs.Panels.{Known}
-use Rattle.laws.specs.Marking.{markFrom}
 use Rattle.laws.specs.Updates.{head-in, whole-of}
 use Rattle.record.specs.Entry.{Chosen}
 use Rattle.record.specs.Update.{updated}
@@ -31,6 +29,10 @@ head-for r k e = e ∙ ap (λ (g : Geometry). decode g r .head) (sym (k .glass))
 pub whole-for : {v : Glass} {k : Canvas} → Suits v → k ≡ canvas v → whole (k .stride) (k .height) ≡ whole (v .stride) (v .height)
 whole-for {v} z e = whole-of v e
 
+-- what is as long has the same glass
+pub chosen-as : {v : Glass} {n m : ℕ} → m ≡ n → Chosen n v → Chosen m v
+chosen-as e k = rw e k
+
 -- another record of the same glass has its length
 pub still-chosen : {v : Glass} {r s : List ℕ} → Known v r → Known v s → Chosen (length r) v → Chosen (length s) v
 still-chosen n m k = rw (m .passing .sized ∙ sym (n .passing .sized)) k
@@ -43,23 +45,6 @@ module _ {v : Glass} (r : List ℕ) {s : List ℕ} (f : Geometry → State → S
   pub updated-for : s ≡ updated f r → s ≡ encode (geometry v) (f (geometry v) (decode (geometry v) r))
   unfolding updated
   updated-for e = e ∙ ap (λ (g : Geometry). encode g (f g (decode g r))) (sym (k .glass))
-
--- ---- what is marked
-
-pub sized-chosen : {v : Glass} (r : List ℕ) → Chosen (length r) v → length r ≡ recordBytes (glassOf (length r)) → length r ≡ recordBytes (geometry v)
-sized-chosen r k e = e ∙ ap recordBytes (sym (k .glass))
-
-pub marks-for : {v : Glass} (r : List ℕ) {s : List ℕ} (m : Rect) → Chosen (length r) v → s ≡ markFrom (geometry v) m 0 (v .bands) r
-    → s ≡ markFrom (glassOf (length r)) m 0 (glassOf (length r) .bands) r
-marks-for r m k e = e ∙ ap (λ (g : Geometry). markFrom g m 0 (g .bands) r) (k .glass)
-
--- of a record that is as long as the one for which the glass was chosen
-pub sized-for : {v : Glass} {n m : ℕ} → Chosen n v → m ≡ n → n ≡ recordBytes (geometry v) → m ≡ recordBytes (glassOf m)
-sized-for k l e = l ∙ e ∙ ap recordBytes (k .glass) ∙ ap (λ (n : ℕ). recordBytes (glassOf n)) (sym l)
-
-pub marked-for : {v : Glass} {n : ℕ} (s : List ℕ) (m : Rect) {t : List ℕ} → Chosen n v → length s ≡ n → t ≡ markFrom (glassOf (length s)) m 0 (glassOf (length s) .bands) s
-    → t ≡ markFrom (geometry v) m 0 (v .bands) s
-marked-for s m k l e = e ∙ ap (λ (n : ℕ). markFrom (glassOf n) m 0 (glassOf n .bands) s) l ∙ ap (λ (g : Geometry). markFrom g m 0 (g .bands) s) (sym (k .glass))
 
 -- ---- another head
 

@@ -9,6 +9,7 @@ ghost use lib.ListN.{length};
 ghost use Rattle.model.specs.Glass.{geometry};
 ghost use Rattle.model.specs.Record.{recordBytes, encode};
 ghost use Rattle.model.specs.Open.{openState};
+ghost use Rattle.laws.specs.Opening.{Told};
 ghost use Rattle.record.specs.Entry.{Chosen};
 
 pub fn open_record(
@@ -21,7 +22,7 @@ pub fn open_record(
     edge: u8,
 )
     requires { ⌜ Chosen (length (now rec)) glass ⌝ }
-    requires { ⌜ (length (now rec) ≡ recordBytes (geometry glass)) × (length keys ≡ 8) ⌝ }
+    requires { ⌜ (length (now rec) ≡ recordBytes (geometry glass)) × Told (geometry glass) graphics text version keys edge ⌝ }
     ensures { λ _. ⌜ now (rec .exit) ≡ encode (geometry glass) (openState (geometry glass) graphics text version keys edge) ⌝ }
 {
     slices::clear(rec);

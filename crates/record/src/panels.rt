@@ -10,7 +10,12 @@ ghost use Prim.Native.Nat.{_+_, _*_, _≤_, _<_};
 ghost use lib.ListN.{length};
 ghost use Rattle.model.specs.Glass.{geometry, glassOf, Suits};
 ghost use Rattle.model.specs.Record.{at, panel, recordBytes};
-ghost use Rattle.laws.specs.Marking.{joinedFrom, markFrom};
+ghost use Rattle.model.specs.Marks.{owingEach};
+ghost use Rattle.laws.specs.Owed.{joinedAt};
+ghost use Rattle.laws.specs.Record.{Passing};
+ghost use Rattle.laws.specs.Panels.{Known};
+ghost use Rattle.laws.specs.Marking.{eachFrom, storedAt, BandMarked};
+ghost use Rattle.record.specs.Update.{updated};
 
 // Where panel k's part begins.
 pub fn panel_at(glass: Glass, k: usize) -> usize
@@ -36,7 +41,7 @@ pub fn sent_at(glass: Glass, at: usize) -> usize
 fn join_band(rec: &mut [u8], glass: Glass, i: usize, q: Rect)
     requires { ⌜ Suits glass ⌝ }
     requires { ⌜ (length (now rec) ≡ recordBytes (geometry glass)) × (i < glass .bands) ⌝ }
-    ensures { λ _. ⌜ now (rec .exit) ≡ joinedFrom (geometry glass) i q 0 (glass .panels) (now (rec .entry)) ⌝ }
+    ensures { λ _. ⌜ now (rec .exit) ≡ eachFrom (geometry glass) i (λ a. joinedAt a q) 0 (glass .panels) (now (rec .entry)) ⌝ }
 {
     let panels = glass.panels;
     let mut k: usize = 0;
@@ -47,22 +52,55 @@ fn join_band(rec: &mut [u8], glass: Glass, i: usize, q: Rect)
     }
 }
 
-// A mark cut at the edges of the screen and of the bands, each part joined to what each panel is owed in its band: from the band of the mark's top line on.
+// One that is the whole band is stored: it holds what is owed there.
+fn fill_band(rec: &mut [u8], glass: Glass, i: usize, q: Rect)
+    requires { ⌜ Suits glass ⌝ }
+    requires { ⌜ (length (now rec) ≡ recordBytes (geometry glass)) × (i < glass .bands) ⌝ }
+    ensures { λ _. ⌜ now (rec .exit) ≡ eachFrom (geometry glass) i (λ a. storedAt a q) 0 (glass .panels) (now (rec .entry)) ⌝ }
+{
+    let panels = glass.panels;
+    let mut k: usize = 0;
+    while k < panels {
+        let at = panel_at(glass, k);
+        rects::store_rect(rec, rects::band_at(at, i), q);
+        k += 1;
+    }
+}
+
+// The mark's part in band i, which begins at line lo, owed to each panel.
+fn mark_band(rec: &mut [u8], glass: Glass, i: usize, lo: u16, m: Rect)
+    requires { ⌜ Known glass (now rec) ⌝ }
+    requires { ⌜ (i < glass .bands) × (lo ≡ i * glass .band) ⌝ }
+    ensures { λ _. ⌜ BandMarked (geometry glass) m i (now (rec .entry)) (now (rec .exit)) ⌝ }
+{
+    let left = m.left;
+    let top = m.top;
+    let right = m.right;
+    let bottom = m.bottom;
+    let width = glass.width;
+    let hi = lo + glass.band;
+    let q = rect::cut_rect(width, lo, hi, m);
+    if (left == 0) & (width <= right) & (top <= lo) & (hi <= bottom) {
+        fill_band(rec, glass, i, q);
+        return;
+    }
+    join_band(rec, glass, i, q);
+}
+
+// A mark, cut at the edges of the screen and of the bands, owed to each panel: from the band of its top line on.
 pub fn mark_panels(rec: &mut [u8], m: Rect)
-    requires { ⌜ length (now rec) ≡ recordBytes (glassOf (length (now rec))) ⌝ }
-    ensures { λ _. ⌜ now (rec .exit) ≡ markFrom (glassOf (length (now (rec .entry)))) m 0 (glassOf (length (now (rec .entry))) .bands) (now (rec .entry)) ⌝ }
+    requires { ⌜ Passing (glassOf (length (now rec))) (now rec) ⌝ }
+    ensures { λ _. ⌜ now (rec .exit) ≡ updated (λ g s. owingEach g m s) (now (rec .entry)) ⌝ }
 {
     let glass = glass::glass_of(rec.len());
     let band = glass.band;
-    let width = glass.width;
     let bottom = rect::least(m.bottom, glass.height);
     let first = m.top / band;
     let mut i = first as usize;
     let mut lo = first * band;
     while lo < bottom {
-        let hi = lo + band;
-        join_band(rec, glass, i, rect::cut_rect(width, lo, hi, m));
-        lo = hi;
+        mark_band(rec, glass, i, lo, m);
+        lo += band;
         i += 1;
     }
 }

@@ -55,8 +55,7 @@ fn pending_fits(rec: &[u8], glass: Glass, k: usize) -> bool
     if !bands::bands_fit(rec, a, bands, glass.band, glass.width) {
         return false;
     }
-    let hand = rects::load_rect(rec, a + 8 * bands);
-    rect::rect_fits(glass.width, 0, glass.height, hand)
+    rects::rect_fits(rec, a + 8 * bands, glass.width, 0, glass.height)
 }
 
 fn panels_fit(rec: &[u8], glass: Glass) -> bool

@@ -16,7 +16,7 @@ same-length-2 : tie.Need-same-length-2
 same-length-2 c = search needs
 
 returns : tie.Need-returns
-returns c = let s = c .before .before .before .before .before .before .before .before .before .before .before in was-opened (s .pre) (s .args .graphics) (s .args .text) (s .args .version) (s .args .edge) (c .before .before .before .before .before .before .before .open-record .ensures) (c .before .before .clear-memory .ensures)
+returns c = let s = c .before .before .before .before .before .before .before .before .before .before .before in was-opened (s .args .graphics) (s .args .text) (s .args .version) (s .args .edge) (s .pre) (c .before .before .before .before .before .before .before .open-record .ensures) (c .before .before .clear-memory .ensures)
 
 pub open-spec : {M : Type 1} → statement M
 open-spec =

@@ -15,12 +15,17 @@ edge-fits-requires c κs = search needs
 
 open-requires : tie.Need-open-requires
 open-requires c κs =
-    let if1 = c .before .before .before .before .before .before in
+    let if3 = c .before .before in
+    let edge-fits = if3 .before in
+    let if2 = edge-fits .before in
+    let windows-fit = if2 .before in
+    let if1 = windows-fit .before in
     let glass-of = if1 .before .before in
     let s = glass-of .before .before .before in
     let a = s .args in
     let f = s .fits in
-    may-open (a .rec .now) (a .memory .now) (a .graphics) (a .text) (a .version) _ (a .edge) (glass-of .glass-of .ensures) (if1 .if1 .taken) refl
+    may-open (a .rec .now) (a .memory .now) (a .graphics) (a .text) (a .version) _ (a .edge) (glass-of .glass-of .ensures) (if1 .if1 .taken) (windows-fit .windows-fit .ensures) (if2 .if2 .taken)
+    (edge-fits .edge-fits .ensures) (if3 .if3 .taken) refl
     (f .keys0 .fits, (f .keys1 .fits, (f .keys2 .fits, (f .keys3 .fits, (f .keys4 .fits, (f .keys5 .fits, (f .keys6 .fits, (f .keys7 .fits, tt))))))))
 
 same-length : tie.Need-same-length

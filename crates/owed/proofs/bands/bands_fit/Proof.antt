@@ -14,19 +14,16 @@ abbrev μ-loop : tie.MeasureT-loop
 loop-holds : tie.Need-loop-holds Inv-loop μ-loop
 loop-holds c = search test-starts
 
-load-rect-requires : tie.Need-load-rect-requires Inv-loop μ-loop
-load-rect-requires c κs = search needs
-
 add-hi : tie.Need-add-hi Inv-loop μ-loop
-add-hi c = let l = c .before in omega (arith, band-in _ _ _ _ (l .loop-test .taken) (l .before .loop .inv .lines))
+add-hi c = omega (arith, band-in _ _ _ _ (c .loop-test .taken) (c .before .loop .inv .lines))
 
 rect-fits-requires : tie.Need-rect-fits-requires Inv-loop μ-loop
 rect-fits-requires c κs = search needs
 
 returns : tie.Need-returns Inv-loop μ-loop
 returns c =
-    let l = c .before .before .before in
-    test-fails (l .before .loop .inv) (l .loop-test .taken) (c .before .before .load-rect .ensures) (c .before .rect-fits .ensures) (c .if1 .taken)
+    let l = c .before .before in
+    test-fails (l .before .loop .inv) (l .loop-test .taken) (c .before .rect-fits .ensures) (c .if1 .taken)
 
 add-a : tie.Need-add-a Inv-loop μ-loop
 add-a c = search needs
@@ -39,8 +36,8 @@ loop-less c = search needs
 
 loop-again : tie.Need-loop-again Inv-loop μ-loop
 loop-again c =
-    let l = c .before .before .before in
-    test-goes (l .before .loop .inv) (l .loop-test .taken) (c .before .before .load-rect .ensures) (c .before .rect-fits .ensures) (c .if1 .left)
+    let l = c .before .before in
+    test-goes (l .before .loop .inv) (l .loop-test .taken) (c .before .rect-fits .ensures) (c .if1 .left)
 
 returns-2 : tie.Need-returns-2 Inv-loop μ-loop
 returns-2 c = search test-ends
@@ -52,7 +49,6 @@ bands-fit-spec =
     Inv-loop
     μ-loop
     loop-holds
-    load-rect-requires
     add-hi
     rect-fits-requires
     returns

@@ -18,29 +18,28 @@ loop-holds c = search take-starts
 band-at-requires : tie.Need-band-at-requires Inv-loop μ-loop
 band-at-requires c κs = omega (arith, take-room _ _ _ _ _ (c .before .loop .inv) (c .loop-test .taken))
 
-load-rect-requires : tie.Need-load-rect-requires Inv-loop μ-loop
-load-rect-requires c κs = let l = c .before .before .before in omega (arith, take-room _ _ _ _ _ (l .loop .inv) (c .before .before .loop-test .taken), c .before .band-at .ensures)
+is-clear-requires : tie.Need-is-clear-requires Inv-loop μ-loop
+is-clear-requires c κs = let b = c .before in omega (arith, take-room _ _ _ _ _ (b .before .before .loop .inv) (b .before .loop-test .taken), b .band-at .ensures)
 
-is-empty-requires : tie.Need-is-empty-requires Inv-loop μ-loop
-is-empty-requires c κs = search needs
+load-rect-requires : tie.Need-load-rect-requires Inv-loop μ-loop
+load-rect-requires c κs = let b = c .before .before .before .before in omega (arith, take-room _ _ _ _ _ (b .before .before .loop .inv) (b .before .loop-test .taken), b .band-at .ensures)
 
 empty-requires : tie.Need-empty-requires Inv-loop μ-loop
 empty-requires c κs = search needs
 
 store-rect-requires : tie.Need-store-rect-requires Inv-loop μ-loop
-store-rect-requires c κs =
-    let b = c .before .before .before .before .before .before in
-    omega (arith, take-room _ _ _ _ _ (b .before .before .loop .inv) (b .before .loop-test .taken), b .band-at .ensures)
+store-rect-requires c κs = let b = c .before .before .before .before .before .before .before in omega (arith, take-room _ _ _ _ _ (b .before .before .loop .inv) (b .before .loop-test .taken), b .band-at .ensures)
 
 same-length : tie.Need-same-length Inv-loop μ-loop
 same-length c = search needs
 
 returns : tie.Need-returns Inv-loop μ-loop
 returns c =
-    let i = c .before .before .before .before .before in
-    let b = i .before .before .before .before in
+    let i = c .before .before .before .before .before .before .before in
+    let b = i .before .before .before in
     let l = b .before .before in
-    take-finds (l .loop .inv) (b .before .loop-test .taken) (λ j. l .before .slice-known .given j .fits) (b .band-at .ensures) (i .before .before .load-rect .ensures) (i .before .is-empty .ensures) (not-true _ (i .if1 .taken)) (c .before .before .before .empty .ensures) (c .before .before .store-rect .ensures)
+    take-finds (l .loop .inv) (b .before .loop-test .taken) (λ j. l .before .slice-known .given j .fits) (b .band-at .ensures) (i .before .is-clear .ensures) (not-true _ (i .if1 .taken))
+    (c .before .before .before .before .before .load-rect .ensures) (c .before .before .before .empty .ensures) (c .before .before .store-rect .ensures)
 
 add-i : tie.Need-add-i Inv-loop μ-loop
 add-i c = search needs
@@ -50,9 +49,9 @@ loop-less c = search needs
 
 loop-again : tie.Need-loop-again Inv-loop μ-loop
 loop-again c =
-    let b = c .before .before .before .before in
+    let b = c .before .before .before in
     let l = b .before .before in
-    take-goes (l .loop .inv) (b .before .loop-test .taken) (λ j. l .before .slice-known .given j .fits) (b .band-at .ensures) (c .before .before .load-rect .ensures) (c .before .is-empty .ensures) (not-false _ (c .if1 .left))
+    take-goes (l .loop .inv) (b .before .loop-test .taken) (λ j. l .before .slice-known .given j .fits) (b .band-at .ensures) (c .before .is-clear .ensures) (not-false _ (c .if1 .left))
 
 empty-requires-2 : tie.Need-empty-requires-2 Inv-loop μ-loop
 empty-requires-2 c κs = search needs
@@ -71,8 +70,8 @@ take-owed-spec =
     μ-loop
     loop-holds
     band-at-requires
+    is-clear-requires
     load-rect-requires
-    is-empty-requires
     empty-requires
     store-rect-requires
     same-length

@@ -2,12 +2,13 @@ use mathlib.Core.Path.{_∙_}
 use borrow.Author.Needs.{needs}
 use Prim.Native.Nat.{_-_}
 use native.Mathlib.Omega.{arith}
+use Rattle.laws.specs.Owed.{joinedAt}
 use Rattle.laws.specs.Marking.{Joining, join-room, join-starts, join-goes, join-ends}
 use Rattle.record.proofs.panels.join_band.Statement.{statement}
 use Rattle.record.proofs.panels.join_band.Tie as tie
 
 abbrev Inv-loop : tie.InvT-loop
-Inv-loop rec₀ glass i q panels k₀ rec k = Joining glass i q rec₀ rec panels k
+Inv-loop rec₀ glass i q panels k₀ rec k = Joining glass i (λ a. joinedAt a q) rec₀ rec panels k
 
 abbrev μ-loop : tie.MeasureT-loop
 μ-loop rec₀ glass i q panels k₀ rec k = panels - k

@@ -17,33 +17,21 @@ returns c =
     let s = c .before .before .before .before in
     pending-fails (s .args .glass) (s .args .rec .now) (s .args .k) _ (s .pre .0) (c .before .before .panel-at .ensures) (c .before .bands-fit .ensures) (c .if1 .taken)
 
-mul-load-rect : tie.Need-mul-load-rect
-mul-load-rect c = search needs
+mul-rect-fits : tie.Need-mul-rect-fits
+mul-rect-fits c = search needs
 
-add-load-rect : tie.Need-add-load-rect
-add-load-rect c = let s = c .before .before .before .before in omega (arith, hand-room (s .args .rec .now) (s .pre .0) (s .pre .1 .0) (s .pre .1 .1) (c .before .before .panel-at .ensures))
-
-load-rect-requires : tie.Need-load-rect-requires
-load-rect-requires c κs = let s = c .before .before .before .before in omega (arith, hand-room (s .args .rec .now) (s .pre .0) (s .pre .1 .0) (s .pre .1 .1) (c .before .before .panel-at .ensures))
+add-rect-fits : tie.Need-add-rect-fits
+add-rect-fits c = let s = c .before .before .before .before in omega (arith, hand-room (s .args .rec .now) (s .pre .0) (s .pre .1 .0) (s .pre .1 .1) (c .before .before .panel-at .ensures))
 
 rect-fits-requires : tie.Need-rect-fits-requires
-rect-fits-requires c κs = search needs
+rect-fits-requires c κs = let s = c .before .before .before .before in omega (arith, hand-room (s .args .rec .now) (s .pre .0) (s .pre .1 .0) (s .pre .1 .1) (c .before .before .panel-at .ensures))
 
 returns-2 : tie.Need-returns-2
 returns-2 c =
-    let s = c .before .before .before .before .before .before in
-    pending-is (s .args .glass) (s .args .rec .now) (s .args .k) _ (s .pre .0) (c .before .before .before .before .panel-at .ensures) (c .before .before .before .bands-fit .ensures)
-    (c .before .before .if1 .left) (c .before .load-rect .ensures) (c .rect-fits .ensures)
+    let s = c .before .before .before .before .before in
+    pending-is (s .args .glass) (s .args .rec .now) (s .args .k) _ (s .pre .0) (c .before .before .before .panel-at .ensures) (c .before .before .bands-fit .ensures) (c .before .if1 .left) (c .rect-fits .ensures)
 
 pub pending-fits-spec : {M : Type 1} → statement M
 pending-fits-spec =
     tie.close
-    (tie.spec
-    panel-at-requires
-    bands-fit-requires
-    returns
-    mul-load-rect
-    add-load-rect
-    load-rect-requires
-    rect-fits-requires
-    returns-2)
+    (tie.spec panel-at-requires bands-fit-requires returns mul-rect-fits add-rect-fits rect-fits-requires returns-2)

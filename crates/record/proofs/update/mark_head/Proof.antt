@@ -9,7 +9,7 @@ use Rattle.record.proofs.update.mark_head.Statement.{statement}
 use Rattle.record.proofs.update.mark_head.Tie as tie
 
 mark-panels-requires : tie.Need-mark-panels-requires
-mark-panels-requires c κs = c .before .before .before .before .pre .sized
+mark-panels-requires c κs = search needs
 
 update-dirty-requires : tie.Need-update-dirty-requires
 update-dirty-requires c κs = search needs
