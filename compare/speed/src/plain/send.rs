@@ -33,7 +33,7 @@ pub fn send(record: &mut [u8], memory: &[u8], shown: &mut [u8], number: u8) -> [
 
 /// The place of the first band that is not empty.
 fn next_owed(record: &[u8], panel: usize) -> Option<usize> {
-    (0..BANDS).map(|band| owed(panel, band)).find(|place| four(record, *place) != [0; 4])
+    (0..BANDS).map(|band| owed(panel, band)).find(|place| record[*place..place + RECT] != [0; RECT])
 }
 
 fn count_line(record: &mut [u8], panel: usize) {
