@@ -157,14 +157,20 @@ fn a_library_before_with_one_band() {
     }
 }
 
-/// That of CAPTION_BEFORE: the entry, a drawing and a send are the same work as today's.
+/// That of CAPTION_BEFORE: the entry, a drawing and a send are the same work as today's. With one band it sends
+/// all lines from the cursor to the clock.
 #[cfg(feature = "before")]
 #[test]
 fn the_linked_library_before_does_the_same() {
-    let compared = compared_with_model(crate::before::linked().expect("the library before"));
+    let before = crate::before::linked().expect("the library before");
+    let compared = compared_with_model(before);
     let same = such(&compared, Work::Same);
     for name in ["set_row, plain", "point", "line, horizontal", "send, a line"] {
         assert!(same.iter().any(|row| row.starts_with(name)), "{name}: {compared:?}");
+    }
+    if before.layout.bands == 1 {
+        let others = such(&compared, Work::OtherSends { before: 80, now: 32 });
+        assert_eq!(others, ["cursor and clock, plain Rust copies"]);
     }
 }
 

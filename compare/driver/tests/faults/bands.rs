@@ -32,7 +32,11 @@ fn all_to_band_0(mark: [u16; 4], band: usize) -> [u16; 4] {
     if band == 0 { mark } else { EMPTY }
 }
 
-/// The last band is never given anything.
+/// The other bands are never given anything, or the last one.
+fn band_0_alone(mark: [u16; 4], band: usize) -> [u16; 4] {
+    if band == 0 { part_in(mark, band) } else { EMPTY }
+}
+
 fn four_bands(mark: [u16; 4], band: usize) -> [u16; 4] {
     if band < 4 { part_in(mark, band) } else { EMPTY }
 }
@@ -90,8 +94,9 @@ fn these_shares_without_a_fault() {
 }
 
 #[test]
-fn a_mark_joined_to_one_band_alone() {
+fn a_mark_joined_to_one_band_alone_or_to_all_but_one() {
     assert_both_found!(answer(first_part_alone), 2);
+    assert_both_found!(answer(band_0_alone), 2);
     assert_both_found!(answer(four_bands), 2);
 }
 
