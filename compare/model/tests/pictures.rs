@@ -99,8 +99,11 @@ fn boxes() {
     assert_eq!(screen.pixels(), (0..8).map(|x| (x, 78)).collect::<Vec<_>>());
 }
 
+/// Pixels, dirty, and what is owed.
+type Drawn = (Vec<(usize, usize)>, [u16; 4], Vec<[u16; 4]>);
+
 /// What a call draws on an empty screen, marks and owes with this edge flag.
-fn drawn(call: Call, edge: u8) -> (Vec<(usize, usize)>, [u16; 4], Vec<[u16; 4]>) {
+fn drawn(call: Call, edge: u8) -> Drawn {
     let mut screen = Screen::under(edge);
     assert!(screen.call(call).accepted());
     (screen.pixels(), screen.dirty(), screen.owed())

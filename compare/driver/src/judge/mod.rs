@@ -120,9 +120,8 @@ impl Judge {
 
     fn empty_marks(&mut self) {
         for side in [&mut self.own.model, &mut self.own.core] {
-            for place in [DIRTY..DIRTY + RECT].into_iter().chain((0..PANELS).map(owed_part)) {
-                side.record[place].fill(0);
-            }
+            side.record[DIRTY..DIRTY + RECT].fill(0);
+            (0..PANELS).for_each(|panel| side.record[owed_part(panel)].fill(0));
         }
         self.reference.set_dirty([0; 4]);
         self.reckoner.empty_owed();
