@@ -2,7 +2,7 @@
 //! that of today, and copies core's source to call it by the new names.
 
 use calls::Call;
-use calls::layout::RECORD;
+use calls::layout::{BANDS, PANELS, RECORD, RECT};
 use std::path::{Path, PathBuf};
 use std::process::Command;
 use std::{env, fs};
@@ -11,15 +11,19 @@ const PREFIX: &str = "before_";
 
 fn main() {
     let library = library();
-    let record = record_length();
+    let bands = bands();
+    let whole = RECORD - PANELS * (BANDS - bands) * RECT;
+    let record = record_length(whole);
     let out = PathBuf::from(env::var("OUT_DIR").unwrap());
     let symbols = defined_symbols(&library);
     write_renamed(&library, &symbols, &out);
     println!("cargo:rustc-link-search=native={}", out.display());
     println!("cargo:rustc-link-lib=static:-bundle=caption_before");
-    say_calls(&symbols, record, &out);
+    say_calls(&symbols, record == whole, &out);
     copy_source(&out);
-    fs::write(out.join("modules.rs"), format!("mod library;\nconst RECORD: usize = {record};\n")).unwrap();
+    let modules =
+        format!("mod library;\npub const BANDS: usize = {bands};\nconst RECORD: usize = {record};\n");
+    fs::write(out.join("modules.rs"), modules).unwrap();
 }
 
 /// That of the folder which CAPTION_BEFORE names.
@@ -34,13 +38,23 @@ fn library() -> PathBuf {
     library
 }
 
-/// The bytes of its record: CAPTION_BEFORE_RECORD, or as many as today.
-fn record_length() -> usize {
+/// How many bands its record keeps what is owed by: CAPTION_BEFORE_BANDS, or as many as today.
+fn bands() -> usize {
+    println!("cargo:rerun-if-env-changed=CAPTION_BEFORE_BANDS");
+    let Ok(text) = env::var("CAPTION_BEFORE_BANDS") else { return BANDS };
+    let bands = text.parse().ok().filter(|bands| [1, BANDS].contains(bands));
+    bands.unwrap_or_else(|| {
+        panic!("CAPTION_BEFORE_BANDS is {text:?}: it is 1 for a library from before change request 6, else {BANDS}")
+    })
+}
+
+/// The bytes of its record: CAPTION_BEFORE_RECORD, or all that a record with its bands has today.
+fn record_length(whole: usize) -> usize {
     println!("cargo:rerun-if-env-changed=CAPTION_BEFORE_RECORD");
-    let Ok(text) = env::var("CAPTION_BEFORE_RECORD") else { return RECORD };
-    let length = text.parse().ok().filter(|length| (1..=RECORD).contains(length));
+    let Ok(text) = env::var("CAPTION_BEFORE_RECORD") else { return whole };
+    let length = text.parse().ok().filter(|length| (1..=whole).contains(length));
     length.unwrap_or_else(|| {
-        panic!("CAPTION_BEFORE_RECORD is {text:?}: it is the length of the library's record, 1 to {RECORD}")
+        panic!("CAPTION_BEFORE_RECORD is {text:?}: it is the length of the library's record, 1 to {whole}")
     })
 }
 
@@ -73,14 +87,13 @@ fn run(command: &mut Command) -> String {
     printed
 }
 
-/// The calls that this library has, as core's source asks for them. With another record it is told other
+/// The calls that this library has, as core's source asks for them. With a shorter record it is told other
 /// things at open, so that open is left out.
-fn say_calls(symbols: &[String], record: usize, out: &Path) {
+fn say_calls(symbols: &[String], whole_record: bool, out: &Path) {
     let names = Call::NAMES.map(|name| format!("{name:?}")).join(", ");
     println!("cargo:rustc-check-cfg=cfg(has, values({names}))");
     let mut calls = String::new();
-    let has =
-        |name: &str| symbols.contains(&format!("caption_{name}")) && (name != "open" || record == RECORD);
+    let has = |name: &str| symbols.contains(&format!("caption_{name}")) && (name != "open" || whole_record);
     for name in Call::NAMES.iter().filter(|name| has(name)) {
         println!("cargo:rustc-cfg=has=\"{name}\"");
         calls += &format!("{name}\n");

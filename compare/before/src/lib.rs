@@ -7,7 +7,8 @@ pub use library::has;
 
 use calls::{Answer, Call, Lent};
 
-/// Give the library a call; of the record it is lent as many bytes as its own has.
+/// Give the library a call on a record as it lies there, with `BANDS` bands; it is lent as many bytes of it as
+/// its own has.
 pub fn answer(call: &Call, lent: Lent) -> Option<Answer> {
     let Lent { record, memory, panel } = lent;
     let length = record.len().min(RECORD);

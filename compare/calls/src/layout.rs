@@ -2,7 +2,7 @@
 
 use std::ops::Range;
 
-pub const RECORD: usize = 231;
+pub const RECORD: usize = 359;
 pub const MEMORY: usize = 65_536;
 /// Up to four panels, each with a buffer of so many bytes.
 pub const PANELS: usize = 4;
@@ -20,6 +20,10 @@ pub const CELLS: usize = ROWS * COLUMNS;
 /// Lines of pixels of one row of text.
 pub const CELL_HEIGHT: usize = 16;
 
+/// What is owed to a panel is kept by bands of so many lines, top to bottom: one for each row of text.
+pub const BANDS: usize = HEIGHT / BAND;
+pub const BAND: usize = CELL_HEIGHT;
+
 pub const GRAPHICS_BASE: usize = 0;
 pub const TEXT_BASE: usize = 2;
 pub const ROW: usize = 4;
@@ -29,16 +33,17 @@ pub const PRINT_MODE: usize = 7;
 pub const CURSOR: usize = 8;
 pub const VERSION: usize = 9;
 pub const DIRTY: usize = 10;
-pub const KEYS: usize = 38;
-pub const FLAGS: usize = 70;
+pub const KEYS: usize = 70;
+pub const FLAGS: usize = 102;
 pub const FLAGS_END: usize = FLAGS + CELLS;
 
-/// Where the part of each panel starts: owed, in hand, lines sent. Panel 0's stands before the keys,
-/// the others' after the flags.
+/// Where the part of each panel starts: owed band by band, in hand, lines sent. Panel 0's stands before
+/// the keys, the others' after the flags.
 const PARTS: [usize; PANELS] = [PANEL_0, FLAGS_END, FLAGS_END + PART, FLAGS_END + 2 * PART];
 const PANEL_0: usize = 18;
-/// Bytes of a part: two rectangles of eight, a count of four.
-pub const PART: usize = 20;
+/// Bytes of a rectangle, and of a part: what is owed, what is in hand, a count of four.
+pub const RECT: usize = 8;
+pub const PART: usize = (BANDS + 1) * RECT + 4;
 
 /// The edge flag: 0 clamp, 1 stop.
 pub const EDGE: usize = FLAGS_END + 3 * PART;
@@ -53,16 +58,21 @@ pub const fn part(panel: usize) -> Range<usize> {
     PARTS[panel]..PARTS[panel] + PART
 }
 
-pub const fn owed(panel: usize) -> usize {
-    PARTS[panel]
+pub const fn owed(panel: usize, band: usize) -> usize {
+    PARTS[panel] + band * RECT
+}
+
+/// The rectangles of all bands.
+pub const fn owed_part(panel: usize) -> Range<usize> {
+    PARTS[panel]..in_hand(panel)
 }
 
 pub const fn in_hand(panel: usize) -> usize {
-    PARTS[panel] + 8
+    PARTS[panel] + BANDS * RECT
 }
 
 pub const fn lines_sent(panel: usize) -> usize {
-    PARTS[panel] + 16
+    in_hand(panel) + RECT
 }
 
 /// The panel whose part holds a record byte.
@@ -73,10 +83,10 @@ fn panel_at(place: usize) -> Option<usize> {
 /// The field that a record byte belongs to.
 pub fn field(place: usize) -> String {
     if let Some(panel) = panel_at(place) {
-        let field = match place - PARTS[panel] {
-            0..8 => "owed",
-            8..16 => "in hand",
-            _ => "lines sent",
+        let field = match (place - PARTS[panel]) / RECT {
+            band @ 0..BANDS => format!("owed in band {band}"),
+            BANDS => "in hand".to_string(),
+            _ => "lines sent".to_string(),
         };
         return format!("{field} of panel {panel}");
     }
@@ -121,7 +131,19 @@ fn the_parts_of_the_record_follow_each_other() {
     let [first, second] = IN_REFERENCE;
     let [panel0, others, edge] = ADDED;
     let in_order = [first, panel0, second, others, edge];
-    assert_eq!(in_order.iter().map(|range| range.end).collect::<Vec<_>>(), [18, 38, 170, 230, RECORD]);
+    assert_eq!(in_order.iter().map(|range| range.end).collect::<Vec<_>>(), [18, 70, 202, 358, RECORD]);
     assert!(in_order.windows(2).all(|two| two[0].end == two[1].start));
-    assert_eq!([0, 1, 2, 3].map(part), [18..38, 170..190, 190..210, 210..230]);
+    assert_eq!([0, 1, 2, 3].map(part), [18..70, 202..254, 254..306, 306..358]);
+    assert_eq!((KEYS, FLAGS, EDGE, RECORD), (70, 102, 358, 359));
+}
+
+#[test]
+fn the_rectangles_of_a_part() {
+    assert_eq!([0, 1, 2, 3, 4].map(|band| owed(0, band)), [18, 26, 34, 42, 50]);
+    assert_eq!((owed_part(0), in_hand(0), lines_sent(0)), (18..58, 58, 66));
+    assert_eq!((owed(3, 4), in_hand(3), lines_sent(3)), (338, 346, 354));
+    let names = [(49, "owed in band 3"), (50, "owed in band 4"), (58, "in hand"), (69, "lines sent")];
+    for (place, name) in names {
+        assert_eq!(field(place), format!("{name} of panel 0"));
+    }
 }

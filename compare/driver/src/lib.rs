@@ -1,6 +1,7 @@
 //! Drives reference, model and core with the same lists of calls and compares what they answer
 //! and leave.
 
+pub mod bands;
 pub mod core_side;
 pub mod exhaustive;
 pub mod judge;

@@ -1,9 +1,9 @@
-//! `driver run` compares; `driver scripts` compares a script program with the model;
-//! `driver replay-make` writes a list for the replay.
+//! `driver run` compares; `driver scripts` compares a script program with the model; `driver bands` says what
+//! is sent with one band and with five; `driver replay-make` writes a list for the replay.
 
 use driver::run::{FULL, Run};
 use driver::scripts::{self, Scripts};
-use driver::{core_side, replay};
+use driver::{bands, core_side, replay};
 use std::fs;
 use std::path::Path;
 use std::process::ExitCode;
@@ -12,6 +12,9 @@ const USAGE: &str = "driver run [--calls N] [--seed S] [--no-core] [--no-exhaust
     compare reference, model and core, if it is linked, on at least N calls (default 10000000)
 driver scripts COUNT PROGRAM [--seed S]
     feed COUNT scripts to PROGRAM and hold what it prints to the model
+driver bands
+    print how many lines and bytes go to a panel in some cases, with one rectangle owed for the whole
+    screen, as before change request 6, and with one for each of five bands
 driver replay-make FOLDER
     write the replay's stdin and stdout into FOLDER
 Seeds are 0 to 4294967295 (default 1). Exit status: 0 nothing differs, 1 something does, or 10000000
@@ -19,11 +22,21 @@ calls or more had fewer than 10000 flushes with a pair in the gap or, with the c
 accepted calls of paint_bitmap_by_bytes or fewer than two fifths of the lists with edge flag 1, 2 bad
 arguments.";
 
+const BANDS: &str = "\
+What goes to one panel, from a level one until it is idle: lines, and the bytes that hold their pixels.
+one band    one rectangle is owed for the whole screen, as before change request 6
+five bands  one for each row of text
+";
+
 fn main() -> ExitCode {
     let arguments: Vec<String> = std::env::args().skip(1).collect();
     match arguments.first().map(String::as_str) {
         Some("run") => run(&arguments[1..]),
         Some("scripts") => compare_scripts(&arguments[1..]),
+        Some("bands") if arguments.len() == 1 => {
+            print!("{BANDS}\n{}", bands::table());
+            ExitCode::SUCCESS
+        }
         Some("--help" | "-h") => {
             println!("{USAGE}");
             ExitCode::SUCCESS

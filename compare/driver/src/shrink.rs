@@ -87,7 +87,10 @@ fn simpler_starts(start: &Start) -> Vec<Start> {
 fn record_fields() -> Vec<Range<usize>> {
     let mut starts =
         vec![0, ROW, COLUMN, SCREEN_MODE, PRINT_MODE, CURSOR, VERSION, DIRTY, KEYS, FLAGS, EDGE, RECORD];
-    starts.extend((0..PANELS).flat_map(|panel| [owed(panel), in_hand(panel), lines_sent(panel)]));
+    for panel in 0..PANELS {
+        starts.extend((0..BANDS).map(|band| owed(panel, band)));
+        starts.extend([in_hand(panel), lines_sent(panel)]);
+    }
     starts.sort();
     starts.windows(2).map(|two| two[0]..two[1]).collect()
 }

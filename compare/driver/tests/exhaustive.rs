@@ -182,8 +182,8 @@ fn poked_from_level(list: &List) -> Vec<u16> {
     let mut poked = vec![];
     for step in &list.steps {
         if let Call::WriteByte { address, .. } = step.call {
-            let pending = (0..PANELS).map(|panel| &buffers.record[part(panel)][..16]);
-            assert!(!poked.is_empty() || pending.into_iter().all(|rects| rects == [0; 16]), "{list}");
+            let pending = (0..PANELS).flat_map(|panel| &buffers.record[part(panel).start..lines_sent(panel)]);
+            assert!(!poked.is_empty() || pending.into_iter().all(|byte| *byte == 0), "{list}");
             poked.push(address);
         }
         model::answer(&step.call, buffers.lend(&step.call));

@@ -23,8 +23,8 @@ pub struct Record {
     pub edge: Edge,
 }
 
-/// How far dirty reaches at most, either way.
-const DIRTY_LIMIT: usize = 256;
+/// Where dirty lies.
+const DIRTY_LIMITS: Rect = Rect { left: 0, top: 0, right: 256, bottom: 256 };
 
 /// The bases fit into memory and the two windows share no byte.
 pub fn windows_fit(graphics_base: usize, text_base: usize) -> bool {
@@ -52,14 +52,14 @@ impl Record {
             cursor: Cursor::None,
             version,
             dirty: None,
-            panels: [Pending { owed: Some(WHOLE_SCREEN), in_hand: None, lines_sent: 0 }; PANELS],
+            panels: [Pending::fresh(); PANELS],
             keys,
             flags: [false; CELLS],
             edge,
         }
     }
 
-    /// The record of 231 bytes, if STATE lets it pass.
+    /// The record of 359 bytes, if STATE lets it pass.
     pub fn read(bytes: &[u8]) -> Option<Self> {
         let graphics_base = word(bytes, GRAPHICS_BASE) as usize;
         let text_base = word(bytes, TEXT_BASE) as usize;
@@ -77,7 +77,7 @@ impl Record {
             print_mode: modes::print_mode(bytes[PRINT_MODE])?,
             cursor: modes::cursor(bytes[CURSOR])?,
             version: modes::version(bytes[VERSION])?,
-            dirty: read_rect(bytes, DIRTY, DIRTY_LIMIT, DIRTY_LIMIT)?,
+            dirty: read_rect(bytes, DIRTY, &DIRTY_LIMITS)?,
             panels: Pending::read_all(bytes)?,
             keys: std::array::from_fn(|k| double_word(bytes, KEYS + 4 * k)),
             flags: read_flags(&bytes[FLAGS..FLAGS_END])?,
@@ -126,13 +126,15 @@ impl Record {
         let mark = drawing(&mut canvas);
         let owes = canvas.owes(mark);
         self.dirty = join(self.dirty, mark.map(|mark| mark.rect));
-        self.owe(owes);
+        if let Some(rect) = owes {
+            self.owe(rect);
+        }
     }
 
     /// Every mark goes to all panels.
-    fn owe(&mut self, rect: Option<Rect>) {
+    fn owe(&mut self, rect: Rect) {
         for pending in &mut self.panels {
-            pending.owed = join(pending.owed, rect);
+            pending.owe(rect);
         }
     }
 
@@ -142,17 +144,18 @@ impl Record {
     }
 
     pub fn owe_whole_screen(&mut self) {
-        self.owe(Some(WHOLE_SCREEN));
+        self.owe(WHOLE_SCREEN);
     }
 }
 
 /// The outer `None`: the bytes are no rectangle within these limits.
-pub fn read_rect(bytes: &[u8], place: usize, width: usize, height: usize) -> Option<Option<Rect>> {
+pub fn read_rect(bytes: &[u8], place: usize, limits: &Rect) -> Option<Option<Rect>> {
     let [left, top, right, bottom] = four(bytes, place).map(|side| side as usize);
+    let rect = Rect { left, top, right, bottom };
     if [left, top, right, bottom] == [0; 4] {
         Some(None)
-    } else if left < right && top < bottom && right <= width && bottom <= height {
-        Some(Some(Rect { left, top, right, bottom }))
+    } else if left < right && top < bottom && limits.contains(&rect) {
+        Some(Some(rect))
     } else {
         None
     }

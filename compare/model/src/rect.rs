@@ -37,9 +37,14 @@ impl Rect {
     }
 
     pub fn clipped(self) -> Option<Self> {
-        let right = self.right.min(WIDTH);
-        let bottom = self.bottom.min(HEIGHT);
-        (self.left < right && self.top < bottom).then_some(Self { right, bottom, ..self })
+        self.part_in(&WHOLE_SCREEN)
+    }
+
+    /// What of it lies in another one.
+    pub fn part_in(self, other: &Rect) -> Option<Self> {
+        let (left, top) = (self.left.max(other.left), self.top.max(other.top));
+        let (right, bottom) = (self.right.min(other.right), self.bottom.min(other.bottom));
+        (left < right && top < bottom).then_some(Self { left, top, right, bottom })
     }
 }
 

@@ -17,9 +17,7 @@ impl Record {
             return Err(Refusal::Panel);
         }
         let mut pending = self.panels[number];
-        if pending.in_hand.is_none() {
-            pending.in_hand = pending.owed.take();
-        }
+        pending.take();
         let Some(rect) = pending.in_hand else { return Ok(IDLE) };
         copy_line(self.screen(memory), panel, &rect);
         pending.lines_sent = pending.lines_sent.saturating_add(1);

@@ -5,12 +5,17 @@ use calls::{Answer, Buffers, Call, Lent};
 
 const OPEN: Call = Call::Open { graphics_base: 4096, text_base: 8192, version: 1, keys: [0; 8], edge: 0 };
 const POINT: Call = Call::DrawPoint { x: 3, y: 2, mode: 1 };
-const WHOLE: [u16; 4] = [0, 0, 160, 80];
+
+/// What is owed, band by band.
+type Owed = [[u16; 4]; BANDS];
+
+const WHOLE: Owed = [[0, 0, 160, 16], [0, 16, 160, 32], [0, 32, 160, 48], [0, 48, 160, 64], [0, 64, 160, 80]];
+const NOTHING: Owed = [[0; 4]; BANDS];
 
 /// What is kept for one panel.
 #[derive(Debug, PartialEq, Eq)]
 struct Kept {
-    owed: [u16; 4],
+    owed: Owed,
     in_hand: [u16; 4],
     sent: u32,
 }
@@ -37,14 +42,21 @@ impl Screen {
     fn kept(&self) -> [Kept; PANELS] {
         let record = &self.0.record;
         [0, 1, 2, 3].map(|panel| Kept {
-            owed: four(record, owed(panel)),
+            owed: [0, 1, 2, 3, 4].map(|band| four(record, owed(panel, band))),
             in_hand: four(record, in_hand(panel)),
             sent: double_word(record, lines_sent(panel)),
         })
     }
 }
 
-fn kept(owed: [u16; 4], in_hand: [u16; 4], sent: u32) -> Kept {
+/// The whole screen from this band on.
+fn from_band(first: usize) -> Owed {
+    let mut owed = WHOLE;
+    owed[..first].fill([0; 4]);
+    owed
+}
+
+fn kept(owed: Owed, in_hand: [u16; 4], sent: u32) -> Kept {
     Kept { owed, in_hand, sent }
 }
 
@@ -62,7 +74,7 @@ fn a_send_touches_the_named_panel_alone() {
         for line in 0..3 {
             assert_eq!(screen.send(number as u8), Answer::done([1, line, 0, 160]));
         }
-        assert_eq!(screen.kept()[number], kept([0; 4], [0, 3, 160, 80], 3));
+        assert_eq!(screen.kept()[number], kept(from_band(1), [0, 3, 160, 16], 3));
         let mut after = before;
         after.record[part(number)].copy_from_slice(&screen.0.record[part(number)]);
         after.panels[number][2 * LINE] = 0x10;
@@ -77,14 +89,17 @@ fn a_mark_goes_to_all_and_leaves_what_is_in_hand() {
         (0..sends).for_each(|_| assert!(screen.send(number).accepted()));
     }
     screen.call(POINT);
-    let point = [3, 2, 4, 3];
+    let point = |mut owed: Owed| {
+        owed[0] = [3, 2, 4, 3];
+        owed
+    };
     assert_eq!(
         screen.kept(),
         [
-            kept(point, [0; 4], 80),
-            kept(point, [0, 1, 160, 80], 1),
+            kept(point(NOTHING), [0; 4], 80),
+            kept(point(WHOLE), [0, 1, 160, 16], 1),
             kept(WHOLE, [0; 4], 0),
-            kept(point, [0, 79, 160, 80], 79)
+            kept(point(NOTHING), [0, 79, 160, 80], 79)
         ]
     );
 }
@@ -101,7 +116,7 @@ fn reset_owes_all_and_keeps_what_is_in_hand_and_sent() {
         [
             kept(WHOLE, [0; 4], 0),
             kept(WHOLE, [0; 4], 80),
-            kept(WHOLE, [0, 5, 160, 80], 5),
+            kept(WHOLE, [0, 5, 160, 16], 5),
             kept(WHOLE, [0; 4], 0)
         ]
     );
@@ -131,14 +146,14 @@ fn refusals_in_their_order() {
     for number in [0, 3, 4, 5, 255] {
         let last = if number > 3 { 9 } else { 0 };
         assert_eq!(send(&mut Screen::opened(), RECORD, PANEL, number), last);
-        for record_len in [0, 170, 190, 210, 229, 230, 232] {
+        for record_len in [0, 202, 231, 254, 306, 357, 358, 360] {
             assert_eq!(send(&mut Screen::opened(), record_len, PANEL, number), 1);
         }
         for panel_len in [0, 1_599, 1_601] {
             assert_eq!(send(&mut Screen::opened(), RECORD, panel_len, number), 1);
         }
         for panel in 0..PANELS {
-            for place in [owed(panel), in_hand(panel)] {
+            for place in [owed(panel, 0), owed(panel, 4), in_hand(panel)] {
                 let mut screen = Screen::opened();
                 screen.0.record[place..][..8].copy_from_slice(&[0, 0, 0, 0, 161, 0, 80, 0]);
                 assert_eq!(send(&mut screen, RECORD, PANEL, number), 2);

@@ -9,6 +9,13 @@ struct Screen(Buffers);
 
 const GRAPHICS: usize = 4096;
 
+const NOTHING: Vec<[u16; 4]> = vec![];
+
+/// The whole screen, band by band.
+fn whole() -> Vec<[u16; 4]> {
+    (0..5).map(|band| [0, 16 * band, 160, 16 * band + 16]).collect()
+}
+
 /// What the script program sends.
 const SEND: Call = Call::Send { number: 0 };
 
@@ -26,7 +33,7 @@ impl Screen {
                 screen.call(Call::Send { number });
             }
         }
-        assert_eq!(screen.owed(), [0; 4]);
+        assert_eq!(screen.owed(), NOTHING);
         screen
     }
 
@@ -38,11 +45,15 @@ impl Screen {
         four(&self.0.record, DIRTY)
     }
 
-    /// What every panel is owed.
-    fn owed(&self) -> [u16; 4] {
-        let owed = [0, 1, 2, 3].map(|panel| four(&self.0.record, owed(panel)));
-        assert_eq!(owed, [owed[0]; PANELS]);
-        owed[0]
+    /// What every panel is owed, those bands that are not empty, each within its lines.
+    fn owed(&self) -> Vec<[u16; 4]> {
+        let record = &self.0.record;
+        let bytes = [0, 1, 2, 3].map(|panel| &record[owed_part(panel)]);
+        assert_eq!(bytes, [bytes[0]; PANELS]);
+        let rects = (0..BANDS).map(|band| (16 * band as u16, four(record, owed(0, band))));
+        let rects: Vec<_> = rects.filter(|(_, rect)| *rect != [0; 4]).collect();
+        assert!(rects.iter().all(|(top, rect)| *top <= rect[1] && rect[3] <= top + 16), "{rects:?}");
+        rects.into_iter().map(|(_, rect)| rect).collect()
     }
 
     /// A line of the first two cells.
@@ -65,7 +76,7 @@ fn points() {
     screen.call(Call::DrawPoint { x: 160, y: 0, mode: 1 });
     assert_eq!(screen.0, before);
     screen.call(Call::DrawPoint { x: 5, y: 5, mode: 3 });
-    assert_eq!((screen.dirty(), screen.owed()), ([5, 5, 6, 6], [5, 5, 6, 6]));
+    assert_eq!((screen.dirty(), screen.owed()), ([5, 5, 6, 6], vec![[5, 5, 6, 6]]));
     assert_eq!(screen.pixels(), []);
 }
 
@@ -74,7 +85,7 @@ fn lines() {
     let mut screen = Screen::new();
     screen.call(Call::DrawLine { x1: 200, y1: 90, x2: 210, y2: 90, mode: 1 });
     assert_eq!(screen.pixels(), [(159, 79)]);
-    assert_eq!((screen.dirty(), screen.owed()), ([200, 90, 211, 91], [159, 79, 160, 80]));
+    assert_eq!((screen.dirty(), screen.owed()), ([200, 90, 211, 91], vec![[159, 79, 160, 80]]));
 
     let mut screen = Screen::new();
     screen.call(Call::DrawLine { x1: 0, y1: 0, x2: 2, y2: 1, mode: 1 });
@@ -88,8 +99,11 @@ fn boxes() {
     assert_eq!(screen.pixels(), (0..8).map(|x| (x, 78)).collect::<Vec<_>>());
 }
 
+/// Pixels, dirty, and what is owed.
+type Drawn = (Vec<(usize, usize)>, [u16; 4], Vec<[u16; 4]>);
+
 /// What a call draws on an empty screen, marks and owes with this edge flag.
-fn drawn(call: Call, edge: u8) -> (Vec<(usize, usize)>, [u16; 4], [u16; 4]) {
+fn drawn(call: Call, edge: u8) -> Drawn {
     let mut screen = Screen::under(edge);
     assert!(screen.call(call).accepted());
     (screen.pixels(), screen.dirty(), screen.owed())
@@ -104,46 +118,46 @@ fn filled(columns: Range<usize>, rows: Range<usize>) -> Vec<(usize, usize)> {
 fn lines_that_stop() {
     let line = |x1, y1, x2| Call::DrawLine { x1, y1, x2, y2: y1, mode: 1 };
     let dirty = [200, 90, 211, 91];
-    assert_eq!(drawn(line(200, 90, 210), 1), (vec![], dirty, [0; 4]));
-    assert_eq!(drawn(line(200, 90, 210), 0), (vec![(159, 79)], dirty, [159, 79, 160, 80]));
-    let ten = filled(150..160, 79..80);
-    assert_eq!(drawn(line(150, 79, 170), 1), (ten.clone(), [150, 79, 171, 80], [150, 79, 160, 80]));
-    assert_eq!(drawn(line(170, 79, 150), 1), (ten, [150, 79, 171, 80], [150, 79, 160, 80]));
-    assert_eq!(drawn(line(3, 80, 9), 1), (vec![], [3, 80, 10, 81], [0; 4]));
-    assert_eq!(drawn(line(160, 5, 170), 1), (vec![], [160, 5, 171, 6], [0; 4]));
+    assert_eq!(drawn(line(200, 90, 210), 1), (vec![], dirty, NOTHING));
+    assert_eq!(drawn(line(200, 90, 210), 0), (vec![(159, 79)], dirty, vec![[159, 79, 160, 80]]));
+    let ten = (filled(150..160, 79..80), [150, 79, 171, 80], vec![[150, 79, 160, 80]]);
+    assert_eq!(drawn(line(150, 79, 170), 1), ten);
+    assert_eq!(drawn(line(170, 79, 150), 1), ten);
+    assert_eq!(drawn(line(3, 80, 9), 1), (vec![], [3, 80, 10, 81], NOTHING));
+    assert_eq!(drawn(line(160, 5, 170), 1), (vec![], [160, 5, 171, 6], NOTHING));
     let unknown = Call::DrawLine { x1: 158, y1: 79, x2: 255, y2: 79, mode: 3 };
-    assert_eq!(drawn(unknown, 1), (vec![(158, 79), (159, 79)], [158, 79, 256, 80], [158, 79, 160, 80]));
+    assert_eq!(drawn(unknown, 1), (vec![(158, 79), (159, 79)], [158, 79, 256, 80], vec![[158, 79, 160, 80]]));
 }
 
 #[test]
 fn boxes_that_stop() {
-    let (dirty, owed) = ([0, 78, 8, 81], [0, 78, 8, 80]);
+    let (dirty, owed) = ([0, 78, 8, 81], vec![[0, 78, 8, 80]]);
     let bar = Call::DrawBox { x1: 0, y1: 78, x2: 7, y2: 80, fill: 1, mode: 2 };
-    assert_eq!(drawn(bar.clone(), 1), (filled(0..8, 78..80), dirty, owed));
+    assert_eq!(drawn(bar.clone(), 1), (filled(0..8, 78..80), dirty, owed.clone()));
     assert_eq!(drawn(bar, 0), (filled(0..8, 78..79), dirty, owed));
     // Its upper horizontal is cut, its left vertical as ever; the others are beyond the glass.
     let outline = Call::DrawBox { x1: 150, y1: 70, x2: 170, y2: 90, fill: 0, mode: 1 };
     let pixels = [filled(150..160, 70..71), filled(150..151, 71..80)].concat();
-    assert_eq!(drawn(outline, 1), (pixels, [150, 70, 171, 91], [150, 70, 160, 80]));
+    assert_eq!(drawn(outline, 1), (pixels, [150, 70, 171, 91], vec![[150, 70, 160, 80]]));
     for fill in [0, 1] {
         let below = Call::DrawBox { x1: 5, y1: 80, x2: 9, y2: 99, fill, mode: 1 };
-        assert_eq!(drawn(below, 1), (vec![], [5, 80, 10, 100], [0; 4]));
+        assert_eq!(drawn(below, 1), (vec![], [5, 80, 10, 100], NOTHING));
     }
 }
 
 #[test]
 fn discs_that_stop() {
     let disc = |x, y, r| Call::DrawCircle { x, y, r, fill: 1, mode: 1 };
-    assert_eq!(drawn(disc(10, 82, 2), 1), (vec![], [8, 80, 160, 85], [0; 4]));
+    assert_eq!(drawn(disc(10, 82, 2), 1), (vec![], [8, 80, 160, 85], NOTHING));
     let clamped = filled(8..13, 79..80);
-    assert_eq!(drawn(disc(10, 82, 2), 0), (clamped.clone(), [8, 80, 160, 85], [8, 79, 160, 80]));
-    assert_eq!(drawn(disc(10, 81, 2), 1), (clamped, [8, 79, 160, 84], [8, 79, 160, 80]));
-    assert_eq!(drawn(disc(170, 40, 5), 1), (vec![], [165, 35, 176, 80], [0; 4]));
+    assert_eq!(drawn(disc(10, 82, 2), 0), (clamped.clone(), [8, 80, 160, 85], vec![[8, 79, 160, 80]]));
+    assert_eq!(drawn(disc(10, 81, 2), 1), (clamped, [8, 79, 160, 84], vec![[8, 79, 160, 80]]));
+    assert_eq!(drawn(disc(170, 40, 5), 1), (vec![], [165, 35, 176, 80], NOTHING));
     // The rule for a left end that wraps, and the mark of a disc that wraps, stay.
-    let whole = [0, 0, 160, 80];
-    assert_eq!(drawn(disc(1, 82, 2), 1), (vec![], whole, whole));
+    let dirty = [0, 0, 160, 80];
+    assert_eq!(drawn(disc(1, 82, 2), 1), (vec![], dirty, whole()));
     let wrapped = drawn(disc(1, 40, 2), 1);
-    assert_eq!((wrapped.0, wrapped.1), (filled(0..4, 38..43), whole));
+    assert_eq!((wrapped.0, wrapped.1), (filled(0..4, 38..43), dirty));
 }
 
 #[test]
@@ -204,7 +218,7 @@ fn empty_gb_rows() {
     }
     assert_ne!(codes.pixels(), listed.pixels());
     for screen in [codes, listed] {
-        assert_eq!((screen.dirty(), screen.owed()), ([0, 0, 160, 80], [0, 0, 160, 80]));
+        assert_eq!((screen.dirty(), screen.owed()), ([0, 0, 160, 80], whole()));
     }
 }
 
@@ -233,5 +247,5 @@ fn scripts() {
     assert_eq!(screen.call(SEND), sent);
     screen.call(point);
     assert_eq!(screen.0.panels[0][0], 0);
-    assert_eq!(four(&screen.0.record, owed(0)), [3, 0, 4, 1]);
+    assert_eq!(four(&screen.0.record, owed(0, 0)), [3, 0, 4, 1]);
 }

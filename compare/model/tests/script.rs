@@ -143,6 +143,26 @@ fn bytes_from_128_on() {
     }
 }
 
+/// Change request 6: L is the lines left in hand and the heights of the five bands.
+#[test]
+fn lines_are_counted_by_band() {
+    let level = "(send)\n".repeat(80);
+    let end = |script: &str| run(script).pop();
+    let two = format!("{level}(point (3 0) or)\n(point (9 79) or)\n");
+    assert_eq!(end(&two), Some("(end 2 2)".into()));
+    assert_eq!(
+        run(format!("{two}(send)\n(send)\n(send)\n"))[82..],
+        ["(sent 0 3 4)", "(sent 79 9 10)", "(idle)", "(end 0 0)"]
+    );
+    let upright = "(line (5 15) (5 32) or)\n";
+    assert_eq!(end(&format!("{level}{upright}")), Some("(end 18 18)".into()));
+    assert_eq!(
+        run(format!("{level}{upright}(send)\n(send)\n"))[81..],
+        ["(sent 15 5 6)", "(sent 16 5 6)", "(end 16 16)"]
+    );
+    assert_eq!(end("(send)\n(line (0 0) (0 79) clear)\n"), Some("(end 0 95)".into()));
+}
+
 #[test]
 fn the_longest_script() {
     let longest = "(send)\n".repeat(586)[..4_096].to_string();

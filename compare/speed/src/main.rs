@@ -2,6 +2,8 @@
 //! a row says so.
 
 mod before;
+mod less;
+mod library;
 mod limits;
 mod measure;
 mod plain;
@@ -9,6 +11,7 @@ mod rows;
 mod side;
 
 use driver::core_side;
+use library::Library;
 use measure::{Measured, PAIRS, SLICE, measure, measure_alone};
 use rows::{Row, rows};
 
@@ -20,7 +23,7 @@ fn main() {
         eprintln!("speed takes no arguments. From compare/: cargo run --release --features core -p speed");
         std::process::exit(2);
     }
-    let core = core_side::linked();
+    let core = core_side::linked().map(Library::today);
     if core.is_none() {
         println!("Built without --features core: the Rust sides alone.");
     }
@@ -34,6 +37,7 @@ fn main() {
     }
     if let (Some(before), Some(now)) = (before::linked(), core) {
         before::report(before, now);
+        less::report(before, now);
     }
     if !over.is_empty() {
         println!("over the limit: {}", over.join("; "));

@@ -26,17 +26,22 @@ impl Measured {
 }
 
 pub fn measure(rust: &mut dyn Side, core: &mut dyn Side) -> Measured {
-    let rust_turns = turns_in_a_slice(rust);
-    let core_turns = turns_in_a_slice(core);
-    let mut pairs = vec![];
-    for pair in 0..PAIRS {
-        // Each side comes first in every second pair.
-        let first = (pair % 2 == 0).then(|| nanoseconds(rust, rust_turns));
-        let by_core = nanoseconds(core, core_turns);
-        let by_rust = first.unwrap_or_else(|| nanoseconds(rust, rust_turns));
-        pairs.push((by_rust, by_core));
-    }
-    medians(&pairs)
+    medians(&in_turn([rust, core]))
+}
+
+/// Nanoseconds of one turn of each of these sides, in slices that come in turn; each side comes first as often
+/// as the others.
+pub fn in_turn<const N: usize>(mut sides: [&mut dyn Side; N]) -> Vec<[f64; N]> {
+    let turns = sides.each_mut().map(|side| turns_in_a_slice(&mut **side));
+    let slices = |round: usize| {
+        let mut times = [0.0; N];
+        for k in 0..N {
+            let place = (round + k) % N;
+            times[place] = nanoseconds(&mut *sides[place], turns[place]);
+        }
+        times
+    };
+    (0..PAIRS).map(slices).collect()
 }
 
 /// The median of one side alone.
@@ -58,15 +63,15 @@ fn nanoseconds(side: &mut dyn Side, turns: u64) -> f64 {
     start.elapsed().as_nanos() as f64 / turns as f64
 }
 
-fn medians(pairs: &[(f64, f64)]) -> Measured {
+fn medians(pairs: &[[f64; 2]]) -> Measured {
     Measured {
-        rust: median(pairs.iter().map(|(rust, _)| *rust)),
-        core: median(pairs.iter().map(|(_, core)| *core)),
-        ratio: median(pairs.iter().map(|(rust, core)| core / rust)),
+        rust: median(pairs.iter().map(|[rust, _]| *rust)),
+        core: median(pairs.iter().map(|[_, core]| *core)),
+        ratio: median(pairs.iter().map(|[rust, core]| core / rust)),
     }
 }
 
-fn median(values: impl Iterator<Item = f64>) -> f64 {
+pub fn median(values: impl Iterator<Item = f64>) -> f64 {
     let mut values: Vec<f64> = values.collect();
     values.sort_by(f64::total_cmp);
     values[values.len() / 2]
@@ -79,15 +84,15 @@ mod tests {
     #[test]
     fn disturbed_slices_do_not_count() {
         let disturbed = |place: usize| if place % 5 == 0 { 40.0 } else { 1.0 };
-        let pairs: Vec<(f64, f64)> =
-            (0..PAIRS).map(|place| (10.0 * disturbed(place + 2), 12.0 * disturbed(place))).collect();
+        let pairs: Vec<[f64; 2]> =
+            (0..PAIRS).map(|place| [10.0 * disturbed(place + 2), 12.0 * disturbed(place)]).collect();
         assert_eq!(medians(&pairs), Measured { rust: 10.0, core: 12.0, ratio: 1.2 });
     }
 
     #[test]
     fn a_machine_that_slows_down_does_not_count() {
-        let pairs: Vec<(f64, f64)> =
-            (1..=PAIRS).map(|place| (10.0 * place as f64, 15.0 * place as f64)).collect();
+        let pairs: Vec<[f64; 2]> =
+            (1..=PAIRS).map(|place| [10.0 * place as f64, 15.0 * place as f64]).collect();
         assert_eq!(medians(&pairs).ratio, 1.5);
     }
 }

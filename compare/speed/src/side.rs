@@ -5,6 +5,7 @@ use calls::layout::PANELS;
 use reference::Reference;
 use std::cell::RefCell;
 use std::hint::black_box;
+use std::mem::swap;
 use std::rc::Rc;
 
 pub trait Side {
@@ -33,9 +34,11 @@ impl<Work: FnMut(&mut Buffers)> Side for OnBytes<Work> {
     }
 }
 
-/// The core on a host's bytes, which two of its libraries can share: where bytes lie changes the time that
-/// they take.
+/// The core on a host's bytes. Two of its libraries can share memory and panels, as where bytes lie changes
+/// the time that they take; each has a record of its own.
 pub struct ByCore {
+    record: Rc<RefCell<Vec<u8>>>,
+    /// Their record is the one above while work is done, and empty else.
     buffers: Rc<RefCell<Buffers>>,
     work: Box<Turns>,
 }
@@ -44,28 +47,41 @@ pub struct ByCore {
 type Turns = dyn Fn(&mut Buffers, u64);
 
 impl ByCore {
-    pub fn new(buffers: Buffers, work: impl Fn(&mut Buffers) + 'static) -> Self {
-        let work = move |buffers: &mut Buffers, turns: u64| {
-            for _ in 0..turns {
-                work(black_box(&mut *buffers));
-            }
-        };
-        Self { buffers: Rc::new(RefCell::new(buffers)), work: Box::new(work) }
+    pub fn new(mut buffers: Buffers, work: impl Fn(&mut Buffers) + 'static) -> Self {
+        let record = std::mem::take(&mut buffers.record);
+        let (record, buffers) = (Rc::new(RefCell::new(record)), Rc::new(RefCell::new(buffers)));
+        Self { record, buffers, work: again_and_again(work) }
     }
 
-    /// Work on the bytes of another side from now on.
+    /// Other work on the same bytes.
+    pub fn beside(&self, work: impl Fn(&mut Buffers) + 'static) -> Self {
+        Self { record: self.record.clone(), buffers: self.buffers.clone(), work: again_and_again(work) }
+    }
+
+    /// Work on memory and panels of another side from now on.
     pub fn share(&mut self, other: &ByCore) {
         self.buffers = other.buffers.clone();
     }
 }
 
+fn again_and_again(work: impl Fn(&mut Buffers) + 'static) -> Box<Turns> {
+    Box::new(move |buffers, turns| {
+        for _ in 0..turns {
+            work(black_box(&mut *buffers));
+        }
+    })
+}
+
 impl Side for ByCore {
     fn run(&mut self, turns: u64) {
-        (self.work)(&mut self.buffers.borrow_mut(), turns);
+        let (mut record, mut buffers) = (self.record.borrow_mut(), self.buffers.borrow_mut());
+        swap(&mut *record, &mut buffers.record);
+        (self.work)(&mut buffers, turns);
+        swap(&mut *record, &mut buffers.record);
     }
 
     fn left(&self) -> Buffers {
-        self.buffers.borrow().clone()
+        Buffers { record: self.record.borrow().clone(), ..self.buffers.borrow().clone() }
     }
 }
 

@@ -1,21 +1,23 @@
 //! What is measured is the same work on both sides, here with the model in the place of the core.
 
-use crate::before::{Pair, pairs};
+use crate::before::{Work, pairs};
+use crate::library::{Layout, Library};
 use crate::plain;
 use crate::rows::{Row, rows};
 use crate::side::Side;
-use calls::layout::{EDGE, PANELS};
+use calls::layout::*;
 use calls::{Answer, Buffers, Call, Lent};
-use driver::core_side::Answering;
 use driver::random::Random;
 
 fn model(call: &Call, lent: Lent) -> Option<Answer> {
     Some(model::answer(call, lent))
 }
 
+const MODEL: Library = Library { answering: model, layout: Layout::TODAY };
+
 #[test]
 fn both_sides_leave_the_same() {
-    for mut row in rows(Some(model)) {
+    for mut row in rows(Some(MODEL)) {
         let mut core = row.core.expect("the model's side");
         for turns in [1, 1, 2, 3] {
             row.rust.run(turns);
@@ -35,7 +37,7 @@ fn without_a_painter_by_bytes_nothing_of_it_is_measured() {
     let by_bytes = |row: &Row| row.name.starts_with("bitmap by bytes");
     let of_core = |row: &Row| row.name.contains("core's");
     let [with, without]: [Vec<Row>; 2] =
-        [model, without].map(|core| rows(Some(core)).into_iter().filter(by_bytes).collect());
+        [model, without].map(|core| rows(Some(Library::today(core))).into_iter().filter(by_bytes).collect());
     assert_eq!(with.iter().filter(|row| of_core(row)).count(), 3);
     assert!(with.iter().all(|row| row.core.is_some()));
     assert!(!without.is_empty() && !without.iter().any(|row| of_core(row) || row.core.is_some()));
@@ -44,7 +46,7 @@ fn without_a_painter_by_bytes_nothing_of_it_is_measured() {
 #[test]
 fn drawings_that_stop_are_measured_against_such_as_are_clamped() {
     let stopping = |row: &Row| row.name.ends_with("edge flag 1, core's flag 0");
-    let with: Vec<Row> = rows(Some(model)).into_iter().filter(stopping).collect();
+    let with: Vec<Row> = rows(Some(MODEL)).into_iter().filter(stopping).collect();
     assert_eq!(with.len(), 5);
     for row in with {
         let core = row.core.expect("the model's side");
@@ -53,56 +55,122 @@ fn drawings_that_stop_are_measured_against_such_as_are_clamped() {
     assert!(!rows(None).iter().any(stopping));
 }
 
-/// What each library before has in common with the model, by the rows' names: measured ones, and such as
-/// are not the same work.
-fn compared_with_model(before: Answering) -> [Vec<String>; 2] {
-    let (same, others): (Vec<Pair>, Vec<Pair>) = pairs(before, model).into_iter().partition(|pair| pair.same);
-    [same, others].map(|pairs| pairs.into_iter().map(|pair| pair.name).collect())
+/// What each library before has in common with the model, by the rows' names.
+fn compared_with_model(before: Library) -> Vec<(String, Work)> {
+    pairs(before, MODEL).into_iter().map(|pair| (pair.name, pair.work)).collect()
+}
+
+fn such(rows: &[(String, Work)], such: Work) -> Vec<&str> {
+    rows.iter().filter(|(_, work)| *work == such).map(|(name, _)| name.as_str()).collect()
 }
 
 #[test]
 fn a_library_before_that_does_the_same() {
-    let all: Vec<String> = rows(Some(model)).into_iter().map(|row| row.name).collect();
-    assert_eq!(compared_with_model(model), [all, vec![]]);
+    let all: Vec<String> = rows(Some(MODEL)).into_iter().map(|row| row.name).collect();
+    assert_eq!(such(&compared_with_model(MODEL), Work::Same), all);
 }
 
 #[test]
 fn rows_whose_call_the_library_before_lacks_are_left_out() {
-    let [same, others] = compared_with_model(|call, lent| {
+    let compared = compared_with_model(Library::today(|call, lent| {
         let lacks = matches!(call, Call::Newline | Call::PaintBitmapByBytes { .. });
         if lacks { None } else { model(call, lent) }
-    });
-    let without =
-        |name: &&String| !["newline", "cue", "bitmap by bytes"].iter().any(|of| name.starts_with(of));
-    let all: Vec<String> = rows(Some(model)).into_iter().map(|row| row.name).collect();
-    assert_eq!((same.iter().collect(), others.len()), (all.iter().filter(without).collect::<Vec<_>>(), 0));
+    }));
+    let lacking = ["newline", "cue", "cursor and clock", "bitmap by bytes"];
+    let without = |name: &String| !lacking.iter().any(|of| name.starts_with(of));
+    let all = rows(Some(MODEL)).into_iter().map(|row| row.name);
+    let due: Vec<(String, Work)> = all.filter(without).map(|name| (name, Work::Same)).collect();
+    assert_eq!(compared, due);
 }
 
 #[test]
 fn other_bytes_or_answers_of_the_library_before_are_seen() {
-    let [_, other_bytes] = compared_with_model(|call, lent| match *call {
+    let other_bytes = compared_with_model(Library::today(|call, lent| match *call {
         Call::WriteByte { address, byte } => model(&Call::WriteByte { address, byte: byte ^ 1 }, lent),
         _ => model(call, lent),
-    });
-    assert!(
-        other_bytes.len() == 3 && other_bytes.iter().all(|name| name.contains("poke")),
-        "{other_bytes:?}"
-    );
-    let [_, other_answers] = compared_with_model(|call, lent| {
+    }));
+    let others = such(&other_bytes, Work::Other);
+    assert!(others.len() == 3 && others.iter().all(|name| name.contains("poke")), "{others:?}");
+    let other_answers = compared_with_model(Library::today(|call, lent| {
         let answer = model(call, lent);
         if *call == Call::Cls { answer.map(|_| Answer { code: 1, numbers: [0; 4] }) } else { answer }
-    });
-    assert_eq!(other_answers.len(), 3, "{other_answers:?}");
+    }));
+    assert_eq!(such(&other_answers, Work::Other).len(), 3, "{other_answers:?}");
+    let other_count = compared_with_model(Library::today(|call, lent| {
+        let Lent { record, memory, panel } = lent;
+        let answer = model(call, Lent { record: &mut *record, memory, panel });
+        if *call == (Call::Send { number: 0 }) {
+            record[lines_sent(2)] = record[lines_sent(2)].wrapping_add(1);
+        }
+        answer
+    }));
+    assert_eq!(such(&other_count, Work::Other).len(), 10, "{other_count:?}");
 }
 
-/// That of CAPTION_BEFORE: the entry, a drawing and a send are the same work as today's.
+/// Where the parts of the panels start in a record with one band.
+const PARTS: [usize; PANELS] = [18, 170, 190, 210];
+
+/// Today's record for one with one band.
+fn banded(one: &[u8]) -> Vec<u8> {
+    let mut today = vec![0; RECORD];
+    today[..18].copy_from_slice(&one[..18]);
+    today[KEYS..FLAGS_END].copy_from_slice(&one[38..170]);
+    today[EDGE] = one[230];
+    for (panel, start) in PARTS.into_iter().enumerate() {
+        let [left, top, right, bottom] = four(one, start);
+        for (band, first) in (0..BANDS).zip([0, 16, 32, 48, 64]) {
+            let (top, bottom) = (top.max(first), bottom.min(first + 16));
+            if top < bottom {
+                plain::store_rect(&mut today, owed(panel, band), [left, top, right, bottom]);
+            }
+        }
+        today[in_hand(panel)..part(panel).end].copy_from_slice(&one[start + 8..start + 20]);
+    }
+    today
+}
+
+/// The model as it was with one band: a send with nothing in hand takes all that is owed.
+fn with_one_band(call: &Call, lent: Lent) -> Option<Answer> {
+    let Lent { record, memory, panel } = lent;
+    if let Call::Send { number } = *call {
+        let start = PARTS[number as usize];
+        if record[start + 8..start + 16] == [0; 8] {
+            record.copy_within(start..start + 8, start + 8);
+            record[start..start + 8].fill(0);
+        }
+    }
+    let mut today = banded(record);
+    let answer = model::answer(call, Lent { record: &mut today, memory, panel });
+    record.copy_from_slice(&Layout { bands: 1 }.record(&today));
+    Some(answer)
+}
+
+#[test]
+fn a_library_before_with_one_band() {
+    let before = Library { answering: with_one_band, layout: Layout { bands: 1 } };
+    for (name, work) in compared_with_model(before) {
+        let due = match name.as_str() {
+            "cursor and clock, plain Rust copies" => Work::OtherSends { before: 80, now: 32 },
+            _ => Work::Same,
+        };
+        assert_eq!(work, due, "{name}");
+    }
+}
+
+/// That of CAPTION_BEFORE: the entry, a drawing and a send are the same work as today's. With one band it sends
+/// all lines from the cursor to the clock.
 #[cfg(feature = "before")]
 #[test]
 fn the_linked_library_before_does_the_same() {
     let before = crate::before::linked().expect("the library before");
-    let [same, _] = compared_with_model(before);
+    let compared = compared_with_model(before);
+    let same = such(&compared, Work::Same);
     for name in ["set_row, plain", "point", "line, horizontal", "send, a line"] {
-        assert!(same.iter().any(|row| row.starts_with(name)), "{name}: {same:?}");
+        assert!(same.iter().any(|row| row.starts_with(name)), "{name}: {compared:?}");
+    }
+    if before.layout.bands == 1 {
+        let others = such(&compared, Work::OtherSends { before: 80, now: 32 });
+        assert_eq!(others, ["cursor and clock, plain Rust copies"]);
     }
 }
 

@@ -1,5 +1,6 @@
 //! Lists that go through whole ranges.
 
+mod bands;
 mod bitmaps;
 mod drawing;
 mod edges;
@@ -8,6 +9,7 @@ mod pokes;
 mod records;
 mod text;
 
+pub use bands::lists as bands;
 pub use bitmaps::paintings;
 pub use edges::lists as edges;
 
@@ -21,6 +23,7 @@ pub fn lists() -> impl Iterator<Item = List> {
     let others = text::lists().chain(records::lists()).chain(numbers::lists()).chain(pokes::all_addresses());
     in_turn(pokes::screen_bytes().chain(bitmaps::lists()))
         .chain(edges::lists())
+        .chain(bands::lists())
         .chain(drawing::lists())
         .chain(in_turn(others))
 }

@@ -4,6 +4,7 @@ use super::{bytes, from_record, open, pairs, record};
 use crate::list::{Lending, List, Other, Step};
 use calls::layout::*;
 use calls::{Call, FontsLent, Painting};
+use std::ops::Range;
 
 pub fn lists() -> impl Iterator<Item = List> {
     let valid = full_record();
@@ -12,7 +13,8 @@ pub fn lists() -> impl Iterator<Item = List> {
         .chain(from_record(valid.clone(), lengths()))
         .chain(from_record(valid.clone(), rects()))
         .chain(from_record(valid.clone(), bases()))
-        .chain(from_record(valid, hands()))
+        .chain(from_record(valid.clone(), hands()))
+        .chain(from_record(valid, taken()))
 }
 
 /// A rectangle in each place, another one in each, so that one changed byte can break it.
@@ -21,11 +23,20 @@ fn full_record() -> Vec<u8> {
     put_rect(&mut valid, DIRTY, [1, 2, 200, 100]);
     for panel in 0..PANELS {
         let by = panel as u16;
-        put_rect(&mut valid, owed(panel), [3 + by, 4 + by, 150 + by, 70 + by]);
+        for band in 0..BANDS {
+            let (top, right) = (lines_of(band).start, 150 + by - band as u16);
+            put_rect(&mut valid, owed(panel, band), [3 + by, top + 2 + by, right, top + 10 + by]);
+        }
         put_rect(&mut valid, in_hand(panel), [5 + by, 6 + by, 155 - by, 75 - by]);
         valid[lines_sent(panel)] = 9 + panel as u8;
     }
     valid
+}
+
+/// The lines of a band.
+fn lines_of(band: usize) -> Range<u16> {
+    let first = (band * BAND) as u16;
+    first..first + BAND as u16
 }
 
 fn put_rect(record: &mut [u8], place: usize, rect: [u16; 4]) {
@@ -119,20 +130,41 @@ fn lengths() -> impl Iterator<Item = Step> {
     lents.chain(panels)
 }
 
-/// Rectangles with every side at its edges.
+/// Rectangles with every side at its edges, those of what is owed at the edges of their band too.
 fn rects() -> impl Iterator<Item = Step> {
     let edges = [0, 1, 79, 80, 81, 160, 161, 256, 257];
-    let corners = pairs(&edges, &edges);
-    rect_places().into_iter().flat_map(move |place| {
-        pairs(&corners, &corners).into_iter().map(move |((left, top), (right, bottom))| {
-            changed(&Call::GetRow, rect_bytes(place, [left, top, right, bottom]))
-        })
+    let places = [DIRTY].into_iter().chain((0..PANELS).map(in_hand));
+    let unbanded = places.flat_map(move |place| with_sides(place, &edges, &edges));
+    unbanded.chain(panels_and_bands().into_iter().flat_map(|(panel, band)| {
+        let Range { start: top, end: bottom } = lines_of(band);
+        let inside = [top, top + 1, bottom - 1, bottom];
+        let outside = [0, top.wrapping_sub(1), bottom + 1, 80, 81, 256];
+        with_sides(owed(panel, band), &[0, 1, 159, 160, 161, 256], &[&inside[..], &outside].concat())
+    }))
+}
+
+/// The rectangle at this place with each of these sides, across and down.
+fn with_sides(place: usize, across: &[u16], down: &[u16]) -> impl Iterator<Item = Step> + use<> {
+    let corners = pairs(across, down);
+    pairs(&corners, &corners).into_iter().map(move |((left, top), (right, bottom))| {
+        changed(&Call::GetRow, rect_bytes(place, [left, top, right, bottom]))
     })
 }
 
-fn rect_places() -> Vec<usize> {
-    let pending = (0..PANELS).flat_map(|panel| [owed(panel), in_hand(panel)]);
-    [DIRTY].into_iter().chain(pending).collect()
+fn panels_and_bands() -> Vec<(usize, usize)> {
+    (0..PANELS).flat_map(|panel| (0..BANDS).map(move |band| (panel, band))).collect()
+}
+
+/// A send to each panel with any of the bands empty, with something in hand and with nothing.
+fn taken() -> impl Iterator<Item = Step> {
+    pairs(&[0, 1, 2, 3], &[[0; 4], [9, 40, 70, 41]]).into_iter().flat_map(|(panel, hand)| {
+        (0..1 << BANDS).map(move |empty: u32| {
+            let emptied = (0..BANDS).filter(|band| empty >> band & 1 == 1);
+            let mut record_bytes = rect_bytes(in_hand(panel), hand);
+            record_bytes.extend(emptied.flat_map(|band| rect_bytes(owed(panel, band), [0; 4])));
+            changed(&Call::Send { number: panel as u8 }, record_bytes)
+        })
+    })
 }
 
 /// Bases at the ends of memory and windows that just touch or just share a byte, in the record

@@ -57,6 +57,15 @@ impl Area {
         Self { across: self.across.around(other.across), down: self.down.around(other.down) }
     }
 
+    /// Its lines, top to bottom, each by itself.
+    pub fn lines(self) -> impl Iterator<Item = Self> {
+        (self.down.first..=self.down.last).map(move |y| Self { down: span(y, y), ..self })
+    }
+
+    pub fn height(self) -> u32 {
+        self.down.last + 1 - self.down.first
+    }
+
     /// Without its first line; `None` if that was the last.
     pub fn below_first_line(self) -> Option<Self> {
         let below = self.down.first + 1;

@@ -8,8 +8,8 @@ use crate::tally::Tally;
 use calls::layout::*;
 use calls::{Answer, Call};
 
-/// The most lines that can be owing to a panel.
-const MOST_LINES: u32 = 159;
+/// The most lines that can be owing to a panel: all but one of a band in hand, and all bands owed.
+const MOST_LINES: u32 = 95;
 
 /// A refused call comes before one in so many sends.
 const REFUSED: usize = 48;
@@ -19,10 +19,10 @@ const OTHER_EDGE: Call =
     Call::Open { graphics_base: 4096, text_base: 8192, version: 1, keys: [0; 8], edge: 2 };
 
 impl Judge {
-    /// For each panel of the unit: L is at most 159 and every differing pixel lies in owed or in hand.
-    /// Then all are polled, each at its own pace, with refused calls between: the first send that names
-    /// a panel is idle exactly when its L is 0, each lowers the L of its panel by one and leaves the
-    /// others', and after L of them no pixel of the panel differs.
+    /// For each panel of the unit: L is at most 95 and every differing pixel lies in what is owed of its own
+    /// band, or in hand. Then all are polled, each at its own pace, with refused calls between: the first
+    /// send that names a panel is idle exactly when its L is 0, each lowers the L of its panel by one and
+    /// leaves the others', and after L of them no pixel of the panel differs.
     pub(super) fn demand3(&mut self, list: &List, tally: &mut Tally) -> Judged<()> {
         let left = self.lines();
         for (panel, lines) in left.into_iter().enumerate() {
@@ -37,28 +37,28 @@ impl Judge {
 
     /// The lines in hand and owed of each panel.
     fn lines(&self) -> [u32; PANELS] {
-        let height = |area: Area| area.down.last + 1 - area.down.first;
-        [0, 1, 2, 3].map(|panel| self.places(panel).into_iter().flatten().map(height).sum())
+        [0, 1, 2, 3].map(|panel| {
+            let places = (0..BANDS).map(|band| owed(panel, band)).chain([in_hand(panel)]);
+            places.filter_map(|place| self.area(place)).map(Area::height).sum()
+        })
     }
 
-    /// In hand and owed.
-    fn places(&self, panel: usize) -> [Option<Area>; 2] {
-        [in_hand(panel), owed(panel)].map(|place| Area::at(&self.own.model.record, place))
+    /// The rectangle that starts at this place of the record.
+    fn area(&self, place: usize) -> Option<Area> {
+        Area::at(&self.own.model.record, place)
     }
 
-    /// Every differing pixel lies in the rectangle in hand or in the one owed.
+    /// Every differing pixel lies in the rectangle in hand or in the one owed of its own band; those of other
+    /// bands don't count.
     fn check_places(&self, panel: usize) -> Judged<()> {
-        let places: Vec<Area> = self.places(panel).into_iter().flatten().collect();
         for y in 0..HEIGHT {
-            let here = places.iter().filter(|area| (area.down.first..=area.down.last).contains(&(y as u32)));
-            let covered = here.fold([0; LINE], |line, area| {
-                let bits = area.across.bits();
-                std::array::from_fn(|byte| line[byte] | bits[byte])
-            });
+            let places = [in_hand(panel), owed(panel, y / BAND)].map(|place| self.area(place));
+            let covered = covered(&places, y as u32);
             for (byte, covered) in covered.into_iter().enumerate() {
                 if self.differing(panel, y * LINE + byte) & !covered != 0 {
+                    let band = y / BAND;
                     return Err(Difference::new(format!(
-                        "a pixel of panel {panel} in byte {byte} of line {y} differs and is not owed: {places:?}"
+                        "a pixel of panel {panel} in byte {byte} of line {y} differs, and lies neither in hand nor in what is owed of band {band}: {places:?}"
                     )));
                 }
             }
@@ -149,5 +149,72 @@ impl Judge {
     /// The differing pixels of a byte, as its bits.
     fn differing(&self, panel: usize, place: usize) -> u8 {
         self.screen()[place] ^ self.own.model.panels[panel][place]
+    }
+}
+
+/// The pixels of a line that lie in one of these areas, as its bits.
+fn covered(places: &[Option<Area>], y: u32) -> [u8; LINE] {
+    let here = places.iter().flatten().filter(|area| (area.down.first..=area.down.last).contains(&y));
+    here.fold([0; LINE], |line, area| {
+        let bits = area.across.bits();
+        std::array::from_fn(|byte| line[byte] | bits[byte])
+    })
+}
+
+#[cfg(test)]
+mod tests {
+    use super::*;
+
+    /// A judge that stands after an open, with panel 3 level but for the pixel (9, 40) and nothing owed to it.
+    fn judge() -> Judge {
+        let mut judge = Judge::new(None, false);
+        let open = Call::Open { graphics_base: 4096, text_base: 8192, version: 1, keys: [0; 8], edge: 0 };
+        model::answer(&open, judge.own.model.lend(&open));
+        judge.own.model.record[owed_part(3)].fill(0);
+        judge.own.model.panels[3][40 * LINE + 1] = 0x40;
+        judge
+    }
+
+    fn put(judge: &mut Judge, place: usize, rect: [u16; 4]) {
+        judge.own.model.record[place..place + RECT].copy_from_slice(&rect.map(u16::to_le_bytes).concat());
+    }
+
+    #[test]
+    fn a_differing_pixel_lies_in_its_own_bands_rectangle_or_in_hand() {
+        for rect in [[9, 40, 10, 41], [0, 32, 160, 48]] {
+            let mut judge = judge();
+            put(&mut judge, owed(3, 2), rect);
+            assert!(judge.check_places(3).is_ok());
+        }
+        let mut judge = judge();
+        put(&mut judge, in_hand(3), [9, 20, 10, 60]);
+        assert!(judge.check_places(3).is_ok());
+    }
+
+    #[test]
+    fn other_rectangles_do_not_count() {
+        assert!(judge().check_places(3).is_err());
+        let beside = [[8, 40, 9, 41], [10, 40, 160, 41], [0, 32, 160, 40], [0, 41, 160, 48]];
+        for (place, rect) in beside.into_iter().flat_map(|rect| [(owed(3, 2), rect), (in_hand(3), rect)]) {
+            let mut judge = judge();
+            put(&mut judge, place, rect);
+            assert!(judge.check_places(3).is_err(), "{place} {rect:?}");
+        }
+        // Those of other bands, whatever lines they claim, and of other panels.
+        for place in [owed(3, 0), owed(3, 1), owed(3, 3), owed(3, 4), owed(2, 2), in_hand(2)] {
+            let mut judge = judge();
+            put(&mut judge, place, [0, 0, 160, 80]);
+            assert!(judge.check_places(3).is_err(), "{place}");
+        }
+    }
+
+    #[test]
+    fn lines_in_hand_and_of_all_bands_count() {
+        let mut judge = judge();
+        assert_eq!(judge.lines(), [80, 80, 80, 0]);
+        put(&mut judge, in_hand(3), [0, 1, 160, 16]);
+        put(&mut judge, owed(3, 0), [3, 2, 4, 3]);
+        put(&mut judge, owed(3, 4), [3, 64, 4, 80]);
+        assert_eq!(judge.lines(), [80, 80, 80, 15 + 1 + 16]);
     }
 }

@@ -4,11 +4,13 @@ mod area;
 mod demand3;
 mod difference;
 mod edge;
+mod panel;
 pub mod panics;
 mod reckon;
 mod sends;
 
 pub use difference::Difference;
+pub use reckon::Reckoner;
 
 use crate::core_side::Answering;
 use crate::list::{Lending, List, Other, Step};
@@ -16,7 +18,6 @@ use crate::tally::Tally;
 use calls::layout::*;
 use calls::{Answer, Buffers, Call, Lent, Refusal};
 use difference::{compare_answers, compare_buffers, compare_bytes, compare_panels, compare_records};
-use reckon::Reckoner;
 use reference::{Reference, Told};
 
 /// Memory is compared whole after this many calls, and at the end of a list; between that the
@@ -119,9 +120,8 @@ impl Judge {
 
     fn empty_marks(&mut self) {
         for side in [&mut self.own.model, &mut self.own.core] {
-            for place in [DIRTY].into_iter().chain((0..PANELS).map(owed)) {
-                side.record[place..place + 8].fill(0);
-            }
+            side.record[DIRTY..DIRTY + RECT].fill(0);
+            (0..PANELS).for_each(|panel| side.record[owed_part(panel)].fill(0));
         }
         self.reference.set_dirty([0; 4]);
         self.reckoner.empty_owed();

@@ -1,23 +1,17 @@
 //! Owed, in hand and lines sent of each panel, reckoned from the list of accepted calls alone, never
 //! read from a record, and the edge flag with them: a second reading of document 01's sections "Marks" and
-//! "Sends" and of the change requests 1 and 5, apart from the model.
+//! "Sends" and of the change requests 1, 5 and 6, apart from the model.
 
 use super::Difference;
 use super::area::{Area, LAST_X, LAST_Y, Span, byte_span, span};
+use super::panel::{Panel, by_band};
 use calls::Call;
 use calls::layout::*;
 
-/// What is kept for one panel.
-#[derive(Debug, Default, Clone, Copy, PartialEq, Eq)]
-struct Panel {
-    owed: Option<Area>,
-    in_hand: Option<Area>,
-    sent: u32,
-}
-
-#[derive(Debug, Default)]
-pub struct Reckoner {
-    panels: [Panel; PANELS],
+/// With one band for the whole screen it reckons as before change request 6.
+#[derive(Debug)]
+pub struct Reckoner<const N: usize = BANDS> {
+    panels: [Panel<N>; PANELS],
     edge: u8,
 }
 
@@ -25,46 +19,16 @@ const UNKNOWN: u8 = 3;
 const GRAPH: u8 = 1;
 const CLAMP: u8 = 0;
 
-impl Panel {
-    /// That of a valid record.
-    fn of_record(record: &[u8], panel: usize) -> Self {
-        Self {
-            owed: Area::at(record, owed(panel)),
-            in_hand: Area::at(record, in_hand(panel)),
-            sent: double_word(record, lines_sent(panel)),
-        }
-    }
-
-    /// Its part of the record.
-    fn bytes(&self) -> [u8; PART] {
-        let mut bytes = [0; PART];
-        Area::write(self.owed, &mut bytes[..8]);
-        Area::write(self.in_hand, &mut bytes[8..16]);
-        bytes[16..].copy_from_slice(&self.sent.to_le_bytes());
-        bytes
-    }
-
-    fn send(&mut self) {
-        if self.in_hand.is_none() {
-            self.in_hand = self.owed.take();
-        }
-        if let Some(area) = self.in_hand {
-            self.in_hand = area.below_first_line();
-            self.sent = self.sent.saturating_add(1);
-        }
+impl<const N: usize> Default for Reckoner<N> {
+    fn default() -> Self {
+        Self { panels: [Panel::default(); PANELS], edge: CLAMP }
     }
 }
 
-impl Reckoner {
+impl Reckoner<BANDS> {
     /// For a list that starts from a valid record: what that says.
     pub fn of_record(record: &[u8]) -> Self {
         Self { panels: [0, 1, 2, 3].map(|panel| Panel::of_record(record, panel)), edge: record[EDGE] }
-    }
-
-    pub fn empty_owed(&mut self) {
-        for panel in &mut self.panels {
-            panel.owed = None;
-        }
     }
 
     pub fn compare(&self, record: &[u8]) -> Result<(), Difference> {
@@ -82,12 +46,19 @@ impl Reckoner {
         }
         Ok(())
     }
+}
+
+impl<const N: usize> Reckoner<N> {
+    pub fn empty_owed(&mut self) {
+        for panel in &mut self.panels {
+            panel.empty_owed();
+        }
+    }
 
     /// What the next send to the panel is due to answer: line, first and last pixel; `None` for idle.
     pub fn next_line(&self, panel: usize) -> Option<[u32; 3]> {
-        let panel = self.panels[panel];
-        let area = panel.in_hand.or(panel.owed)?;
-        Some([area.down.first, area.across.first, area.across.last])
+        let Area { across, down } = self.panels[panel].next()?;
+        Some([down.first, across.first, across.last])
     }
 
     /// An accepted call, made with the record as it stood `before`; memory as it stands after.
@@ -145,9 +116,8 @@ impl Reckoner {
 
     /// A mark goes to every panel.
     fn mark(&mut self, area: Area) {
-        for panel in &mut self.panels {
-            panel.owed = Some(panel.owed.map_or(area, |owed| owed.around(area)));
-        }
+        let parts = by_band(area);
+        self.panels.iter_mut().for_each(|panel| panel.owe(&parts));
     }
 
     fn add(&mut self, across: Span, down: Span) {

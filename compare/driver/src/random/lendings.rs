@@ -21,10 +21,14 @@ impl Random {
         other
     }
 
-    /// Also a record that ends before the part of a panel: 170 bytes hold panel 0's alone. One byte too few
-    /// lacks the edge flag.
+    /// Also a record that ends before the part of a panel: 202 bytes hold panel 0's alone. One byte too few
+    /// lacks the edge flag; 231 bytes are a record with one band.
     fn record_length(&mut self) -> usize {
-        if self.one_in(3) { part(self.below(PANELS)).start } else { self.length(RECORD, 70) }
+        match self.below(6) {
+            0 => 231,
+            1..3 => part(self.below(PANELS)).start,
+            _ => self.length(RECORD, 70),
+        }
     }
 
     fn length(&mut self, right: usize, around: usize) -> usize {
@@ -50,23 +54,32 @@ impl Random {
         }
     }
 
-    /// Sides at and just past their limits, in any order.
+    /// Sides at and just past their limits, in any order; or all around the edges of a band.
     fn change_rect(&mut self, bytes: &mut Vec<(usize, u8)>) {
-        let panel = self.below(PANELS);
-        let place = self.pick(&[DIRTY, owed(panel), owed(panel), in_hand(panel), in_hand(panel)]);
-        let sides: [u16; 4] = match self.below(4) {
+        let (panel, band) = (self.below(PANELS), self.below(BANDS));
+        let owed = owed(panel, band);
+        let place = self.pick(&[DIRTY, owed, owed, owed, in_hand(panel)]);
+        let sides: [u16; 4] = match self.below(6) {
             0 => std::array::from_fn(|_| self.pick(&[0, 1, 79, 80, 81, 159, 160, 161, 255, 256, 257])),
             1 => {
                 let (x, y) = (self.below(257) as u16, self.below(257) as u16);
                 [x, y, x + self.below(2) as u16, y + self.below(2) as u16]
             }
             2 => [0, 0, self.pick(&[0, 1, 160, 161, 256, 257]), self.pick(&[0, 1, 80, 81, 256, 257])],
-            _ => std::array::from_fn(|_| self.number() as u16),
+            3 => std::array::from_fn(|_| self.number() as u16),
+            _ => self.around_band(band),
         };
         for (k, side) in sides.into_iter().enumerate() {
             let [low, high] = side.to_le_bytes();
             bytes.push((place + 2 * k, low));
             bytes.push((place + 2 * k + 1, high));
         }
+    }
+
+    /// A rectangle that fills its lines, or reaches a line too far or too little.
+    fn around_band(&mut self, band: usize) -> [u16; 4] {
+        let [top, bottom] = [band, band + 1].map(|edge| (edge * BAND) as u16);
+        let mut beside = |line: u16| line.wrapping_add(self.pick(&[0, 0, 1, u16::MAX]));
+        [0, beside(top), 160, beside(bottom)]
     }
 }

@@ -2,6 +2,7 @@
 
 use super::Random;
 use calls::layout::*;
+use std::ops::Range;
 
 impl Random {
     /// One with this edge flag.
@@ -16,13 +17,8 @@ impl Random {
         record[PRINT_MODE] = self.below(3) as u8;
         record[CURSOR] = self.below(3) as u8;
         record[VERSION] = self.below(2) as u8;
-        self.put_rect(&mut record, DIRTY, 256, 256);
-        for panel in 0..PANELS {
-            self.put_rect(&mut record, owed(panel), WIDTH, HEIGHT);
-            self.put_rect(&mut record, in_hand(panel), WIDTH, HEIGHT);
-            let sent = self.pick(&[0, 1, u32::MAX - 2, u32::MAX - 1, u32::MAX, 1 << 16, 255]);
-            record[lines_sent(panel)..][..4].copy_from_slice(&sent.to_le_bytes());
-        }
+        self.put_rect(&mut record, DIRTY, 256, 0..256);
+        (0..PANELS).for_each(|panel| self.put_panel(&mut record, panel));
         for (place, key) in self.key_words().into_iter().enumerate() {
             record[KEYS + 4 * place..][..4].copy_from_slice(&key.to_le_bytes());
         }
@@ -38,14 +34,24 @@ impl Random {
         record
     }
 
-    fn put_rect(&mut self, record: &mut [u8], place: usize, width: usize, height: usize) {
+    fn put_panel(&mut self, record: &mut [u8], panel: usize) {
+        for band in 0..BANDS {
+            self.put_rect(record, owed(panel, band), WIDTH, band * BAND..(band + 1) * BAND);
+        }
+        self.put_rect(record, in_hand(panel), WIDTH, 0..HEIGHT);
+        let sent = self.pick(&[0, 1, u32::MAX - 2, u32::MAX - 1, u32::MAX, 1 << 16, 255]);
+        record[lines_sent(panel)..][..4].copy_from_slice(&sent.to_le_bytes());
+    }
+
+    /// An empty rectangle, or one within this width and these lines.
+    fn put_rect(&mut self, record: &mut [u8], place: usize, width: usize, lines: Range<usize>) {
         let sides = match self.below(4) {
             0 => [0; 4],
-            1 => [0, 0, width, height],
+            1 => [0, lines.start, width, lines.end],
             _ => {
                 let (left, right) = self.ends(width);
-                let (top, bottom) = self.ends(height);
-                [left, top, right, bottom]
+                let (top, bottom) = self.ends(lines.len());
+                [left, lines.start + top, right, lines.start + bottom]
             }
         };
         for (k, side) in sides.into_iter().enumerate() {

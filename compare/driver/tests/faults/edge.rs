@@ -2,7 +2,7 @@
 //! beyond the glass.
 
 use super::edge_flag::{CLAMP, STOP, with_flag};
-use super::{again, assert_short, found_among, spoiled};
+use super::{again, assert_short, found_among, marks, spoiled};
 use calls::layout::*;
 use calls::{Answer, Call, Lent};
 use driver::core_side::Answering;
@@ -85,8 +85,8 @@ impl Drawn<'_> {
             Fault::LowersLeft => self.owe([left.min(159), top, right, bottom]),
             Fault::LowersTop => self.owe([left, top.min(79), right, bottom]),
             Fault::OwesTooLittle => self.owe([left, top, right, bottom.min(79)]),
-            Fault::CutsDirty => self.put(DIRTY, [left, top, right.min(160), bottom.min(80)]),
-            Fault::LeavesOutDirty if left > 159 || top > 79 => self.put(DIRTY, [0; 4]),
+            Fault::CutsDirty => self.put_dirty([left, top, right.min(160), bottom.min(80)]),
+            Fault::LeavesOutDirty if left > 159 || top > 79 => self.put_dirty([0; 4]),
             Fault::DrawsNoPart if left < 160 && right > 160 => {
                 self.lent.memory.copy_from_slice(self.before.memory);
             }
@@ -126,14 +126,12 @@ impl Drawn<'_> {
 
     /// Every panel is owed what it was, and this rectangle as far as it lies on the glass.
     fn owe(&mut self, [left, top, right, bottom]: [u16; 4]) {
-        let rect = [left, top, right.min(160), bottom.min(80)];
-        (0..PANELS).for_each(|panel| self.put(owed(panel), rect));
+        marks::owe(self.lent.record, self.before.record, [left, top, right.min(160), bottom]);
     }
 
-    /// A rectangle of the record as it was before, with this one added.
-    fn put(&mut self, place: usize, rect: [u16; 4]) {
-        let joined = join(four(self.before.record, place), rect).map(u16::to_le_bytes);
-        self.lent.record[place..place + 8].copy_from_slice(&joined.concat());
+    /// Dirty as it was before, with this rectangle added.
+    fn put_dirty(&mut self, rect: [u16; 4]) {
+        marks::put(self.lent.record, DIRTY, marks::join(four(self.before.record, DIRTY), rect));
     }
 
     fn undraw_last_column(&mut self) {
@@ -141,17 +139,6 @@ impl Drawn<'_> {
         for place in (screen..screen + SCREEN).skip(LINE - 1).step_by(LINE) {
             self.lent.memory[place] = self.lent.memory[place] & !1 | self.before.memory[place] & 1;
         }
-    }
-}
-
-fn join(one: [u16; 4], other: [u16; 4]) -> [u16; 4] {
-    let empty = |rect: [u16; 4]| rect[0] >= rect[2] || rect[1] >= rect[3];
-    if empty(other) {
-        one
-    } else if empty(one) {
-        other
-    } else {
-        [one[0].min(other[0]), one[1].min(other[1]), one[2].max(other[2]), one[3].max(other[3])]
     }
 }
 
@@ -257,7 +244,7 @@ fn a_disc_that_wraps_and_marks_nothing_with_flag_1() {
         })
     }
     assert_both_found!(answer(DIRTY), 2);
-    assert_both_found!(answer(owed(2)), 2);
+    assert_both_found!(answer(owed(2, 3)), 2);
 }
 
 /// It is a box in the reference, and the same with either flag.

@@ -101,10 +101,10 @@ fn a_gap_one_lead_too_wide() {
     fn after(call: &Call, lent: Lent) -> Answer {
         shown_as(call, lent, |[lead, trail]| lead == 176 && (161..=254).contains(&trail), hexadecimal)
     }
-    assert_found(|call, lent| Some(before(call, lent)), 5);
-    assert_model_found(before, 5);
-    assert_found(|call, lent| Some(after(call, lent)), 5);
-    assert_model_found(after, 5);
+    assert_found(|call, lent| Some(before(call, lent)), 8);
+    assert_model_found(before, 8);
+    assert_found(|call, lent| Some(after(call, lent)), 8);
+    assert_model_found(after, 8);
 }
 
 #[test]

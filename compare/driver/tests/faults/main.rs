@@ -11,10 +11,12 @@ macro_rules! assert_both_found {
     };
 }
 
+mod bands;
 mod bitmaps;
 mod edge;
 mod edge_flag;
 mod gap;
+mod marks;
 mod panels;
 mod pokes;
 
@@ -112,9 +114,10 @@ fn a_made_up_lines_sent_count() {
 fn owed_always_the_whole_screen() {
     fn answer(call: &Call, lent: Lent) -> Answer {
         spoiled(call, lent, |answer, lent| {
-            let place = owed(0)..in_hand(0);
-            if answer.accepted() && lent.record[place.clone()] != [0; 8] {
-                lent.record[place].copy_from_slice(&[0, 0, 0, 0, 160, 0, 80, 0]);
+            if answer.accepted() && lent.record[owed_part(0)].iter().any(|byte| *byte != 0) {
+                for (band, top) in (0..BANDS).zip([0, 16, 32, 48, 64]) {
+                    marks::put(lent.record, owed(0, band), [0, top, 160, top + 16]);
+                }
             }
         })
     }

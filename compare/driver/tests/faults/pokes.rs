@@ -1,7 +1,7 @@
 //! Faults of a poke that finds line and column of its byte by a product and a shift: the model with the
 //! mark found here in the place of its own. A wrong one lies mostly beside the glass.
 
-use super::{assert_found, assert_model_found, found, found_among, spoiled};
+use super::{assert_found, assert_model_found, found, found_among, marks, spoiled};
 use calls::layout::*;
 use calls::{Answer, Call, Lent};
 use driver::exhaustive;
@@ -78,20 +78,14 @@ fn answer(call: &Call, lent: Lent, finding: Finding) -> Answer {
     })
 }
 
-/// Dirty and what every panel is owed: as before, with this rectangle added.
+/// Dirty and what every panel is owed: as before, with this rectangle added, to the last band where it lies
+/// below the glass.
 fn mark(record: &mut [u8], before: &[u8], rect: [u16; 4]) {
-    for place in [DIRTY].into_iter().chain((0..PANELS).map(owed)) {
-        let sides = join(four(before, place), rect).map(u16::to_le_bytes);
-        record[place..place + 8].copy_from_slice(&sides.concat());
+    marks::restore_owed(record, before);
+    let band = (rect[1] as usize / BAND).min(BANDS - 1);
+    for place in [DIRTY].into_iter().chain((0..PANELS).map(|panel| owed(panel, band))) {
+        marks::put(record, place, marks::join(four(before, place), rect));
     }
-}
-
-fn join(marked: [u16; 4], rect: [u16; 4]) -> [u16; 4] {
-    if marked == [0; 4] {
-        return rect;
-    }
-    let [left, top, right, bottom] = marked;
-    [left.min(rect[0]), top.min(rect[1]), right.max(rect[2]), bottom.max(rect[3])]
 }
 
 /// The exhaustive lists that poke every screen byte are the first: 26 for each of three bases.

@@ -18,11 +18,9 @@ pub fn send(record: &mut [u8], memory: &[u8], shown: &mut [u8], number: u8) -> [
     }
     let mut rect = four(record, in_hand(panel));
     if rect == [0; 4] {
-        rect = four(record, owed(panel));
-        store_rect(record, owed(panel), [0; 4]);
-    }
-    if rect == [0; 4] {
-        return [0; 5];
+        let Some(place) = next_owed(record, panel) else { return [0; 5] };
+        rect = four(record, place);
+        store_rect(record, place, [0; 4]);
     }
     let [left, top, right, bottom] = rect;
     let screen = &memory[word(record, GRAPHICS_BASE) as usize..][..SCREEN];
@@ -31,6 +29,11 @@ pub fn send(record: &mut [u8], memory: &[u8], shown: &mut [u8], number: u8) -> [
     store_rect(record, in_hand(panel), rest);
     count_line(record, panel);
     [0, 1, top as u32, left as u32, right as u32]
+}
+
+/// The place of the first band that is not empty.
+fn next_owed(record: &[u8], panel: usize) -> Option<usize> {
+    (0..BANDS).map(|band| owed(panel, band)).find(|place| record[*place..place + RECT] != [0; RECT])
 }
 
 fn count_line(record: &mut [u8], panel: usize) {

@@ -2,17 +2,17 @@
 //! and against the reference.
 
 use super::{Row, SCREEN_BASE, opened};
+use crate::library::Library;
 use crate::limits;
 use crate::side::OnBytes;
 use calls::layout::SCREEN;
 use calls::{Buffers, Call, Painting};
-use driver::core_side::Answering;
 use std::hint::black_box;
 
 /// A source apart from the screen.
 const APART: usize = 20_000;
 
-pub fn rows(core: Option<Answering>) -> Vec<Row> {
+pub fn rows(core: Option<Library>) -> Vec<Row> {
     let core = core.filter(|core| has_painter_by_bytes(*core));
     let mut rows: Vec<Row> = core.map(against_core).into_iter().flatten().collect();
     let against_reference =
@@ -21,9 +21,9 @@ pub fn rows(core: Option<Answering>) -> Vec<Row> {
     rows
 }
 
-fn has_painter_by_bytes(core: Answering) -> bool {
+fn has_painter_by_bytes(core: Library) -> bool {
     let call = ALIGNED.by_bytes();
-    core(&call, opened().lend(&call)).is_some()
+    core.answer(&call, core.own(opened()).lend(&call)).is_some()
 }
 
 fn by_bytes(name: &str) -> String {
@@ -55,7 +55,7 @@ fn paintings() -> impl Iterator<Item = (&'static str, Painting)> {
     .into_iter()
 }
 
-fn against_core(core: Answering) -> Vec<Row> {
+fn against_core(core: Library) -> Vec<Row> {
     vec![
         against_pixels("64 by 64 aligned", ALIGNED, core).limit(limits::BY_BYTES_ALIGNED),
         against_pixels("64 by 64 at an odd place", ODD, core).limit(limits::BY_BYTES_ODD),
@@ -63,32 +63,32 @@ fn against_core(core: Answering) -> Vec<Row> {
     ]
 }
 
-fn against_pixels(name: &str, told: Painting, core: Answering) -> Row {
+fn against_pixels(name: &str, told: Painting, core: Library) -> Row {
     let pixels = told.by_pixels();
     let work = move |buffers: &mut Buffers| {
-        black_box(core(black_box(&pixels), buffers.lend(&pixels)));
+        black_box(core.answer(black_box(&pixels), buffers.lend(&pixels)));
     };
     painted(format!("{}, core's pixel painter", by_bytes(name)), work, told, core)
 }
 
 /// What any call of the core tests, and a copy of the screen's bytes.
-fn against_copy(name: &str, core: Answering) -> Row {
+fn against_copy(name: &str, core: Library) -> Row {
     let entry = Call::SetRow { row: 0 };
     let work = move |buffers: &mut Buffers| {
-        black_box(core(black_box(&entry), buffers.lend(&entry)));
+        black_box(core.answer(black_box(&entry), buffers.lend(&entry)));
         buffers.memory.copy_within(APART..APART + SCREEN, SCREEN_BASE);
     };
     painted(format!("{}, core's set_row, plain copy", by_bytes(name)), work, WHOLE, core)
 }
 
 /// A row of the painter by bytes, with this work on the left side.
-fn painted(name: String, left: impl FnMut(&mut Buffers) + 'static, told: Painting, core: Answering) -> Row {
+fn painted(name: String, left: impl FnMut(&mut Buffers) + 'static, told: Painting, core: Library) -> Row {
     let call = told.by_bytes();
-    Row::new(name, OnBytes { buffers: striped(), work: left }).with_core(
+    Row::new(name, OnBytes { buffers: core.own(striped()), work: left }).with_core(
         Some(core),
         striped(),
         move |core, buffers| {
-            black_box(core(black_box(&call), buffers.lend(&call)));
+            black_box(core.answer(black_box(&call), buffers.lend(&call)));
         },
     )
 }

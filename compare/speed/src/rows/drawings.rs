@@ -1,12 +1,16 @@
 //! Drawings, bitmaps and a poke.
 
 use super::{Row, opened};
+use crate::library::Library;
 use crate::limits;
 use calls::Call;
-use driver::core_side::Answering;
+
+/// A mark over all bands with as little drawn as can be: the upright sides of an outline are not drawn in
+/// Unknown.
+pub const TWO_POINTS: Call = Call::DrawBox { x1: 80, y1: 0, x2: 80, y2: 79, fill: 0, mode: 3 };
 
 /// Those that have limits, in each mode, then others.
-pub fn rows(core: Option<Answering>) -> Vec<Row> {
+pub fn rows(core: Option<Library>) -> Vec<Row> {
     let limited = [(0, "clear"), (1, "or"), (2, "xor")].into_iter().flat_map(|(mode, mode_name)| {
         limited(mode).map(|(name, call, limit)| {
             Row::call(format!("{name}, {mode_name}"), call, opened(), core).limit(limit)
@@ -26,7 +30,7 @@ fn limited(mode: u8) -> [(&'static str, Call, f64); 4] {
     ]
 }
 
-fn others() -> [(&'static str, Call); 9] {
+fn others() -> [(&'static str, Call); 10] {
     let mode = 2;
     let (x1, y1, x2, y2) = (3, 3, 156, 76);
     let (x, y, rx, ry) = (80, 40, 70, 30);
@@ -35,6 +39,7 @@ fn others() -> [(&'static str, Call); 9] {
         ("line, horizontal", Call::DrawLine { x1, y1: 40, x2, y2: 40, mode }),
         ("line, vertical", Call::DrawLine { x1: 80, y1: 0, x2: 80, y2: 79, mode }),
         ("box, outline", Call::DrawBox { x1, y1, x2, y2, fill: 0, mode }),
+        ("box, two points 80 lines apart", TWO_POINTS),
         ("box, 154 by 74", Call::DrawBox { x1, y1, x2, y2, fill: 1, mode }),
         ("ellipse, 70 by 30", Call::DrawEllipse { x, y, rx, ry, fill: 0, mode }),
         ("ellipse, 70 by 30, filled", Call::DrawEllipse { x, y, rx, ry, fill: 1, mode }),

@@ -2,13 +2,13 @@
 //! and mark the same there.
 
 use super::{Row, opened};
+use crate::library::Library;
 use crate::side::OnBytes;
 use calls::layout::EDGE;
 use calls::{Buffers, Call};
-use driver::core_side::Answering;
 use std::hint::black_box;
 
-pub fn rows(core: Option<Answering>) -> Vec<Row> {
+pub fn rows(core: Option<Library>) -> Vec<Row> {
     core.into_iter()
         .flat_map(|core| drawings().map(|(name, call)| against_clamped(name, call, core)))
         .collect()
@@ -26,17 +26,17 @@ fn drawings() -> [(&'static str, Call); 5] {
     ]
 }
 
-fn against_clamped(name: &str, call: Call, core: Answering) -> Row {
+fn against_clamped(name: &str, call: Call, core: Library) -> Row {
     let clamped = call.clone();
     let work = move |buffers: &mut Buffers| {
-        black_box(core(black_box(&clamped), buffers.lend(&clamped)));
+        black_box(core.answer(black_box(&clamped), buffers.lend(&clamped)));
     };
-    let left = OnBytes { buffers: opened(), work };
+    let left = OnBytes { buffers: core.own(opened()), work };
     Row::new(format!("{name}, edge flag 1, core's flag 0"), left).with_core(
         Some(core),
         stopping(),
         move |core, buffers| {
-            black_box(core(black_box(&call), buffers.lend(&call)));
+            black_box(core.answer(black_box(&call), buffers.lend(&call)));
         },
     )
 }

@@ -2,15 +2,15 @@
 
 use super::text::{bytes, pairs};
 use super::{Row, TEXT_START, opened};
+use crate::library::Library;
 use crate::limits;
 use crate::side::OnReference;
 use calls::layout::CELLS;
 use calls::{Buffers, Call, FontsLent};
-use driver::core_side::Answering;
 use reference::Reference;
 use std::hint::black_box;
 
-pub fn rows(core: Option<Answering>) -> Vec<Row> {
+pub fn rows(core: Option<Library>) -> Vec<Row> {
     let empty = flush("flush, empty text", &[], vec![], core).limit(limits::FLUSH_EMPTY_TEXT);
     let rows_ends = [vec![65], gb()].concat()[..CELLS].to_vec();
     let mut rows = vec![empty];
@@ -53,7 +53,7 @@ fn list() -> Vec<u8> {
         .collect()
 }
 
-fn flush(name: &str, text: &[u8], extra_list: Vec<u8>, core: Option<Answering>) -> Row {
+fn flush(name: &str, text: &[u8], extra_list: Vec<u8>, core: Option<Library>) -> Row {
     let call = Call::Flush { fonts: FontsLent::whole(extra_list) };
     let start = with_text(text);
     let call_of_core = call.clone();
@@ -67,7 +67,7 @@ fn flush(name: &str, text: &[u8], extra_list: Vec<u8>, core: Option<Answering>) 
         reference.flush_alone();
     });
     Row::new(name, rust).with_core(core, start, move |core, buffers| {
-        black_box(core(black_box(&call_of_core), buffers.lend(&call_of_core)));
+        black_box(core.answer(black_box(&call_of_core), buffers.lend(&call_of_core)));
     })
 }
 

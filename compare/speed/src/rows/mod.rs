@@ -9,12 +9,14 @@ mod pokes;
 mod sends;
 mod text;
 
+pub use drawings::TWO_POINTS;
+
+use crate::library::Library;
 use crate::limits;
 use crate::plain;
 use crate::side::{ByCore, OnBytes, OnReference, Side};
 use calls::layout::*;
 use calls::{Buffers, Call};
-use driver::core_side::Answering;
 use reference::Reference;
 use std::hint::black_box;
 
@@ -27,7 +29,7 @@ pub struct Row {
 }
 
 /// All of them; without a core only the Rust sides, and no rows of the core against itself.
-pub fn rows(core: Option<Answering>) -> Vec<Row> {
+pub fn rows(core: Option<Library>) -> Vec<Row> {
     let mut rows = vec![
         set_row("set_row, plain Rust with its tests", opened(), core),
         set_row("set_row, all owed, plain Rust with its tests", all_owed(), core),
@@ -55,16 +57,16 @@ impl Row {
     /// The core's side, from these bytes.
     fn with_core(
         self,
-        core: Option<Answering>,
+        core: Option<Library>,
         buffers: Buffers,
-        work: impl Fn(Answering, &mut Buffers) + 'static,
+        work: impl Fn(Library, &mut Buffers) + 'static,
     ) -> Self {
-        let side = core.map(|core| ByCore::new(buffers, move |buffers| work(core, buffers)));
+        let side = core.map(|core| ByCore::new(core.own(buffers), move |buffers| work(core, buffers)));
         Self { core: side, ..self }
     }
 
     /// One call of the reference and of the core, both from the state of these bytes.
-    fn call(name: impl Into<String>, call: Call, start: Buffers, core: Option<Answering>) -> Self {
+    fn call(name: impl Into<String>, call: Call, start: Buffers, core: Option<Library>) -> Self {
         Self::call_after(name, call, start, core, |_| {}, |_| {})
     }
 
@@ -73,7 +75,7 @@ impl Row {
         name: impl Into<String>,
         call: Call,
         start: Buffers,
-        core: Option<Answering>,
+        core: Option<Library>,
         on_reference: impl Fn(&mut Reference) + 'static,
         on_bytes: impl Fn(&mut Buffers) + 'static,
     ) -> Self {
@@ -84,13 +86,13 @@ impl Row {
         });
         Self::new(name, rust).with_core(core, start, move |core, buffers| {
             on_bytes(buffers);
-            black_box(core(black_box(&call_of_core), buffers.lend(&call_of_core)));
+            black_box(core.answer(black_box(&call_of_core), buffers.lend(&call_of_core)));
         })
     }
 }
 
 /// What an open with panelrun's windows leaves, with nothing owed.
-fn opened() -> Buffers {
+pub fn opened() -> Buffers {
     let mut buffers = Buffers::zero();
     buffers.record[GRAPHICS_BASE..][..2].copy_from_slice(&(SCREEN_BASE as u16).to_le_bytes());
     buffers.record[TEXT_BASE..][..2].copy_from_slice(&(TEXT_START as u16).to_le_bytes());
@@ -107,14 +109,22 @@ fn all_owed() -> Buffers {
     let mut buffers = opened();
     plain::store_rect(&mut buffers.record, DIRTY, [1, 2, 200, 100]);
     for panel in 0..PANELS {
-        plain::store_rect(&mut buffers.record, owed(panel), [0, 0, 160, 80]);
+        owe_whole(&mut buffers, panel);
         plain::store_rect(&mut buffers.record, in_hand(panel), [3, 4, 150, 70]);
     }
     buffers
 }
 
+/// The whole screen owed to a panel, by plain stores.
+fn owe_whole(buffers: &mut Buffers, panel: usize) {
+    for band in 0..BANDS {
+        let top = (band * BAND) as u16;
+        plain::store_rect(&mut buffers.record, owed(panel, band), [0, top, 160, top + BAND as u16]);
+    }
+}
+
 /// What the tests of a record cost: the reference's `set_row` has none.
-fn set_row(name: &str, start: Buffers, core: Option<Answering>) -> Row {
+fn set_row(name: &str, start: Buffers, core: Option<Library>) -> Row {
     let mut rows = (0..5).cycle();
     let rust = OnBytes {
         buffers: start.clone(),
@@ -129,6 +139,6 @@ fn set_row(name: &str, start: Buffers, core: Option<Answering>) -> Row {
     row.with_core(core, start, move |core, buffers| {
         turn.set((turn.get() + 1) % calls.len());
         let call = &calls[turn.get()];
-        black_box(core(black_box(call), buffers.lend(call)));
+        black_box(core.answer(black_box(call), buffers.lend(call)));
     })
 }

@@ -1,17 +1,17 @@
 //! The whole screen poked byte by byte, against the reference, and against the core's entry alone.
 
-use super::{Row, SCREEN_BASE, opened};
+use super::{Row, SCREEN_BASE, opened, owe_whole};
+use crate::library::Library;
 use crate::plain;
 use crate::side::{OnBytes, OnReference};
 use calls::layout::*;
 use calls::{Buffers, Call};
-use driver::core_side::Answering;
 use reference::Reference;
 use std::hint::black_box;
 
 const NAME: &str = "1,600 pokes in address order";
 
-pub fn rows(core: Option<Answering>) -> Vec<Row> {
+pub fn rows(core: Option<Library>) -> Vec<Row> {
     let mut rows = vec![against_reference(core)];
     rows.extend(core.map(against_entry));
     rows
@@ -30,7 +30,7 @@ fn shade(place: usize) -> u8 {
 }
 
 /// Each turn starts with nothing marked, so that marks grow as for a host whose panels are level.
-fn against_reference(core: Option<Answering>) -> Row {
+fn against_reference(core: Option<Library>) -> Row {
     let rust = OnReference::new(&opened(), |reference: &mut Reference, _: &mut [u8]| {
         reference.set_dirty([0; 4]);
         for place in 0..SCREEN {
@@ -42,23 +42,26 @@ fn against_reference(core: Option<Answering>) -> Row {
 
 /// What any call of the core tests, as often. The left side's screen holds the bytes from the start on, and
 /// its marks are what the pokes lead to: it pokes nothing, and its entry tests as much as theirs.
-fn against_entry(core: Answering) -> Row {
+fn against_entry(core: Library) -> Row {
     let entries = move |buffers: &mut Buffers| {
         for place in 0..SCREEN {
             let call = Call::SetRow { row: place as u8 & 3 };
-            black_box(core(black_box(&call), buffers.lend(&call)));
+            black_box(core.answer(black_box(&call), buffers.lend(&call)));
         }
     };
-    let left = OnBytes { buffers: poked(), work: entries };
+    let left = OnBytes { buffers: core.own(poked()), work: entries };
     by_core(Row::new(format!("{NAME}, core's set_row as often"), left), Some(core))
 }
 
-fn by_core(row: Row, core: Option<Answering>) -> Row {
-    row.with_core(core, opened(), |core, buffers| {
-        mark(buffers, [0; 4]);
+fn by_core(row: Row, core: Option<Library>) -> Row {
+    let marks = core.map_or(vec![], |core| core.layout.marks());
+    row.with_core(core, opened(), move |core, buffers| {
+        for place in &marks {
+            plain::store_rect(&mut buffers.record, *place, [0; 4]);
+        }
         for place in 0..SCREEN {
             let call = poke(place);
-            black_box(core(black_box(&call), buffers.lend(&call)));
+            black_box(core.answer(black_box(&call), buffers.lend(&call)));
         }
     })
 }
@@ -68,13 +71,7 @@ fn poked() -> Buffers {
     let mut buffers = opened();
     let screen = &mut buffers.memory[SCREEN_BASE..][..SCREEN];
     screen.iter_mut().enumerate().for_each(|(place, byte)| *byte = shade(place));
-    mark(&mut buffers, [0, 0, WIDTH as u16, HEIGHT as u16]);
+    plain::store_rect(&mut buffers.record, DIRTY, [0, 0, WIDTH as u16, HEIGHT as u16]);
+    (0..PANELS).for_each(|panel| owe_whole(&mut buffers, panel));
     buffers
-}
-
-/// Dirty and what every panel is owed become this rectangle, by plain stores.
-fn mark(buffers: &mut Buffers, rect: [u16; 4]) {
-    for place in [DIRTY].into_iter().chain((0..PANELS).map(owed)) {
-        plain::store_rect(&mut buffers.record, place, rect);
-    }
 }

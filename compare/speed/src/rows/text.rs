@@ -1,12 +1,12 @@
 //! Printing, newlines, clearing and the cursor.
 
 use super::{Row, TEXT_START, opened};
+use crate::library::Library;
 use crate::limits;
 use calls::layout::{CELLS, COLUMN, ROW, SCREEN_MODE};
 use calls::{Buffers, Call};
-use driver::core_side::Answering;
 
-pub fn rows(core: Option<Answering>) -> Vec<Row> {
+pub fn rows(core: Option<Library>) -> Vec<Row> {
     let mut rows = prints(core);
     rows.extend(newlines(core));
     rows.push(Row::call("cls", Call::Cls, opened(), core));
@@ -27,7 +27,7 @@ pub fn pairs(count: usize, lead: u8, trail: u8) -> Vec<u8> {
     (0..count as u8).flat_map(|k| [lead + k % 4, trail + k]).collect()
 }
 
-fn prints(core: Option<Answering>) -> Vec<Row> {
+fn prints(core: Option<Library>) -> Vec<Row> {
     let print = |name, text| placed(name, Call::Print { text }, opened(), (0, 0), core);
     vec![
         print("print, one byte", bytes(1)),
@@ -37,7 +37,7 @@ fn prints(core: Option<Answering>) -> Vec<Row> {
     ]
 }
 
-fn newlines(core: Option<Answering>) -> Vec<Row> {
+fn newlines(core: Option<Library>) -> Vec<Row> {
     let mut graph = opened();
     graph.record[SCREEN_MODE] = 1;
     vec![
@@ -48,7 +48,7 @@ fn newlines(core: Option<Answering>) -> Vec<Row> {
 }
 
 /// A call that finds row and column as they are here each time.
-fn placed(name: &str, call: Call, start: Buffers, (row, column): (u8, u8), core: Option<Answering>) -> Row {
+fn placed(name: &str, call: Call, start: Buffers, (row, column): (u8, u8), core: Option<Library>) -> Row {
     Row::call_after(
         name,
         call,
