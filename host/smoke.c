@@ -223,11 +223,37 @@ static void four_panels(void) {
     printf("lines sent to the four panels: %d %d %d %d\n", sent[0], sent[1], sent[2], sent[3]);
     expect("each at its own pace", sent[0] == 1 && sent[1] == 80 && sent[2] == 0 && sent[3] == 40);
     expect("two are level", level(0) && level(1) && !level(2) && !level(3));
-    expect("panel 2 as it was", !memcmp(rec + CAPTION_AT_PANEL_2, rec_was + CAPTION_AT_PANEL_2, 20) && !memcmp(panels[2], panels_were[2], sizeof panels[2]));
+    expect("panel 2 as it was", !memcmp(rec + CAPTION_AT_PANEL_2, rec_was + CAPTION_AT_PANEL_2, CAPTION_AT_PANEL_3 - CAPTION_AT_PANEL_2) && !memcmp(panels[2], panels_were[2], sizeof panels[2]));
     for (int k = 2; k < CAPTION_PANELS; k++)
         while (caption_send(R, M, P(k), (uint8_t)k).sent)
             sent[k]++;
     expect("and the others in the end", sent[2] == 80 && sent[3] == 80 && level(2) && level(3));
+}
+
+/* Panel 0 is level. A cursor in the first text row and a clock in the last owe the lines of their bands, the upper ones first, and none between. A rectangle that
+   begins above its band is refused. */
+static void bands(void) {
+    int lines = 0, last = -1;
+    caption_sent s;
+    expect("cursor", caption_blink_cursor(R, M) == 0);
+    expect("clock", caption_draw_box(R, M, 120, 64, 159, 79, 1, CAPTION_DRAW_XOR) == 0);
+    while ((s = caption_send(R, M, P(0), 0)).sent) {
+        expect("downwards, first and last row", (int)s.line > last && (s.line < 16 || s.line >= 64));
+        last = (int)s.line;
+        lines++;
+    }
+    printf("cursor and clock: %d lines\n", lines);
+    expect("32 lines, and level", lines == 32 && level(0));
+    expect("cursor away", caption_clear_cursor(R, M) == 0);
+    rec[CAPTION_AT_OWED + 8 + 2] = 15;
+    rec[CAPTION_AT_OWED + 8 + 4] = 1;
+    rec[CAPTION_AT_OWED + 8 + 6] = 17;
+    keep();
+    refused("a line above its band", caption_draw_point(R, M, 0, 0, 0), 2);
+    rec[CAPTION_AT_OWED + 8 + 2] = 16;
+    expect("within it", caption_draw_point(R, M, 0, 0, CAPTION_DRAW_UNKNOWN) == 0);
+    while (caption_send(R, M, P(0), 0).sent)
+        ;
 }
 
 /* Opened with the edge flag 1: a line beyond the glass marks dirty, draws and owes nothing; one that runs off it draws its ten pixels; a box inverts rows 78 and 79
@@ -271,13 +297,14 @@ int main(void) {
     bitmap(caption_paint_bitmap_by_bytes);
     both_painters();
     flush();
-    /* 79 lines of the opening are in hand of panel 0, and the whole screen is owed for the flush: sends until idle, and the panel is level */
+    /* 15 lines of the opening's first band are in hand of panel 0, and the whole screen is owed for the flush: sends until idle, and the panel is level */
     int more = 0;
     while ((s = caption_send(R, M, P(0), 0)).sent)
         more++;
     printf("%d more lines, then idle\n", more);
-    expect("79 more, and the flushed screen", more == 79 + 80 && s.code == 0);
+    expect("15 more, and the flushed screen", more == 15 + 80 && s.code == 0);
     expect("level", level(0));
+    bands();
     written_behind();
     four_panels();
     /* text, cursor and modes: bytes go into cells, the cursor inverts the next cell and back, a newline moves on, a screen mode clears */

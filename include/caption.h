@@ -17,6 +17,8 @@
    Panels. One screen is shown on up to four, numbered 0 to 3, and each is polled at its own pace: it has an owed area, a rectangle in hand and a count of lines
    sent of its own in the record. Every mark goes to all four; a send goes to one and leaves the other three as they are. A panel's buffer belongs to its number from
    caption_open on. A number that is never sent to stays owed in its part of the record; its buffer need not be there.
+   Bands. The owed area is CAPTION_BANDS rectangles, one for each band of CAPTION_BAND_LINES lines, a text row, from the top down. A mark is cut at the bands' edges
+   and each part joined to its band's rectangle: what changes in one row and in another makes the lines between them no lines to send. A send takes one band in hand.
 
    Pixels. x runs 0-159 to the right, y 0-79 downwards. Pixel (x, y) is bit 0x80 >> x % 8 of byte 20 * y + x / 8, on screen and panel alike.
    Rectangles. left and top are the first column and line, right and bottom the ones after the last: they are not included. Four zeros are the empty rectangle.
@@ -46,15 +48,17 @@
 #include <stddef.h>
 #include <stdint.h>
 
-#define CAPTION_RECORD_BYTES 231
+#define CAPTION_RECORD_BYTES 359
 #define CAPTION_MEMORY_BYTES 65536
 #define CAPTION_PANEL_BYTES 1600
 #define CAPTION_PANELS 4
+#define CAPTION_BANDS 5
+#define CAPTION_BAND_LINES 16
 
 /* the code that every call answers. 8 is kept for an ellipse of over 512 steps, and never given: none within the radii takes so many */
 enum caption_code {
     CAPTION_DONE = 0,
-    CAPTION_LENT = 1,   /* the record has not 231 bytes, memory not 65,536, the panel not 1,600, or the extra list no multiple of 6 */
+    CAPTION_LENT = 1,   /* the record has not 359 bytes, memory not 65,536, the panel not 1,600, or the extra list no multiple of 6 */
     CAPTION_STATE = 2,  /* a field of the record is out of its range (enum caption_at) */
     CAPTION_WINDOW = 3, /* graphics base above 63,935, text base above 65,435, or the 1,600 and the 100 bytes from there share a byte */
     CAPTION_VALUE = 4,  /* a row above 4, a column above 19, or a mode, version, fill or edge flag that is not listed */
@@ -85,15 +89,15 @@ enum caption_at {
     CAPTION_AT_CURSOR = 8,        /* enum caption_cursor: the one that is shown */
     CAPTION_AT_VERSION = 9,       /* enum caption_version */
     CAPTION_AT_DIRTY = 10,        /* a rectangle, right and bottom up to 256; this and the next two empty, or left < right and top < bottom */
-    CAPTION_AT_OWED = 18,         /* panel 0: a rectangle, right up to 160, bottom up to 80 */
-    CAPTION_AT_IN_HAND = 26,      /* panel 0: a rectangle, likewise; its top is the next line to be sent */
-    CAPTION_AT_LINES_SENT = 34,   /* panel 0: four bytes; stays at 4,294,967,295 once there */
-    CAPTION_AT_KEYS = 38,         /* eight words of four bytes: bit a % 32 of word a / 32 makes address a, 0-255, a key address */
-    CAPTION_AT_FLAGS = 70,        /* a byte for each text cell, row by row: 1 where it is printed inverse, else 0 */
-    CAPTION_AT_PANEL_1 = 170,     /* panels 1, 2 and 3, twenty bytes each: owed, in hand and lines sent, as panel 0 has them */
-    CAPTION_AT_PANEL_2 = 190,
-    CAPTION_AT_PANEL_3 = 210,
-    CAPTION_AT_EDGE = 230         /* enum caption_edge; caption_open alone changes it */
+    CAPTION_AT_OWED = 18,         /* panel 0: five rectangles; that of band b has top from 16 * b on, bottom up to 16 * b + 16 and right up to 160 */
+    CAPTION_AT_IN_HAND = 58,      /* panel 0: a rectangle, right up to 160, bottom up to 80; its top is the next line to be sent */
+    CAPTION_AT_LINES_SENT = 66,   /* panel 0: four bytes; stays at 4,294,967,295 once there */
+    CAPTION_AT_KEYS = 70,         /* eight words of four bytes: bit a % 32 of word a / 32 makes address a, 0-255, a key address */
+    CAPTION_AT_FLAGS = 102,       /* a byte for each text cell, row by row: 1 where it is printed inverse, else 0 */
+    CAPTION_AT_PANEL_1 = 202,     /* panels 1, 2 and 3, 52 bytes each: owed, in hand and lines sent, as panel 0 has them */
+    CAPTION_AT_PANEL_2 = 254,
+    CAPTION_AT_PANEL_3 = 306,
+    CAPTION_AT_EDGE = 358         /* enum caption_edge; caption_open alone changes it */
 };
 
 typedef struct {
@@ -234,10 +238,11 @@ uint32_t caption_clear_cursor(uint8_t *record, size_t record_len, uint8_t *memor
 caption_area caption_take_dirty_area(uint8_t *record, size_t record_len);
 
 /* One line to the panel of that number, 0 to 3, whose buffer is lent. Owed, in hand and lines sent are that panel's, and those of the others stay, however often
-   and in whatever order they are sent to. With nothing in hand, what is owed is taken in hand, and nothing is owed. With still nothing in hand the answer is idle,
-   four zeros, and nothing changes. Else the pixels left to right - 1 of the top line in hand are copied from the screen as it is now to the panel; other bits of the
-   panel stay. That line is answered and counted, and leaves the rectangle. What is marked meanwhile is owed, and its turn comes when nothing is in hand. So, with no
-   mark between, as many sends to a panel as it has lines in hand and owed, 159 at most, make it equal to the screen, and the next one is idle.
+   and in whatever order they are sent to. With nothing in hand, the first band from the top that owes anything is taken in hand, and owes nothing. With still nothing
+   in hand the answer is idle, four zeros, and nothing changes. Else the pixels left to right - 1 of the top line in hand are copied from the screen as it is now to
+   the panel; other bits of the panel stay. That line is answered and counted, and leaves the rectangle. What is marked meanwhile is owed, and its turn comes when
+   nothing is in hand. So, with no mark between, as many sends to a panel as it has lines in hand and owed, 95 at most, make it equal to the screen, and the next one
+   is idle.
    Refusals: LENT, STATE, PANEL. */
 caption_sent caption_send(uint8_t *record, size_t record_len, const uint8_t *memory, size_t memory_len, uint8_t *panel, size_t panel_len,
                           uint8_t number);

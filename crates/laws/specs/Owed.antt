@@ -2,7 +2,7 @@
 -- stands, gives the whole.
 use mathlib.Core.Path.{_≡_, refl, _∙_}
 use mathlib.Core.Bool.{Bool, true, false, not, _&&_}
-use mathlib.Core.List.{List, [], _++_, append-assoc}
+use mathlib.Core.List.{List, [], _∷_, _++_, append-assoc}
 use Prim.Native.Nat.{ℕ, zero, suc, _+_, _-_, _*_, _<_, _≤_}
 use native.Mathlib.Omega.{arith}
 use lib.Dec.{eqb}
@@ -11,8 +11,8 @@ use lib.Seq.{drop-at, length-take-le}
 use borrow.Author.Tests.{not-true, not-false, ne-eqb}
 use Rattle.model.specs.declared.Rect.{Rect}
 use Rattle.model.specs.Memory.{withWindow}
-use Rattle.model.specs.Rects.{none, isEmpty, fits, join}
-use Rattle.model.specs.Bytes.{two, four, rectAt, rectsAt, rectBytes, rectsBytes, Bytes}
+use Rattle.model.specs.Rects.{none, every, isEmpty, fits, join}
+use Rattle.model.specs.Bytes.{rectAt, rectsAt, rectBytes, rectsBytes, Bytes}
 use Rattle.model.specs.Record.{bandsFit}
 use Rattle.model.specs.Sends.{firstOwed, restOwed}
 use Rattle.laws.specs.Memory.{window-extend}
@@ -39,22 +39,40 @@ window-tail a n k s t r e f h =
     let l : a + length (s ++ t) ≡ a + n + k = omega (arith, length-append s t) in
     cc (append-assoc s t (drop (a + n + k) r))
 
--- ---- four zeros, tested as two numbers of four bytes
+-- ---- four zeros, tested by bytes
 
-both-zero : (a b : ℕ) → eqb (a + 65536 * b) 0 ≡ (eqb a 0 && eqb b 0)
+both-zero : (a b : ℕ) → eqb (a + 256 * b) 0 ≡ (eqb a 0 && eqb b 0)
 both-zero zero zero = refl
-both-zero zero (suc b) = cc (ne-eqb (0 + 65536 * suc b) 0 (λ e. omega arith), ne-eqb (suc b) 0 (λ e. omega arith))
-both-zero (suc a) b = cc (ne-eqb (suc a + 65536 * b) 0 (λ e. omega arith), ne-eqb (suc a) 0 (λ e. omega arith))
+both-zero zero (suc b) = cc (ne-eqb (0 + 256 * suc b) 0 (λ e. omega arith), ne-eqb (suc b) 0 (λ e. omega arith))
+both-zero (suc a) b = cc (ne-eqb (suc a + 256 * b) 0 (λ e. omega arith), ne-eqb (suc a) 0 (λ e. omega arith))
 
 and-group : (s t u : Bool) → (s && (t && u)) ≡ (s && t && u)
 and-group true t u = refl
 and-group false t u = refl
 
-pub is-clear : (r : List ℕ) (a : ℕ) {x y : ℕ} → x ≡ four r a → y ≡ four r (a + 4) → (eqb x 0 && eqb y 0) ≡ isEmpty (rectAt r a)
+-- byte i is zero
+abbrev clearAt : List ℕ → ℕ → Bool
+clearAt r i = eqb (getD r i 0) 0
+
+pub is-clear : (r : List ℕ) (a : ℕ)
+    → every (clearAt r a ∷ clearAt r (a + 1) ∷ clearAt r (a + 2) ∷ clearAt r (a + 3) ∷ clearAt r (a + 4) ∷ clearAt r (a + 5) ∷ clearAt r (a + 6) ∷ clearAt r (a + 7) ∷ []) ≡ isEmpty (rectAt r a)
 unfolding isEmpty
-is-clear r a e f =
-    let c : a + 4 + 2 ≡ a + 6 = omega arith in
-    cc (both-zero (two r a) (two r (a + 2)), both-zero (two r (a + 4)) (two r (a + 4 + 2)), and-group (eqb (two r a) 0 && eqb (two r (a + 2)) 0) (eqb (two r (a + 4)) 0) (eqb (two r (a + 6)) 0))
+is-clear r a =
+    let c : a + 2 + 1 ≡ a + 3 = omega arith in
+    let d : a + 4 + 1 ≡ a + 5 = omega arith in
+    let e : a + 6 + 1 ≡ a + 7 = omega arith in
+    let left = clearAt r a && clearAt r (a + 1) in
+    let top = left && clearAt r (a + 2) && clearAt r (a + 3) in
+    let right = top && clearAt r (a + 4) && clearAt r (a + 5) in
+    cc (
+      both-zero (getD r a 0) (getD r (a + 1) 0),
+      both-zero (getD r (a + 2) 0) (getD r (a + 2 + 1) 0),
+      both-zero (getD r (a + 4) 0) (getD r (a + 4 + 1) 0),
+      both-zero (getD r (a + 6) 0) (getD r (a + 6 + 1) 0),
+      and-group left (clearAt r (a + 2)) (clearAt r (a + 3)),
+      and-group top (clearAt r (a + 4)) (clearAt r (a + 5)),
+      and-group right (clearAt r (a + 6)) (clearAt r (a + 7)),
+    )
 
 -- ---- a rectangle joined to one that stands there
 

@@ -12,6 +12,7 @@ fn show(script: &[u8]) {
 fn readable() {
     show(b"(point (3 0) or)\n(send)\n");
     show(b"(send)\n(point (3 0) or)\n");
+    show(b"(send)\n(point (3 0) or)\n(point (3 79) or)\n");
     show(b"(line (0 0) (2 1) xor)\n(poke 4096 255)\n(send)");
     show(
         b"(point (255 255) clear)\n(point (0 79) unknown)\n(line (0 0) (255 255) or)\n(poke 65535 0)\n(poke 0 255)\n",

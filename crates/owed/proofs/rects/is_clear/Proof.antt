@@ -1,19 +1,74 @@
+-- A number of two bytes is zero where both are.
 use borrow.Author.Needs.{needs}
 use Rattle.laws.specs.Owed.{is-clear}
 use Rattle.owed.proofs.rects.is_clear.Statement.{statement}
 use Rattle.owed.proofs.rects.is_clear.Tie as tie
 
-load-four-requires : tie.Need-load-four-requires
-load-four-requires c κs = search needs
+shared-slice-read-result : tie.Need-shared-slice-read-result
+shared-slice-read-result c = search needs
 
-add-load-four : tie.Need-add-load-four
-add-load-four c = search needs
+add-result : tie.Need-add-result
+add-result c = search needs
 
-load-four-requires-2 : tie.Need-load-four-requires-2
-load-four-requires-2 c κs = search needs
+shared-slice-read-result-2 : tie.Need-shared-slice-read-result-2
+shared-slice-read-result-2 c = search needs
+
+add-result-2 : tie.Need-add-result-2
+add-result-2 c = search needs
+
+shared-slice-read-result-3 : tie.Need-shared-slice-read-result-3
+shared-slice-read-result-3 c = search needs
+
+add-result-3 : tie.Need-add-result-3
+add-result-3 c = search needs
+
+shared-slice-read-result-4 : tie.Need-shared-slice-read-result-4
+shared-slice-read-result-4 c = search needs
+
+add-result-4 : tie.Need-add-result-4
+add-result-4 c = search needs
+
+shared-slice-read-result-5 : tie.Need-shared-slice-read-result-5
+shared-slice-read-result-5 c = search needs
+
+add-result-5 : tie.Need-add-result-5
+add-result-5 c = search needs
+
+shared-slice-read-result-6 : tie.Need-shared-slice-read-result-6
+shared-slice-read-result-6 c = search needs
+
+add-result-6 : tie.Need-add-result-6
+add-result-6 c = search needs
+
+shared-slice-read-result-7 : tie.Need-shared-slice-read-result-7
+shared-slice-read-result-7 c = search needs
+
+add-result-7 : tie.Need-add-result-7
+add-result-7 c = search needs
+
+shared-slice-read-result-8 : tie.Need-shared-slice-read-result-8
+shared-slice-read-result-8 c = search needs
 
 returns : tie.Need-returns
-returns c = let a = c .before .before .before .args in is-clear (a .bytes .now) (a .at) (c .before .load-four .ensures) (c .load-four2 .ensures)
+returns c = let a = c .before .before .before .before .before .before .before .before .args in is-clear (a .bytes .now) (a .at)
 
 pub is-clear-spec : {M : Type 1} → statement M
-is-clear-spec = tie.close (tie.spec load-four-requires add-load-four load-four-requires-2 returns)
+is-clear-spec =
+    tie.close
+    (tie.spec
+    shared-slice-read-result
+    add-result
+    shared-slice-read-result-2
+    add-result-2
+    shared-slice-read-result-3
+    add-result-3
+    shared-slice-read-result-4
+    add-result-4
+    shared-slice-read-result-5
+    add-result-5
+    shared-slice-read-result-6
+    add-result-6
+    shared-slice-read-result-7
+    add-result-7
+    shared-slice-read-result-8
+    returns)
