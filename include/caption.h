@@ -18,7 +18,8 @@
    sent of its own in the record. Every mark goes to all four; a send goes to one and leaves the other three as they are. A panel's buffer belongs to its number from
    caption_open on. A number that is never sent to stays owed in its part of the record; its buffer need not be there.
    Bands. The owed area is CAPTION_BANDS rectangles, one for each band of CAPTION_BAND_LINES lines, a text row, from the top down. A mark is cut at the bands' edges
-   and each part joined to its band's rectangle: what changes in one row and in another makes the lines between them no lines to send. A send takes one band in hand.
+   and each part joined to its band's rectangle, so that a change in one row and a change in another owe no line between them. A send with nothing in hand takes the
+   uppermost band that owes anything: a host that goes on marking a row before that row's lines are sent keeps the rows below it waiting.
 
    Pixels. x runs 0-159 to the right, y 0-79 downwards. Pixel (x, y) is bit 0x80 >> x % 8 of byte 20 * y + x / 8, on screen and panel alike.
    Rectangles. left and top are the first column and line, right and bottom the ones after the last: they are not included. Four zeros are the empty rectangle.

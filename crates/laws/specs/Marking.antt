@@ -1,7 +1,7 @@
 -- A mark on the bytes of a record: band after band, its part there joined to what each panel is owed; and the state that these bytes mean.
 use mathlib.Core.Path.{_≡_, refl, sym, ap, _∙_}
 use mathlib.Core.Logic.{_⊎_, inl, inr}
-use mathlib.Core.Bool.{true}
+use mathlib.Core.Bool.{Bool, true}
 use mathlib.Core.List.{List, [], _∷_, _++_, append-assoc, map}
 use Prim.Native.Nat.{ℕ, zero, suc, _+_, _-_, _*_, _/_, _<_, _≤_, min}
 use native.Mathlib.Nat.{div-mul-le-self, mul-le-mul-right, lt-of-mul-lt-mul-right}
@@ -15,12 +15,12 @@ use Rattle.model.specs.declared.glass.Glass.{Glass}
 use Rattle.model.specs.Geometry.{Geometry, width}
 use Rattle.model.specs.Glass.{geometry, IsGlass, Suits}
 use Rattle.model.specs.Memory.{window, withWindow}
-use Rattle.model.specs.Rects.{none, join, cut, every}
+use Rattle.model.specs.Rects.{none, isEmpty, join, cut, every}
 use Rattle.model.specs.Bytes.{rectAt, rectsAt, rectBytes, rectsBytes, fourBytes}
 use Rattle.model.specs.Record.{panel, at, recordBytes, pendingBytes, bytesOfPending, Pending, State, decode, encode, partBytes, panelOf, nothingPending, withPanel, withPanels, WellPending, WellFormed}
 use Rattle.model.specs.Marks.{owing, owingEach}
 use Rattle.laws.specs.Tests.{tests, by-lt, all-true}
-use Rattle.laws.specs.Rects.{cut-outside, cut-whole, join-none}
+use Rattle.laws.specs.Rects.{empty-none, cut-outside, cut-whole, join-none}
 use Rattle.laws.specs.ListLaws.{getD-map, map-map, map-same, map-agree}
 use Rattle.laws.specs.Memory.{window-back, window-inside}
 use Rattle.laws.specs.Layout.{rects-from, rect-of, rects-set}
@@ -126,12 +126,14 @@ each-formed g f s w k = record {
 -- ---- bands that the mark does not reach
 
 module _ (g : Geometry) (m : Rect) where
-  owing-none : (i : ℕ) (p : Pending) → (i * g .band + g .band ≤ m .top) ⊎ (m .bottom ≤ i * g .band) → owingIn g m i p ≡ p
+  owing-none : (i : ℕ) (p : Pending) → bandPart g m i ≡ none → owingIn g m i p ≡ p
   unfolding owingIn
-  owing-none i p o =
-      let e : set (p .owed) i (join (getD (p .owed) i none) (bandPart g m i)) ≡ p .owed =
-      cc (cut-outside (width g) (i * g .band) (i * g .band + g .band) m o, join-none (getD (p .owed) i none), set-getD (p .owed) i none) in
+  owing-none i p n =
+      let e : set (p .owed) i (join (getD (p .owed) i none) (bandPart g m i)) ≡ p .owed = cc (join-none (getD (p .owed) i none), set-getD (p .owed) i none) in
       λ x. record { owed = e x; hand = p .hand; sent = p .sent }
+
+  outside : (i : ℕ) → (i * g .band + g .band ≤ m .top) ⊎ (m .bottom ≤ i * g .band) → bandPart g m i ≡ none
+  outside i o = cut-outside (width g) (i * g .band) (i * g .band + g .band) m o
 
   -- those above it
   skip-above : (d i n : ℕ) (p : Pending) → (i + d) * g .band ≤ m .top → owingFrom g m i (d + n) p ≡ owingFrom g m (i + d) n p
@@ -141,13 +143,13 @@ module _ (g : Geometry) (m : Rect) where
       let e : i + suc d ≡ suc i + d = omega arith in
       let f : suc d + n ≡ suc (d + n) = omega arith in
       let low : suc i * g .band ≤ (i + suc d) * g .band = mul-le-mul-right (g .band) (omega arith) in
-      cc (owing-none i p (inl (omega arith)), skip-above d (suc i) n p (rw e at t))
+      cc (owing-none i p (outside i (inl (omega arith))), skip-above d (suc i) n p (rw e at t))
 
   -- those below it
   skip-below : (n i : ℕ) (p : Pending) → m .bottom ≤ i * g .band → owingFrom g m i n p ≡ p
   unfolding owingFrom
   skip-below zero i p t = refl
-  skip-below (suc n) i p t = cc (owing-none i p (inr t), skip-below n (suc i) p (omega arith))
+  skip-below (suc n) i p t = cc (owing-none i p (outside i (inr t)), skip-below n (suc i) p (omega arith))
 
 -- ---- the loop over the panels, in one band: those from k on are to come
 
@@ -181,6 +183,14 @@ join-ends {panels = panels} {k} j h = let z : panels - k ≡ 0 = omega arith in 
 pub record BandMarked (g : Geometry) (m : Rect) (i : ℕ) (r r′ : List ℕ) : Type 0 where
   pub passing : Passing g r′
   pub state : decode g r′ ≡ withPanels (map (owingIn g m i) (decode g r .panels)) (decode g r)
+
+-- where nothing of the mark lies in it, the record stays
+pub empty-band : (v : Glass) (m : Rect) (i : ℕ) {r : List ℕ} → Passing (geometry v) r → {q : Rect} {t : Bool} → q ≡ bandPart (geometry v) m i → t ≡ isEmpty q → t ≡ true → BandMarked (geometry v) m i r r
+empty-band v m i {r} p {q} e f y =
+    let g = geometry v in
+    let none-there : bandPart g m i ≡ none = sym e ∙ empty-none q (sym f ∙ y) in
+    let same = map-same (owingIn g m i) (decode g r .panels) (λ x. owing-none g m i x none-there) in
+    record { passing = p; state = ap (λ (ps : List Pending). withPanels ps (decode g r)) (sym same) }
 
 module _ (v : Glass) (m : Rect) (i : ℕ) {r r′ : List ℕ} (p : Passing (geometry v) r) (j : i < v .bands) where
   was-marked : r′ ≡ encode (geometry v) (withPanels (map (owingIn (geometry v) m i) (decode (geometry v) r .panels)) (decode (geometry v) r)) → BandMarked (geometry v) m i r r′

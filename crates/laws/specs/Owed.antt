@@ -1,9 +1,9 @@
 -- The owed rectangles on the bytes: one joined with a mark's part; band after band, the first taken from them, and the test of them. In these two loops what is left, done to what
 -- stands, gives the whole.
-use mathlib.Core.Path.{_≡_, refl, _∙_}
+use mathlib.Core.Path.{_≡_, refl, sym, ap, _∙_}
 use mathlib.Core.Bool.{Bool, true, false, not, _&&_}
 use mathlib.Core.List.{List, [], _∷_, _++_, append-assoc}
-use Prim.Native.Nat.{ℕ, zero, suc, _+_, _-_, _*_, _<_, _≤_}
+use Prim.Native.Nat.{ℕ, zero, suc, _+_, _-_, _*_, _<_, _≤_, min, max}
 use native.Mathlib.Omega.{arith}
 use lib.Dec.{eqb}
 use lib.ListN.{length, getD, take, drop, take-append-drop, length-append}
@@ -12,9 +12,10 @@ use borrow.Author.Tests.{not-true, not-false, ne-eqb}
 use Rattle.model.specs.declared.Rect.{Rect}
 use Rattle.model.specs.Memory.{withWindow}
 use Rattle.model.specs.Rects.{none, every, isEmpty, fits, join}
-use Rattle.model.specs.Bytes.{rectAt, rectsAt, rectBytes, rectsBytes, Bytes}
+use Rattle.model.specs.Bytes.{twoBytes, rectAt, rectsAt, rectBytes, rectsBytes, Bytes}
 use Rattle.model.specs.Record.{bandsFit}
 use Rattle.model.specs.Sends.{firstOwed, restOwed}
+use Rattle.laws.specs.Rects.{is-join-right, is-join}
 use Rattle.laws.specs.Memory.{window-extend}
 use Rattle.laws.specs.Layout.{rects-again, length-read}
 
@@ -79,9 +80,25 @@ is-clear r a =
 unfoldable pub joinedAt : ℕ → Rect → List ℕ → List ℕ
 joinedAt a q r = withWindow a (rectBytes (join (rectAt r a) q)) r
 
-pub joins-at : (a : ℕ) (q : Rect) (r : List ℕ) {s j : Rect} {r′ : List ℕ} → s ≡ rectAt r a → j ≡ join s q → r′ ≡ withWindow a (rectBytes j) r → r′ ≡ joinedAt a q r
+-- where nothing stands it is stored
+pub joins-clear : (a : ℕ) (q : Rect) (r : List ℕ) {t : Bool} {r′ : List ℕ} → t ≡ isEmpty (rectAt r a) → t ≡ true → r′ ≡ withWindow a (rectBytes q) r → r′ ≡ joinedAt a q r
 unfolding joinedAt
-joins-at a q r e f g = cc
+joins-clear a q r e f g = cc (is-join-right (rectAt r a) q e f)
+
+-- and else side by side
+pub joins-sides : (a : ℕ) (q : Rect) (r : List ℕ) {t : Bool} {s : Rect} {left top right bottom : ℕ} {r1 r2 r3 r4 : List ℕ} → a + 8 ≤ length r → isEmpty q ≡ false → t ≡ isEmpty (rectAt r a) → t ≡ false
+    → s ≡ rectAt r a → left ≡ min (s .left) (q .left) → top ≡ min (s .top) (q .top) → right ≡ max (s .right) (q .right) → bottom ≡ max (s .bottom) (q .bottom)
+    → r1 ≡ withWindow a (twoBytes left) r → r2 ≡ withWindow (a + 2) (twoBytes top) r1 → r3 ≡ withWindow (a + 4) (twoBytes right) r2 → r4 ≡ withWindow (a + 6) (twoBytes bottom) r3
+    → r4 ≡ joinedAt a q r
+unfolding joinedAt
+joins-sides a q r {t} {s} {left} {top} {right} {bottom} h n e f g c1 c2 c3 c4 d1 d2 d3 d4 =
+    let j : Rect = record { left = left; top = top; right = right; bottom = bottom } in
+    let some : t ≡ isEmpty s = e ∙ ap isEmpty (sym g) in
+    let joined : j ≡ join s q = is-join s q some f refl n c1 c2 c3 c4 in
+    let two = window-extend a 2 (twoBytes left) (twoBytes top) r refl (omega arith) in
+    let three = window-extend a 4 (twoBytes left ++ twoBytes top) (twoBytes right) r refl (omega arith) in
+    let four = window-extend a 6 (twoBytes left ++ twoBytes top ++ twoBytes right) (twoBytes bottom) r refl (omega arith) in
+    cc
 
 -- ---- the first taken
 

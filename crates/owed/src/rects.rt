@@ -2,6 +2,7 @@
 use marks::rect;
 use model::Rect;
 ghost use mathlib.Core.Path.{_≡_};
+ghost use mathlib.Core.Bool.{false};
 ghost use Prim.Native.Nat.{_+_, _*_, _^_, _≤_, _<_};
 ghost use lib.ListN.{length};
 ghost use Rattle.model.specs.Memory.{withWindow};
@@ -78,11 +79,23 @@ pub fn store_rect(bytes: &mut [u8], at: usize, q: Rect)
     slices::put_bytes(bytes, at, &b);
 }
 
-// The rectangle that begins at byte `at`, joined with q.
+// The rectangle that begins at byte `at`, joined with q, which is not empty: side by side, as a whole it would be put together for each store.
 pub fn join_rect(bytes: &mut [u8], at: usize, q: Rect)
     requires { ⌜ at + 8 ≤ length (now bytes) ⌝ }
+    requires { ⌜ isEmpty q ≡ false ⌝ }
     ensures { λ _. ⌜ now (bytes .exit) ≡ joinedAt at q (now (bytes .entry)) ⌝ }
 {
+    let left = q.left;
+    let top = q.top;
+    let right = q.right;
+    let bottom = q.bottom;
+    if is_clear(bytes, at) {
+        store_rect(bytes, at, q);
+        return;
+    }
     let stands = load_rect(bytes, at);
-    store_rect(bytes, at, rect::join_rects(stands, q));
+    slices::store_two(bytes, at, rect::least(stands.left, left));
+    slices::store_two(bytes, at + 2, rect::least(stands.top, top));
+    slices::store_two(bytes, at + 4, rect::greatest(stands.right, right));
+    slices::store_two(bytes, at + 6, rect::greatest(stands.bottom, bottom));
 }

@@ -6,6 +6,8 @@ use model::glass::Glass;
 use model::glass::HEAD_BYTES;
 use owed::rects;
 ghost use mathlib.Core.Path.{_≡_};
+ghost use mathlib.Core.Bool.{false};
+ghost use Rattle.model.specs.Rects.{isEmpty};
 ghost use Prim.Native.Nat.{_+_, _*_, _≤_, _<_};
 ghost use lib.ListN.{length};
 ghost use Rattle.model.specs.Glass.{geometry, glassOf, Suits};
@@ -37,10 +39,11 @@ pub fn sent_at(glass: Glass, at: usize) -> usize
     at + 8 * glass.bands + 8
 }
 
-// A rectangle joined to what each panel is owed in band i.
+// A rectangle, not empty, joined to what each panel is owed in band i.
 fn join_band(rec: &mut [u8], glass: Glass, i: usize, q: Rect)
     requires { ⌜ Suits glass ⌝ }
     requires { ⌜ (length (now rec) ≡ recordBytes (geometry glass)) × (i < glass .bands) ⌝ }
+    requires { ⌜ isEmpty q ≡ false ⌝ }
     ensures { λ _. ⌜ now (rec .exit) ≡ eachFrom (geometry glass) i (λ a. joinedAt a q) 0 (glass .panels) (now (rec .entry)) ⌝ }
 {
     let panels = glass.panels;
@@ -80,6 +83,9 @@ fn mark_band(rec: &mut [u8], glass: Glass, i: usize, lo: u16, m: Rect)
     let width = glass.width;
     let hi = lo + glass.band;
     let q = rect::cut_rect(width, lo, hi, m);
+    if rect::is_empty(q) {
+        return;
+    }
     if (left == 0) & (width <= right) & (top <= lo) & (hi <= bottom) {
         fill_band(rec, glass, i, q);
         return;

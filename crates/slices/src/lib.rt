@@ -4,7 +4,7 @@ ghost use Prim.Native.Nat.{_+_, _*_, _≤_, min};
 ghost use lib.ListN.{length};
 ghost use Rattle.model.specs.Memory.{withWindow, zeros};
 ghost use Rattle.model.specs.Print.{scrolled};
-ghost use Rattle.model.specs.Bytes.{two, four, fourBytes};
+ghost use Rattle.model.specs.Bytes.{two, four, twoBytes, fourBytes};
 
 pub fn least(a: usize, b: usize) -> usize
     ensures { λ r. ⌜ r ≡ min a b ⌝ }
@@ -57,6 +57,14 @@ pub fn put_bytes(onto: &mut [u8], at: usize, from: &[u8])
         onto[at + i] = from[i];
         i += 1;
     }
+}
+
+pub fn store_two(bytes: &mut [u8], at: usize, n: u16)
+    requires { ⌜ at + 2 ≤ length (now bytes) ⌝ }
+    ensures { λ _. ⌜ now (bytes .exit) ≡ withWindow at (twoBytes n) (now (bytes .entry)) ⌝ }
+{
+    let stored = [(n % 256) as u8, (n / 256 % 256) as u8];
+    put_bytes(bytes, at, &stored);
 }
 
 pub fn store_four(bytes: &mut [u8], at: usize, n: u32)

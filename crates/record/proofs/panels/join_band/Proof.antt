@@ -24,14 +24,14 @@ band-at-requires c κs =
     let p = c .before in
     let l = p .before .before in
     let s = l .before .before in
-    omega (arith, join-room (l .loop .rec) (s .pre .0) (l .loop .inv .sized ∙ s .pre .1 .0) (s .pre .1 .1) (omega (arith, l .loop .inv)) (p .panel-at .ensures))
+    omega (arith, join-room (l .loop .rec) (s .pre .0) (l .loop .inv .sized ∙ s .pre .1 .0 .0) (s .pre .1 .0 .1) (omega (arith, l .loop .inv)) (p .panel-at .ensures))
 
 join-rect-requires : tie.Need-join-rect-requires Inv-loop μ-loop
 join-rect-requires c κs =
     let p = c .before .before in
     let l = p .before .before in
     let s = l .before .before in
-    omega (arith, join-room (l .loop .rec) (s .pre .0) (l .loop .inv .sized ∙ s .pre .1 .0) (s .pre .1 .1) (omega (arith, l .loop .inv)) (p .panel-at .ensures), c .band-at .ensures)
+    (omega (arith, join-room (l .loop .rec) (s .pre .0) (l .loop .inv .sized ∙ s .pre .1 .0 .0) (s .pre .1 .0 .1) (omega (arith, l .loop .inv)) (p .panel-at .ensures), c .band-at .ensures), s .pre .1 .1)
 
 add-k : tie.Need-add-k Inv-loop μ-loop
 add-k c = search needs

@@ -1,8 +1,8 @@
 -- The part is joined to what each panel is owed; where it is the whole band, that is what is stored.
-use mathlib.Core.Path.{refl}
+use mathlib.Core.Path.{refl, sym, _∙_}
 use native.Mathlib.Omega.{arith}
 use borrow.Author.Needs.{needs}
-use Rattle.laws.specs.Marking.{band-low, is-part, is-whole, joined-band, filled-band}
+use Rattle.laws.specs.Marking.{band-low, is-part, is-whole, empty-band, joined-band, filled-band}
 use Rattle.record.proofs.panels.mark_band.Statement.{statement}
 use Rattle.record.proofs.panels.mark_band.Tie as tie
 
@@ -12,32 +12,46 @@ add-hi c = let s = c .before .before in omega (arith, band-low (s .args .glass) 
 cut-rect-requires : tie.Need-cut-rect-requires
 cut-rect-requires c κs = search needs
 
+is-empty-requires : tie.Need-is-empty-requires
+is-empty-requires c κs = search needs
+
+returns : tie.Need-returns
+returns c =
+    let s = c .before .before .before .before .before in
+    let a = s .args in
+    let k = s .pre .0 in
+    empty-band (a .glass) (a .m) (a .i) (k .passing) (is-part (a .glass) (a .m) (a .i) (k .suits) (s .pre .1 .1) refl (c .before .before .cut-rect .ensures)) (c .before .is-empty .ensures) (c .if1 .taken)
+
 fill-band-requires : tie.Need-fill-band-requires
-fill-band-requires c κs = let s = c .before .before .before .before .before in (s .pre .0 .suits, (s .pre .0 .passing .sized, s .pre .1 .0))
+fill-band-requires c κs = let s = c .before .before .before .before .before .before .before in (s .pre .0 .suits, (s .pre .0 .passing .sized, s .pre .1 .0))
 
 same-length : tie.Need-same-length
 same-length c = search needs
 
-returns : tie.Need-returns
-returns c =
-    let s = c .before .before .before .before .before .before .before .before in
+returns-2 : tie.Need-returns-2
+returns-2 c =
+    let s = c .before .before .before .before .before .before .before .before .before .before in
     let a = s .args in
     let k = s .pre .0 in
-    filled-band (a .glass) (a .m) (a .i) (k .passing) (s .pre .1 .0) (is-part (a .glass) (a .m) (a .i) (k .suits) (s .pre .1 .1) refl (c .before .before .before .before .before .cut-rect .ensures))
-    (is-whole (a .glass) (a .m) (a .i) (k .suits) (s .pre .1 .1) refl (c .before .before .before .before .if1 .taken)) (c .before .before .fill-band .ensures)
+    filled-band (a .glass) (a .m) (a .i) (k .passing) (s .pre .1 .0) (is-part (a .glass) (a .m) (a .i) (k .suits) (s .pre .1 .1) refl (c .before .before .before .before .before .before .before .cut-rect .ensures))
+    (is-whole (a .glass) (a .m) (a .i) (k .suits) (s .pre .1 .1) refl (c .before .before .before .before .if2 .taken)) (c .before .before .fill-band .ensures)
 
 join-band-requires : tie.Need-join-band-requires
-join-band-requires c κs = let s = c .before .before .before .before .before in (s .pre .0 .suits, (s .pre .0 .passing .sized, s .pre .1 .0))
+join-band-requires c κs =
+    let s = c .before .before .before .before .before .before .before in
+    (s .pre .0 .suits, ((s .pre .0 .passing .sized, s .pre .1 .0), sym (c .before .before .before .is-empty .ensures) ∙ c .before .before .if1 .left))
 
 same-length-2 : tie.Need-same-length-2
 same-length-2 c = search needs
 
-returns-2 : tie.Need-returns-2
-returns-2 c =
-    let s = c .before .before .before .before .before .before .before .before in
+returns-3 : tie.Need-returns-3
+returns-3 c =
+    let s = c .before .before .before .before .before .before .before .before .before .before in
     let a = s .args in
     let k = s .pre .0 in
-    joined-band (a .glass) (a .m) (a .i) (k .passing) (s .pre .1 .0) (is-part (a .glass) (a .m) (a .i) (k .suits) (s .pre .1 .1) refl (c .before .before .before .before .before .cut-rect .ensures)) (c .before .before .join-band .ensures)
+    joined-band (a .glass) (a .m) (a .i) (k .passing) (s .pre .1 .0) (is-part (a .glass) (a .m) (a .i) (k .suits) (s .pre .1 .1) refl (c .before .before .before .before .before .before .before .cut-rect .ensures)) (c .before .before .join-band .ensures)
 
 pub mark-band-spec : {M : Type 1} → statement M
-mark-band-spec = tie.close (tie.spec add-hi cut-rect-requires fill-band-requires same-length returns join-band-requires same-length-2 returns-2)
+mark-band-spec =
+    tie.close
+    (tie.spec add-hi cut-rect-requires is-empty-requires returns fill-band-requires same-length returns-2 join-band-requires same-length-2 returns-3)
