@@ -6,6 +6,7 @@ pub mod Rects
 pub mod Memory
 pub mod Parts
 pub mod Bands
+pub mod BandParts
 pub mod Layout
 pub mod ListLaws
 pub mod PartLists
@@ -16,6 +17,7 @@ pub mod Windows
 pub mod Owed
 pub mod Panels
 pub mod Marking
+pub mod MarkLoops
 pub mod StateTest
 pub mod Loops
 pub mod Glasses

@@ -3,32 +3,28 @@ use mathlib.Core.Path.{_≡_, refl, sym, ap, _∙_}
 use mathlib.Core.Logic.{_⊎_, inl, inr}
 use mathlib.Core.Bool.{Bool, true}
 use mathlib.Core.List.{List, [], _∷_, _++_, append-assoc, map}
-use Prim.Native.Nat.{ℕ, zero, suc, _+_, _-_, _*_, _/_, _<_, _≤_, min}
-use native.Mathlib.Nat.{div-mul-le-self, mul-le-mul-right, lt-of-mul-lt-mul-right}
-use native.Mathlib.Numerals.{add-one}
+use Prim.Native.Nat.{ℕ, zero, suc, _+_, _-_, _*_, _<_, _≤_}
+use native.Mathlib.Nat.{mul-le-mul-right}
 use native.Mathlib.Omega.{arith}
-use lib.Dec.{eqb, leb}
 use lib.ListN.{length, getD, set, drop, take-append-drop, length-set, length-append, length-map}
 use lib.Seq.{drop-drop, getD-set-other, getD-at, set-at, set-getD, append-snoc}
 use Rattle.model.specs.declared.Rect.{Rect}
 use Rattle.model.specs.declared.glass.Glass.{Glass}
 use Rattle.model.specs.Geometry.{Geometry, width}
-use Rattle.model.specs.Glass.{geometry, IsGlass, Suits}
+use Rattle.model.specs.Glass.{geometry, IsGlass}
 use Rattle.model.specs.Memory.{window, withWindow}
-use Rattle.model.specs.Rects.{none, isEmpty, join, cut, every}
+use Rattle.model.specs.Rects.{none, isEmpty, join, every}
 use Rattle.model.specs.Bytes.{rectAt, rectsAt, rectBytes, rectsBytes, fourBytes}
-use Rattle.model.specs.Record.{panel, at, recordBytes, pendingBytes, bytesOfPending, Pending, State, decode, encode, partBytes, panelOf, nothingPending, withPanel, withPanels, WellPending, WellFormed}
-use Rattle.model.specs.Marks.{owing, owingEach}
-use Rattle.laws.specs.Tests.{tests, by-lt, all-true}
-use Rattle.laws.specs.Rects.{empty-none, cut-outside, cut-whole, join-none}
-use Rattle.laws.specs.ListLaws.{getD-map, map-map, map-same, map-agree}
+use Rattle.model.specs.Record.{panel, at, pendingBytes, bytesOfPending, Pending, State, decode, encode, partBytes, panelOf, nothingPending, withPanel, withPanels, WellPending, WellFormed}
+use Rattle.laws.specs.Rects.{empty-none, cut-outside, join-none}
+use Rattle.laws.specs.ListLaws.{getD-map, map-same}
 use Rattle.laws.specs.Memory.{window-back, window-inside}
 use Rattle.laws.specs.Layout.{rects-from, rect-of, rects-set}
 use Rattle.laws.specs.Record.{Passing, Sized, sizes, length-encode, owed-back, has-panel, part-in, part-encode, put-panel, encode-decode, decode-encode, well-sized, sized-panel}
 use Rattle.laws.specs.States.{well-formed, encode-passing}
-use Rattle.laws.specs.Bands.{band-some, bandPart, owingIn, well-in, wholeBand, join-band, owingFrom, owing-bands}
+use Rattle.laws.specs.Bands.{band-some}
+use Rattle.laws.specs.BandParts.{bandPart, owingIn, well-in, wholeBand, join-band, owingFrom}
 use Rattle.laws.specs.Owed.{joinedAt}
-use Rattle.laws.specs.Panels.{panel-room}
 
 -- ---- on the bytes
 
@@ -136,7 +132,7 @@ module _ (g : Geometry) (m : Rect) where
   outside i o = cut-outside (width g) (i * g .band) (i * g .band + g .band) m o
 
   -- those above it
-  skip-above : (d i n : ℕ) (p : Pending) → (i + d) * g .band ≤ m .top → owingFrom g m i (d + n) p ≡ owingFrom g m (i + d) n p
+  pub skip-above : (d i n : ℕ) (p : Pending) → (i + d) * g .band ≤ m .top → owingFrom g m i (d + n) p ≡ owingFrom g m (i + d) n p
   unfolding owingFrom
   skip-above zero i n p t = let e : i + 0 ≡ i = omega arith in let f : 0 + n ≡ n = omega arith in cc
   skip-above (suc d) i n p t =
@@ -146,36 +142,10 @@ module _ (g : Geometry) (m : Rect) where
       cc (owing-none i p (outside i (inl (omega arith))), skip-above d (suc i) n p (rw e at t))
 
   -- those below it
-  skip-below : (n i : ℕ) (p : Pending) → m .bottom ≤ i * g .band → owingFrom g m i n p ≡ p
+  pub skip-below : (n i : ℕ) (p : Pending) → m .bottom ≤ i * g .band → owingFrom g m i n p ≡ p
   unfolding owingFrom
   skip-below zero i p t = refl
   skip-below (suc n) i p t = cc (owing-none i p (outside i (inr t)), skip-below n (suc i) p (omega arith))
-
--- ---- the loop over the panels, in one band: those from k on are to come
-
-pub record Joining (v : Glass) (i : ℕ) (f : ℕ → List ℕ → List ℕ) (r₀ r : List ℕ) (panels k : ℕ) : Type 0 where
-  pub counted : panels ≡ v .panels
-  pub some : k ≤ panels
-  pub sized : length r ≡ length r₀
-  pub same : eachFrom (geometry v) i f k (panels - k) r ≡ eachFrom (geometry v) i f 0 (v .panels) r₀
-
-pub join-room : {v : Glass} (r : List ℕ) {i k a : ℕ} → Suits v → length r ≡ recordBytes (geometry v) → i < v .bands → k < v .panels → a ≡ at (geometry v) (panel k)
-    → a + 8 * i + 8 ≤ length r
-join-room {v} r {k = k} z n h j e = let p = panel-room v k z j in omega arith
-
-pub join-starts : (v : Glass) (i : ℕ) (f : ℕ → List ℕ → List ℕ) (r : List ℕ) (panels : ℕ) → panels ≡ v .panels → Joining v i f r r panels 0
-join-starts v i f r panels c = let e : panels - 0 ≡ v .panels = omega arith in record { counted = c; some = omega arith; sized = refl; same = rw e refl }
-
-pub join-goes : {v : Glass} {i : ℕ} {f : ℕ → List ℕ → List ℕ} {r₀ r : List ℕ} {panels k a c : ℕ} {r′ : List ℕ} → Joining v i f r₀ r panels k → k < panels → length r′ ≡ length r
-    → a ≡ at (geometry v) (panel k) → c ≡ a + 8 * i → r′ ≡ f c r → Joining v i f r₀ r′ panels (k + 1)
-unfolding eachFrom
-join-goes {panels = panels} {k} j h n e b f =
-    let left : panels - k ≡ suc (panels - (k + 1)) = omega arith in
-    record { counted = j .counted; some = omega arith; sized = n ∙ j .sized; same = cc (add-one k) }
-
-pub join-ends : {v : Glass} {i : ℕ} {f : ℕ → List ℕ → List ℕ} {r₀ r : List ℕ} {panels k : ℕ} → Joining v i f r₀ r panels k → panels ≤ k → r ≡ eachFrom (geometry v) i f 0 (v .panels) r₀
-unfolding eachFrom
-join-ends {panels = panels} {k} j h = let z : panels - k ≡ 0 = omega arith in cc
 
 -- ---- a band's part of a mark, in every panel
 
@@ -215,98 +185,3 @@ module _ (v : Glass) (m : Rect) (i : ℕ) {r r′ : List ℕ} (p : Passing (geom
       let part = bandPart g m i in
       was-marked (f ∙ ap (λ (x : Rect). eachFrom g i (λ a. storedAt a x) 0 (v .panels) r) e ∙ ap (eachFrom g i (λ a. storedAt a part) 0 (v .panels)) (sym (encode-decode g r p))
       ∙ band-marked g m i j (p .glass) (λ a. storedAt a part) (λ s z c k h b. fill-panel g m i j s z c (p .glass) k h b w) (decode g r) (well-formed g r p))
-
--- ---- the loop over the bands: the one from line lo on, band i, is the next
-
--- the record r with the parts of m in the bands from i on, n of them, owed to each panel
-abbrev owedAfter : Geometry → Rect → ℕ → ℕ → List ℕ → State
-owedAfter g m i n r = withPanels (map (owingFrom g m i n) (decode g r .panels)) (decode g r)
-
-pub record Marking (v : Glass) (m : Rect) (r₀ r : List ℕ) (bottom lo i : ℕ) : Type 0 where
-  pub line : lo ≡ i * v .band
-  pub end : bottom ≡ min (m .bottom) (v .height)
-  pub passing : Passing (geometry v) r
-  pub sized : length r ≡ length r₀
-  pub same : owedAfter (geometry v) m i (v .bands - i) r ≡ owingEach (geometry v) m (decode (geometry v) r₀)
-
-pub glass-band : (v : Glass) → Suits v → 0 < v .band
-glass-band v z = band-some (v .bands) (v .band) 0 (omega (arith, z .glass .row, z .glass .filled))
-
--- a band's lines are the glass's
-pub band-low : (v : Glass) (i lo : ℕ) → Suits v → i < v .bands → lo ≡ i * v .band → lo + v .band ≤ 256
-band-low v i lo z h e = let t : suc i * v .band ≤ v .bands * v .band = mul-le-mul-right (v .band) h in omega (arith, z .glass .high)
-
-pub is-part : (v : Glass) (m : Rect) (i : ℕ) {lo hi : ℕ} {q : Rect} → Suits v → lo ≡ i * v .band → hi ≡ lo + v .band → q ≡ cut (v .width) lo hi m → q ≡ bandPart (geometry v) m i
-is-part v m i z e f g = cc (z .is-width)
-
--- a part is its whole band where the mark has all of it
-pub is-whole : (v : Glass) (m : Rect) (i : ℕ) {lo hi : ℕ} → Suits v → lo ≡ i * v .band → hi ≡ lo + v .band
-    → every (eqb (m .left) 0 ∷ leb (v .width) (m .right) ∷ leb (m .top) lo ∷ leb hi (m .bottom) ∷ []) ≡ true → bandPart (geometry v) m i ≡ wholeBand (geometry v) i
-is-whole v m i {lo} {hi} z e f t =
-    let g = geometry v in
-    let a = all-true (eqb (m .left) 0 ∷ leb (v .width) (m .right) ∷ leb (m .top) lo ∷ leb hi (m .bottom) ∷ []) t in
-    let w = z .is-width in
-    cut-whole (width g) (i * g .band) (i * g .band + g .band) m (omega (arith, z .glass .columns)) (omega (arith, glass-band v z)) (omega (arith, tests)) (omega (arith, tests)) (omega (arith, tests)) (omega (arith, tests))
-
--- the first band that is marked is that of the mark's top line
-pub mark-starts : (v : Glass) (m : Rect) (r : List ℕ) {bottom first : ℕ} → Passing (geometry v) r → bottom ≡ min (m .bottom) (v .height) → first ≡ m .top / v .band
-    → Marking v m r r bottom (first * v .band) first
-unfolding owingFrom
-mark-starts v m r {first = first} p e f =
-    let g = geometry v in
-    let s = decode g r in
-    let top : first * v .band ≤ m .top = rw f (div-mul-le-self (m .top) (v .band)) in
-    let start : (q : Pending) → owingFrom g m first (v .bands - first) q ≡ owingFrom g m 0 (v .bands) q = λ q.
-    by-lt first (v .bands)
-    (λ h. let a : first + (v .bands - first) ≡ v .bands = omega arith in
-    let c : 0 + first ≡ first = omega arith in cc (skip-above g m first 0 (v .bands - first) q (omega arith)))
-    (λ h. let a : v .bands - first ≡ 0 = omega arith in
-    let low : v .bands * v .band ≤ first * v .band = mul-le-mul-right (v .band) h in
-    let c : v .bands + 0 ≡ v .bands = omega arith in cc (skip-above g m (v .bands) 0 0 q (omega arith))) in
-    record {
-      line = refl;
-      end = e;
-      passing = p;
-      sized = refl;
-      same = ap (λ (ps : List Pending). withPanels ps s)
-          (map-agree (owingFrom g m first (v .bands - first)) (owing g m) (s .panels) (nothingPending g)
-          (λ k h. start (panelOf g s k) ∙ owing-bands g m (panelOf g s k) (well-sized g s (well-formed g r p) .owed k)));
-    }
-
-module _ {v : Glass} {m : Rect} {r₀ r : List ℕ} {bottom lo i : ℕ} (z : Suits v) (k : Marking v m r₀ r bottom lo i) where
-  -- the next is there, and its lines are the glass's
-  pub band-there : lo < bottom → i < v .bands
-  band-there h = lt-of-mul-lt-mul-right (v .band) (omega (arith, k .line, k .end, z .is-height))
-
-  pub band-ends : lo < bottom → lo + v .band ≤ 256
-  band-ends h = band-low v i lo z (band-there h) (k .line)
-
-  pub mark-goes : {hi : ℕ} {r′ : List ℕ} → lo < bottom → hi ≡ lo + v .band → length r′ ≡ length r → BandMarked (geometry v) m i r r′ → Marking v m r₀ r′ bottom hi (i + 1)
-  unfolding owingFrom
-  mark-goes h e l b =
-      let g = geometry v in
-      let s = decode g r in
-      let n = v .bands - (i + 1) in
-      let there = band-there h in
-      let left : v .bands - i ≡ suc n = omega arith in
-      record {
-        line = omega (arith, k .line);
-        end = k .end;
-        passing = b .passing;
-        sized = l ∙ k .sized;
-        same = ap (λ (x : State). withPanels (map (owingFrom g m (i + 1) n) (x .panels)) x) (b .state) ∙ ap (λ (ps : List Pending). withPanels ps s) (map-map (owingFrom g m (i + 1) n) (owingIn g m i) (s .panels))
-            ∙ ap (λ (j : ℕ). withPanels (map (λ x. owingFrom g m j n (owingIn g m i x)) (s .panels)) s) (add-one i) ∙ ap (λ (j : ℕ). withPanels (map (owingFrom g m i j) (s .panels)) s) (sym left) ∙ k .same;
-      }
-
-  pub mark-ends : bottom ≤ lo → r ≡ encode (geometry v) (owingEach (geometry v) m (decode (geometry v) r₀))
-  unfolding owingFrom
-  mark-ends h =
-      let g = geometry v in
-      let s = decode g r in
-      let rest : (p : Pending) → owingFrom g m i (v .bands - i) p ≡ p = λ p.
-      by-lt i (v .bands)
-      (λ j. let t : suc i * v .band ≤ v .bands * v .band = mul-le-mul-right (v .band) j in
-      let some = glass-band v z in
-      skip-below g m (v .bands - i) i p (omega (arith, k .line, k .end, z .is-height)))
-      (λ j. let e : v .bands - i ≡ 0 = omega arith in cc) in
-      sym (encode-decode g r (k .passing)) ∙ ap (λ (ps : List Pending). encode g (withPanels ps s)) (sym (map-same (owingFrom g m i (v .bands - i)) (s .panels) rest)) ∙ ap (encode g) (k .same)

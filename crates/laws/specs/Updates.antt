@@ -1,11 +1,11 @@
 -- Stores over a record that passes, as the code makes them: another head, what is marked, other flags.
 use mathlib.Core.Path.{_≡_, sym, ap, _∙_}
 use mathlib.Core.Bool.{Bool}
-use mathlib.Core.List.{List, map}
-use Prim.Native.Nat.{ℕ, _+_, _-_, _<_, _≤_}
+use mathlib.Core.List.{List}
+use Prim.Native.Nat.{ℕ, _+_, _-_, _≤_}
 use native.Mathlib.Omega.{arith}
 use borrow.Rule.Slice.PartMut.{putMid}
-use lib.ListN.{length, take, drop, length-map}
+use lib.ListN.{length, take, drop}
 use Rattle.model.specs.declared.Rect.{Rect}
 use Rattle.model.specs.declared.Head.{Head}
 use Rattle.model.specs.declared.Canvas.{Canvas}
@@ -14,16 +14,16 @@ use Rattle.model.specs.Geometry.{Geometry, width, cells}
 use Rattle.model.specs.Glass.{geometry, canvas, Suits}
 use Rattle.model.specs.Memory.{zeros, withWindow}
 use Rattle.model.specs.Flags.{bytesOfFlags}
-use Rattle.model.specs.Record.{headBytes, head, keys, flags, recordBytes, offset, Pending, State, decode, encode, bytesOfHead, panelOf, nothingPending, headFits, partFits, withHead, withPanels, withFlags, WellFormed}
+use Rattle.model.specs.Record.{headBytes, head, keys, flags, recordBytes, offset, Pending, State, decode, encode, bytesOfHead, headFits, partFits, withHead, withPanels, withFlags, WellFormed}
 use Rattle.model.specs.Rects.{none, isEmpty, join}
 use Rattle.model.specs.Marks.{whole, owing, owingEach, withDirty, updateDirty, marked}
 use Rattle.model.specs.Open.{clearHead, clearFlags, resetState}
-use Rattle.laws.specs.ListLaws.{getD-map, map-same}
+use Rattle.laws.specs.ListLaws.{map-same}
 use Rattle.laws.specs.Rects.{join-none}
 use Rattle.laws.specs.Bands.{joinOwed-none, well-owing}
 use Rattle.laws.specs.Parts.{part-back}
 use Rattle.laws.specs.Flags.{length-flags, no-flags, length-no-flags}
-use Rattle.laws.specs.Record.{Passing, Sized, Numbers, head-tells, part-passes, has-head, has-keys, has-flags, length-part, put-head, put-flags, all-owed, part-in, encode-decode, decode-encode, well-sized, sized-decode, count-decode}
+use Rattle.laws.specs.Record.{Passing, Numbers, head-tells, part-passes, has-head, has-keys, has-flags, length-part, put-head, put-flags, part-in, encode-decode, decode-encode, well-sized, sized-decode}
 use Rattle.laws.specs.States.{well-formed, encode-passing}
 use Rattle.laws.specs.StateTest.{flags-part}
 use Rattle.laws.specs.Panels.{Known}

@@ -1,5 +1,4 @@
 -- Where nothing stands q is stored; else the four sides are, two bytes each, one after another.
-use mathlib.Core.Path.{refl}
 use borrow.Author.Needs.{needs}
 use Rattle.laws.specs.Owed.{joins-clear, joins-sides}
 use Rattle.owed.proofs.rects.join_rect.Statement.{statement}

@@ -2,7 +2,8 @@ use mathlib.Core.Path.{_∙_}
 use borrow.Author.Needs.{needs}
 use Prim.Native.Nat.{_-_}
 use native.Mathlib.Omega.{arith}
-use Rattle.laws.specs.Marking.{storedAt, Joining, join-room, join-starts, join-goes, join-ends}
+use Rattle.laws.specs.Marking.{storedAt}
+use Rattle.laws.specs.MarkLoops.{Joining, join-room, join-starts, join-goes, join-ends}
 use Rattle.record.proofs.panels.fill_band.Statement.{statement}
 use Rattle.record.proofs.panels.fill_band.Tie as tie
 

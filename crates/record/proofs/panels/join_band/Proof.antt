@@ -3,7 +3,7 @@ use borrow.Author.Needs.{needs}
 use Prim.Native.Nat.{_-_}
 use native.Mathlib.Omega.{arith}
 use Rattle.laws.specs.Owed.{joinedAt}
-use Rattle.laws.specs.Marking.{Joining, join-room, join-starts, join-goes, join-ends}
+use Rattle.laws.specs.MarkLoops.{Joining, join-room, join-starts, join-goes, join-ends}
 use Rattle.record.proofs.panels.join_band.Statement.{statement}
 use Rattle.record.proofs.panels.join_band.Tie as tie
 

@@ -2,7 +2,8 @@
 use mathlib.Core.Path.{refl, sym, _∙_}
 use native.Mathlib.Omega.{arith}
 use borrow.Author.Needs.{needs}
-use Rattle.laws.specs.Marking.{band-low, is-part, is-whole, empty-band, joined-band, filled-band}
+use Rattle.laws.specs.Marking.{empty-band, joined-band, filled-band}
+use Rattle.laws.specs.MarkLoops.{band-low, is-part, is-whole}
 use Rattle.record.proofs.panels.mark_band.Statement.{statement}
 use Rattle.record.proofs.panels.mark_band.Tie as tie
 
