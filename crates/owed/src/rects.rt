@@ -79,7 +79,7 @@ pub fn store_rect(bytes: &mut [u8], at: usize, q: Rect)
     slices::put_bytes(bytes, at, &b);
 }
 
-// The rectangle that begins at byte `at`, joined with q, which is not empty: side by side, as a whole it would be put together for each store.
+// The rectangle that begins at byte `at`, joined with q, which is not empty. Each side is stored by itself: eight bytes put together of them cost more.
 pub fn join_rect(bytes: &mut [u8], at: usize, q: Rect)
     requires { ⌜ at + 8 ≤ length (now bytes) ⌝ }
     requires { ⌜ isEmpty q ≡ false ⌝ }
