@@ -16,7 +16,7 @@ use Rattle.model.specs.Rects.{cut, every}
 use Rattle.model.specs.Record.{panel, at, recordBytes, Pending, State, decode, encode, panelOf, nothingPending, withPanels}
 use Rattle.model.specs.Marks.{owing, owingEach}
 use Rattle.laws.specs.Tests.{tests, by-lt, all-true}
-use Rattle.laws.specs.Rects.{cut-whole}
+use Rattle.laws.specs.Rects.{rect-equal, cut-whole}
 use Rattle.laws.specs.ListLaws.{map-map, map-same, map-agree}
 use Rattle.laws.specs.Record.{Passing, encode-decode, well-sized}
 use Rattle.laws.specs.States.{well-formed}
@@ -73,6 +73,9 @@ band-low v i lo z h e = let t : suc i * v .band ≤ v .bands * v .band = mul-le-
 
 pub is-part : (v : Glass) (m : Rect) (i : ℕ) {lo hi : ℕ} {q : Rect} → Suits v → lo ≡ i * v .band → hi ≡ lo + v .band → q ≡ cut (v .width) lo hi m → q ≡ bandPart (geometry v) m i
 is-part v m i z e f g = cc (z .is-width)
+
+pub is-band : (v : Glass) (i : ℕ) {lo hi : ℕ} → Suits v → lo ≡ i * v .band → hi ≡ lo + v .band → record { left = 0; top = lo; right = v .width; bottom = hi } ≡ wholeBand (geometry v) i
+is-band v i z e f = rect-equal refl e (z .is-width) (f ∙ ap (λ (n : ℕ). n + v .band) e)
 
 -- a part is its whole band where the mark has all of it
 pub is-whole : (v : Glass) (m : Rect) (i : ℕ) {lo hi : ℕ} → Suits v → lo ≡ i * v .band → hi ≡ lo + v .band

@@ -82,12 +82,18 @@ fn mark_band(rec: &mut [u8], glass: Glass, i: usize, lo: u16, m: Rect)
     let bottom = m.bottom;
     let width = glass.width;
     let hi = lo + glass.band;
-    let q = rect::cut_rect(width, lo, hi, m);
-    if rect::is_empty(q) {
+    if (left == 0) & (width <= right) & (top <= lo) & (hi <= bottom) {
+        let whole = Rect {
+            left: 0,
+            top: lo,
+            right: width,
+            bottom: hi,
+        };
+        fill_band(rec, glass, i, whole);
         return;
     }
-    if (left == 0) & (width <= right) & (top <= lo) & (hi <= bottom) {
-        fill_band(rec, glass, i, q);
+    let q = rect::cut_rect(width, lo, hi, m);
+    if rect::is_empty(q) {
         return;
     }
     join_band(rec, glass, i, q);

@@ -1,14 +1,28 @@
--- The part is joined to what each panel is owed; where it is the whole band, that is what is stored.
+-- Where the mark has the whole band, that is stored; else its part, if there is one, is joined to what each panel is owed.
 use mathlib.Core.Path.{refl, sym, _∙_}
 use native.Mathlib.Omega.{arith}
 use borrow.Author.Needs.{needs}
 use Rattle.laws.specs.Marking.{empty-band, joined-band, filled-band}
-use Rattle.laws.specs.MarkLoops.{band-low, is-part, is-whole}
+use Rattle.laws.specs.MarkLoops.{band-low, is-part, is-band, is-whole}
 use Rattle.record.proofs.panels.mark_band.Statement.{statement}
 use Rattle.record.proofs.panels.mark_band.Tie as tie
 
 add-hi : tie.Need-add-hi
 add-hi c = let s = c .before .before in omega (arith, band-low (s .args .glass) (s .args .i) (s .args .lo) (s .pre .0 .suits) (s .pre .1 .0) (s .pre .1 .1))
+
+fill-band-requires : tie.Need-fill-band-requires
+fill-band-requires c κs = let s = c .before .before .before .before in (s .pre .0 .suits, (s .pre .0 .passing .sized, s .pre .1 .0))
+
+same-length : tie.Need-same-length
+same-length c = search needs
+
+returns : tie.Need-returns
+returns c =
+    let s = c .before .before .before .before .before .before .before in
+    let a = s .args in
+    let k = s .pre .0 in
+    let whole = is-whole (a .glass) (a .m) (a .i) (k .suits) (s .pre .1 .1) refl (c .before .before .before .before .if1 .taken) in
+    filled-band (a .glass) (a .m) (a .i) (k .passing) (s .pre .1 .0) (is-band (a .glass) (a .i) (k .suits) (s .pre .1 .1) refl ∙ sym whole) whole (c .before .before .fill-band .ensures)
 
 cut-rect-requires : tie.Need-cut-rect-requires
 cut-rect-requires c κs = search needs
@@ -16,31 +30,17 @@ cut-rect-requires c κs = search needs
 is-empty-requires : tie.Need-is-empty-requires
 is-empty-requires c κs = search needs
 
-returns : tie.Need-returns
-returns c =
-    let s = c .before .before .before .before .before in
-    let a = s .args in
-    let k = s .pre .0 in
-    empty-band (a .glass) (a .m) (a .i) (k .passing) (is-part (a .glass) (a .m) (a .i) (k .suits) (s .pre .1 .1) refl (c .before .before .cut-rect .ensures)) (c .before .is-empty .ensures) (c .if1 .taken)
-
-fill-band-requires : tie.Need-fill-band-requires
-fill-band-requires c κs = let s = c .before .before .before .before .before .before .before in (s .pre .0 .suits, (s .pre .0 .passing .sized, s .pre .1 .0))
-
-same-length : tie.Need-same-length
-same-length c = search needs
-
 returns-2 : tie.Need-returns-2
 returns-2 c =
-    let s = c .before .before .before .before .before .before .before .before .before .before in
+    let s = c .before .before .before .before .before .before in
     let a = s .args in
     let k = s .pre .0 in
-    filled-band (a .glass) (a .m) (a .i) (k .passing) (s .pre .1 .0) (is-part (a .glass) (a .m) (a .i) (k .suits) (s .pre .1 .1) refl (c .before .before .before .before .before .before .before .cut-rect .ensures))
-    (is-whole (a .glass) (a .m) (a .i) (k .suits) (s .pre .1 .1) refl (c .before .before .before .before .if2 .taken)) (c .before .before .fill-band .ensures)
+    empty-band (a .glass) (a .m) (a .i) (k .passing) (is-part (a .glass) (a .m) (a .i) (k .suits) (s .pre .1 .1) refl (c .before .before .cut-rect .ensures)) (c .before .is-empty .ensures) (c .if2 .taken)
 
 join-band-requires : tie.Need-join-band-requires
 join-band-requires c κs =
     let s = c .before .before .before .before .before .before .before in
-    (s .pre .0 .suits, ((s .pre .0 .passing .sized, s .pre .1 .0), sym (c .before .before .before .is-empty .ensures) ∙ c .before .before .if1 .left))
+    (s .pre .0 .suits, ((s .pre .0 .passing .sized, s .pre .1 .0), sym (c .before .before .is-empty .ensures) ∙ c .before .if2 .left))
 
 same-length-2 : tie.Need-same-length-2
 same-length-2 c = search needs
@@ -50,9 +50,9 @@ returns-3 c =
     let s = c .before .before .before .before .before .before .before .before .before .before in
     let a = s .args in
     let k = s .pre .0 in
-    joined-band (a .glass) (a .m) (a .i) (k .passing) (s .pre .1 .0) (is-part (a .glass) (a .m) (a .i) (k .suits) (s .pre .1 .1) refl (c .before .before .before .before .before .before .before .cut-rect .ensures)) (c .before .before .join-band .ensures)
+    joined-band (a .glass) (a .m) (a .i) (k .passing) (s .pre .1 .0) (is-part (a .glass) (a .m) (a .i) (k .suits) (s .pre .1 .1) refl (c .before .before .before .before .before .before .cut-rect .ensures)) (c .before .before .join-band .ensures)
 
 pub mark-band-spec : {M : Type 1} → statement M
 mark-band-spec =
     tie.close
-    (tie.spec add-hi cut-rect-requires is-empty-requires returns fill-band-requires same-length returns-2 join-band-requires same-length-2 returns-3)
+    (tie.spec add-hi fill-band-requires same-length returns cut-rect-requires is-empty-requires returns-2 join-band-requires same-length-2 returns-3)
