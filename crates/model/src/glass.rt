@@ -58,9 +58,6 @@ pub const RECIPROCAL_MASK: usize = 262143;
 // The head of the record, the same for every glass: the first panel's part follows it.
 pub const HEAD_BYTES: usize = 18;
 
-// Where dirty begins in it.
-pub const DIRTY_AT: usize = 10;
-
 // The lines of a glyph, as a coordinate and as a count.
 pub const GLYPH_HEIGHT: u8 = 16;
 

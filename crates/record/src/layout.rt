@@ -1,7 +1,6 @@
 // The head, the keys and the edge flag in lent bytes, least byte first.
 use marks::rect;
 use model::Head;
-use model::glass::DIRTY_AT;
 use model::glass::HEAD_BYTES;
 use owed::rects;
 ghost use mathlib.Core.Path.{_≡_};
@@ -26,7 +25,7 @@ pub fn load_head(rec: &[u8]) -> Head
         print: rec[7],
         cursor: rec[8],
         version: rec[9],
-        dirty: rects::load_rect(rec, DIRTY_AT),
+        dirty: rects::load_rect(rec, 10),
     }
 }
 

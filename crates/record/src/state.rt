@@ -1,7 +1,7 @@
 // STATE: what every part of a record must be, for the glass that is told.
 use crate::panels;
+use marks::rect;
 use model::Head;
-use model::glass::DIRTY_AT;
 use model::glass::Glass;
 use owed::bands;
 use owed::rects;
@@ -23,12 +23,11 @@ pub fn windows_fit(glass: Glass, graphics: u16, text: u16) -> bool
             | ((text as usize) + glass.cells <= (graphics as usize)))
 }
 
-// The head h of the record; dirty is tested on the bytes.
-fn head_fits(rec: &[u8], glass: Glass, h: Head) -> bool
+fn head_fits(glass: Glass, h: Head) -> bool
     requires { ⌜ Suits glass ⌝ }
-    requires { ⌜ (length (now rec) ≡ recordBytes (geometry glass)) × (h ≡ headOf (now rec)) ⌝ }
     ensures { λ r. ⌜ r ≡ headFits (geometry glass) h ⌝ }
 {
+    let dirty = h.dirty;
     windows_fit(glass, h.graphics, h.text)
         & ((h.row as usize) < glass.rows)
         & ((h.column as usize) < glass.columns)
@@ -36,7 +35,7 @@ fn head_fits(rec: &[u8], glass: Glass, h: Head) -> bool
         & (h.print <= 2)
         & (h.cursor <= 2)
         & (h.version <= 1)
-        & rects::rect_fits(rec, DIRTY_AT, 256, 0, 256)
+        & rect::rect_fits(256, 0, 256, dirty)
 }
 
 // Whether an edge flag is listed.
@@ -84,7 +83,7 @@ pub fn is_valid(rec: &[u8], glass: Glass, h: Head) -> bool
     let from = glass.flags;
     let to = glass.others;
     let at = glass.edge;
-    if !head_fits(rec, glass, h) {
+    if !head_fits(glass, h) {
         return false;
     }
     if !edge_fits(rec[at]) {
