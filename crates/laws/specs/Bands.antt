@@ -4,12 +4,11 @@ use mathlib.Core.Path.{_≡_, refl, ap, _∙_}
 use mathlib.Core.Logic.{_⊎_, inl, inr, _↔_}
 use mathlib.Core.Bool.{true, false, _&&_}
 use mathlib.Core.List.{List, [], _∷_}
-use Prim.Native.Nat.{ℕ, zero, suc, _+_, _-_, _*_, _/_, _≤_, _<_, min}
+use Prim.Native.Nat.{ℕ, zero, suc, _+_, _-_, _*_, _/_, _≤_, _<_}
 use native.Mathlib.Nat.{div-mul-le-self, div-lt-iff-lt-mul, lt-div-mul-add}
 use native.Mathlib.Omega.{arith}
 use lib.ListN.{length, getD, replicate, length-replicate}
 use lib.Dec.{ltb}
-use borrow.Author.Tests.{le-ltb}
 use Rattle.model.specs.declared.Rect.{Rect}
 use Rattle.model.specs.Rects.{none, In, isEmpty, join, cut, linesOf, fits}
 use Rattle.model.specs.Marks.{joinOwed, whole, owing}
@@ -19,7 +18,7 @@ use Rattle.model.specs.Geometry.{Geometry, width, height}
 use Rattle.model.specs.Record.{Pending, nothingPending, bandsFit, pendingFits, WellPending}
 use Rattle.model.specs.Open.{openPending}
 use Rattle.laws.specs.Tests.{if-cases, clash, by-test, either, tests, and-true}
-use Rattle.laws.specs.Rects.{Fits, join-none, empty-none, is-some, not-in-none, in-not-none, join-left, join-right, join-fits, cut-fits, cut-in, Proper, fits-passes, passes-fits}
+use Rattle.laws.specs.Rects.{Fits, join-none, empty-none, is-some, not-in-none, in-not-none, join-left, join-right, join-fits, cut-fits, cut-outside, cut-in, Proper, fits-passes, passes-fits}
 
 -- each rectangle lies in its band, of b lines, the first from line lo
 abbrev pub BandsFit : ℕ → ℕ → ℕ → List Rect → Type 0
@@ -84,6 +83,25 @@ unfolding owedLines
 owedLines-le w b lo [] f = omega arith
 owedLines-le w b lo (r ∷ rs) f = let l = owedLines-le w b (lo + b) rs (f .1) in either (f .0) (λ e. omega (arith, ap linesOf e)) (λ p. omega arith)
 
+-- a mark that ends above the bands leaves them
+joinOwed-outside : (w b lo : ℕ) (m : Rect) (rs : List Rect) → m .bottom ≤ lo → joinOwed w b lo m rs ≡ rs
+unfolding joinOwed
+joinOwed-outside w b lo m [] h = refl
+joinOwed-outside w b lo m (r ∷ rs) h = cc (cut-outside w lo (lo + b) m (inr h), join-none r, joinOwed-outside w b (lo + b) m rs (omega arith))
+
+-- one within band i adds that band's lines at most
+joinOwed-adds : (w b lo : ℕ) (m : Rect) (rs : List Rect) (i : ℕ) → BandsFit w b lo rs → lo + i * b ≤ m .top → m .bottom ≤ lo + i * b + b
+    → owedLines (joinOwed w b lo m rs) ≤ owedLines rs + b
+unfolding joinOwed owedLines
+joinOwed-adds w b lo m [] i f t h = omega arith
+joinOwed-adds w b lo m (r ∷ rs) zero f t h =
+    let j = join r (cut w lo (lo + b) m) in
+    let low : linesOf j ≤ b = either (join-fits w lo (lo + b) r (cut w lo (lo + b) m) (f .0) (cut-fits w lo (lo + b) m)) (λ e. omega (arith, ap linesOf e)) (λ p. omega arith) in
+    omega (arith, ap owedLines (joinOwed-outside w b (lo + b) m rs (omega arith)))
+joinOwed-adds w b lo m (r ∷ rs) (suc i) f t h =
+    let same : linesOf (join r (cut w lo (lo + b) m)) ≡ linesOf r = cc (cut-outside w lo (lo + b) m (inl (omega arith)), join-none r) in
+    omega (arith, joinOwed-adds w b (lo + b) m rs i (f .1) (omega arith) (omega arith))
+
 -- ---- the first taken
 
 -- q is taken and qs is left: q is empty, or a rectangle of the screen no higher than a band, and its lines are taken from the sum
@@ -130,9 +148,7 @@ first-none (r ∷ rs) t =
 -- ---- an empty mark adds nothing
 
 pub joinOwed-none : (w b lo : ℕ) (rs : List Rect) → joinOwed w b lo none rs ≡ rs
-unfolding joinOwed cut
-joinOwed-none w b lo [] = refl
-joinOwed-none w b lo (r ∷ rs) = rw (le-ltb 0 (min 0 w) (omega arith)) (cc (join-none r, joinOwed-none w b (lo + b) rs))
+joinOwed-none w b lo rs = joinOwed-outside w b lo none rs (omega arith)
 
 -- ---- what STATE asks of a panel's owed and in hand, as facts
 
@@ -169,6 +185,11 @@ unfolding owing
 well-owing g m p w =
     well-pending g (owing g m p) (length-joinOwed (width g) (g .band) 0 m (p .owed) ∙ w .bands)
     (joinOwed-fits (width g) (g .band) 0 m (p .owed) (owed-fits g p w)) (hand-fits g p w) (w .counted)
+
+-- a mark within one band adds that band's lines to those that are left, at most
+pub owing-adds : (g : Geometry) (m : Rect) (i : ℕ) (p : Pending) → WellPending g p → i * g .band ≤ m .top → m .bottom ≤ i * g .band + g .band → linesLeft (owing g m p) ≤ linesLeft p + g .band
+unfolding owing linesLeft
+owing-adds g m i p w t h = omega (arith, joinOwed-adds (width g) (g .band) 0 m (p .owed) i (owed-fits g p w) (omega arith) (omega arith))
 
 bands-none : (w b lo n : ℕ) → BandsFit w b lo (replicate n none)
 bands-none w b lo zero = tt

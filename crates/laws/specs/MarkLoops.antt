@@ -1,6 +1,6 @@
 -- The loops that mark the panels, with the glass by value: over the panels in one band, and over the bands.
 use mathlib.Core.Path.{_≡_, refl, sym, ap, _∙_}
-use mathlib.Core.Bool.{true}
+use mathlib.Core.Bool.{true, false}
 use mathlib.Core.List.{List, [], _∷_, map}
 use Prim.Native.Nat.{ℕ, suc, _+_, _-_, _*_, _/_, _<_, _≤_, min}
 use native.Mathlib.Nat.{div-mul-le-self, mul-le-mul-right, lt-of-mul-lt-mul-right}
@@ -12,11 +12,11 @@ use Rattle.model.specs.declared.Rect.{Rect}
 use Rattle.model.specs.declared.glass.Glass.{Glass}
 use Rattle.model.specs.Geometry.{Geometry, width}
 use Rattle.model.specs.Glass.{geometry, Suits}
-use Rattle.model.specs.Rects.{cut, every}
+use Rattle.model.specs.Rects.{isEmpty, cut, every}
 use Rattle.model.specs.Record.{panel, at, recordBytes, Pending, State, decode, encode, panelOf, nothingPending, withPanels}
 use Rattle.model.specs.Marks.{owing, owingEach}
 use Rattle.laws.specs.Tests.{tests, by-lt, all-true}
-use Rattle.laws.specs.Rects.{rect-equal, cut-whole}
+use Rattle.laws.specs.Rects.{rect-equal, in-not-none, cut-whole}
 use Rattle.laws.specs.ListLaws.{map-map, map-same, map-agree}
 use Rattle.laws.specs.Record.{Passing, encode-decode, well-sized}
 use Rattle.laws.specs.States.{well-formed}
@@ -27,29 +27,29 @@ use Rattle.laws.specs.Marking.{eachFrom, BandMarked, skip-above, skip-be
 
 -- ---- the loop over the panels, in one band: those from k on are to come
 
-pub record Joining (v : Glass) (i : ℕ) (f : ℕ → List ℕ → List ℕ) (r₀ r : List ℕ) (panels k : ℕ) : Type 0 where
+pub record Owing (v : Glass) (i : ℕ) (f : ℕ → List ℕ → List ℕ) (r₀ r : List ℕ) (panels k : ℕ) : Type 0 where
   pub counted : panels ≡ v .panels
   pub some : k ≤ panels
   pub sized : length r ≡ length r₀
   pub same : eachFrom (geometry v) i f k (panels - k) r ≡ eachFrom (geometry v) i f 0 (v .panels) r₀
 
-pub join-room : {v : Glass} (r : List ℕ) {i k a : ℕ} → Suits v → length r ≡ recordBytes (geometry v) → i < v .bands → k < v .panels → a ≡ at (geometry v) (panel k)
+pub owe-room : {v : Glass} (r : List ℕ) {i k a : ℕ} → Suits v → length r ≡ recordBytes (geometry v) → i < v .bands → k < v .panels → a ≡ at (geometry v) (panel k)
     → a + 8 * i + 8 ≤ length r
-join-room {v} r {k = k} z n h j e = let p = panel-room v k z j in omega arith
+owe-room {v} r {k = k} z n h j e = let p = panel-room v k z j in omega arith
 
-pub join-starts : (v : Glass) (i : ℕ) (f : ℕ → List ℕ → List ℕ) (r : List ℕ) (panels : ℕ) → panels ≡ v .panels → Joining v i f r r panels 0
-join-starts v i f r panels c = let e : panels - 0 ≡ v .panels = omega arith in record { counted = c; some = omega arith; sized = refl; same = rw e refl }
+pub owe-starts : (v : Glass) (i : ℕ) (f : ℕ → List ℕ → List ℕ) (r : List ℕ) (panels : ℕ) → panels ≡ v .panels → Owing v i f r r panels 0
+owe-starts v i f r panels c = let e : panels - 0 ≡ v .panels = omega arith in record { counted = c; some = omega arith; sized = refl; same = rw e refl }
 
-pub join-goes : {v : Glass} {i : ℕ} {f : ℕ → List ℕ → List ℕ} {r₀ r : List ℕ} {panels k a c : ℕ} {r′ : List ℕ} → Joining v i f r₀ r panels k → k < panels → length r′ ≡ length r
-    → a ≡ at (geometry v) (panel k) → c ≡ a + 8 * i → r′ ≡ f c r → Joining v i f r₀ r′ panels (k + 1)
+pub owe-goes : {v : Glass} {i : ℕ} {f : ℕ → List ℕ → List ℕ} {r₀ r : List ℕ} {panels k a c : ℕ} {r′ : List ℕ} → Owing v i f r₀ r panels k → k < panels → length r′ ≡ length r
+    → a ≡ at (geometry v) (panel k) → c ≡ a + 8 * i → r′ ≡ f c r → Owing v i f r₀ r′ panels (k + 1)
 unfolding eachFrom
-join-goes {panels = panels} {k} j h n e b f =
+owe-goes {panels = panels} {k} j h n e b f =
     let left : panels - k ≡ suc (panels - (k + 1)) = omega arith in
     record { counted = j .counted; some = omega arith; sized = n ∙ j .sized; same = cc (add-one k) }
 
-pub join-ends : {v : Glass} {i : ℕ} {f : ℕ → List ℕ → List ℕ} {r₀ r : List ℕ} {panels k : ℕ} → Joining v i f r₀ r panels k → panels ≤ k → r ≡ eachFrom (geometry v) i f 0 (v .panels) r₀
+pub owe-ends : {v : Glass} {i : ℕ} {f : ℕ → List ℕ → List ℕ} {r₀ r : List ℕ} {panels k : ℕ} → Owing v i f r₀ r panels k → panels ≤ k → r ≡ eachFrom (geometry v) i f 0 (v .panels) r₀
 unfolding eachFrom
-join-ends {panels = panels} {k} j h = let z : panels - k ≡ 0 = omega arith in cc
+owe-ends {panels = panels} {k} j h = let z : panels - k ≡ 0 = omega arith in cc
 
 -- ---- the loop over the bands: the one from line lo on, band i, is the next
 
@@ -76,6 +76,10 @@ is-part v m i z e f g = cc (z .is-width)
 
 pub is-band : (v : Glass) (i : ℕ) {lo hi : ℕ} → Suits v → lo ≡ i * v .band → hi ≡ lo + v .band → record { left = 0; top = lo; right = v .width; bottom = hi } ≡ wholeBand (geometry v) i
 is-band v i z e f = rect-equal refl e (z .is-width) (f ∙ ap (λ (n : ℕ). n + v .band) e)
+
+-- and has a pixel
+pub band-full : (v : Glass) (lo : ℕ) {hi : ℕ} → Suits v → hi ≡ lo + v .band → isEmpty (record { left = 0; top = lo; right = v .width; bottom = hi }) ≡ false
+band-full v lo {hi} z e = in-not-none (record { left = 0; top = lo; right = v .width; bottom = hi }) 0 lo (omega (arith, z .is-width, z .glass .columns, glass-band v z))
 
 -- a part is its whole band where the mark has all of it
 pub is-whole : (v : Glass) (m : Rect) (i : ℕ) {lo hi : ℕ} → Suits v → lo ≡ i * v .band → hi ≡ lo + v .band

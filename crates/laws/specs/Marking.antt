@@ -1,9 +1,9 @@
 -- A mark on the bytes of a record: band after band, its part there joined to what each panel is owed; and the state that these bytes mean.
 use mathlib.Core.Path.{_≡_, refl, sym, ap, _∙_}
 use mathlib.Core.Logic.{_⊎_, inl, inr}
-use mathlib.Core.Bool.{Bool, true}
+use mathlib.Core.Bool.{Bool, true, false}
 use mathlib.Core.List.{List, [], _∷_, _++_, append-assoc, map}
-use Prim.Native.Nat.{ℕ, zero, suc, _+_, _-_, _*_, _<_, _≤_}
+use Prim.Native.Nat.{ℕ, zero, suc, _+_, _*_, _<_, _≤_}
 use native.Mathlib.Nat.{mul-le-mul-right}
 use native.Mathlib.Omega.{arith}
 use lib.ListN.{length, getD, set, drop, take-append-drop, length-set, length-append, length-map}
@@ -12,8 +12,8 @@ use Rattle.model.specs.declared.Rect.{Rect}
 use Rattle.model.specs.declared.glass.Glass.{Glass}
 use Rattle.model.specs.Geometry.{Geometry, width}
 use Rattle.model.specs.Glass.{geometry, IsGlass}
-use Rattle.model.specs.Memory.{window, withWindow}
-use Rattle.model.specs.Rects.{none, isEmpty, join, every}
+use Rattle.model.specs.Memory.{window}
+use Rattle.model.specs.Rects.{none, isEmpty, join}
 use Rattle.model.specs.Bytes.{rectAt, rectsAt, rectBytes, rectsBytes, fourBytes}
 use Rattle.model.specs.Record.{panel, at, pendingBytes, bytesOfPending, Pending, State, decode, encode, partBytes, panelOf, nothingPending, withPanel, withPanels, WellPending, WellFormed}
 use Rattle.laws.specs.Rects.{empty-none, cut-outside, join-none}
@@ -24,7 +24,7 @@ use Rattle.laws.specs.Record.{Passing, Sized, sizes, length-encode, owed
 use Rattle.laws.specs.States.{well-formed, encode-passing}
 use Rattle.laws.specs.Bands.{band-some}
 use Rattle.laws.specs.BandParts.{bandPart, owingIn, well-in, wholeBand, join-band, owingFrom}
-use Rattle.laws.specs.Owed.{joinedAt}
+use Rattle.laws.specs.Owed.{joinedAt, owedAt}
 
 -- ---- on the bytes
 
@@ -32,10 +32,6 @@ use Rattle.laws.specs.Owed.{joinedAt}
 unfoldable pub eachFrom : Geometry → ℕ → (ℕ → List ℕ → List ℕ) → ℕ → ℕ → List ℕ → List ℕ
 eachFrom g i f k zero r = r
 eachFrom g i f k (suc n) r = eachFrom g i f (suc k) n (f (at g (panel k) + 8 * i) r)
-
--- a rectangle stored, whatever stands there
-abbrev pub storedAt : ℕ → Rect → List ℕ → List ℕ
-storedAt a q r = withWindow a (rectBytes q) r
 
 -- ---- one band of one panel
 
@@ -58,8 +54,8 @@ module _ (g : Geometry) (m : Rect) (i : ℕ) (j : i < g .bands) (s : State) (z :
       let owed : rectsAt (g .bands) r a ≡ p .owed = cc (rects-from r a (g .bands), owed-back g p (t ++ rest) l b) in
       cc (rect-of (g .bands) r a i j)
 
-  mark-panel : joinedAt place (bandPart g m i) (encode g s) ≡ encode g (withPanel k (owingIn g m i (panelOf g s k)) s)
-  unfolding joinedAt owingIn partBytes
+  mark-panel : owedAt false place (bandPart g m i) (encode g s) ≡ encode g (withPanel k (owingIn g m i (panelOf g s k)) s)
+  unfolding owedAt joinedAt owingIn partBytes
   mark-panel =
       let a = at g (panel k) in
       let r = encode g s in
@@ -77,10 +73,14 @@ module _ (g : Geometry) (m : Rect) (i : ℕ) (j : i < g .bands) (s : State) (z :
       )
 
   -- where the mark has the whole band, its part is what is owed then
-  fill-panel : bandPart g m i ≡ wholeBand g i → storedAt place (bandPart g m i) (encode g s) ≡ encode g (withPanel k (owingIn g m i (panelOf g s k)) s)
-  unfolding joinedAt
+  fill-panel : bandPart g m i ≡ wholeBand g i → owedAt true place (bandPart g m i) (encode g s) ≡ encode g (withPanel k (owingIn g m i (panelOf g s k)) s)
+  unfolding owedAt joinedAt
   fill-panel e =
       cc (stands, join-band g i (omega (arith, l .columns)) (band-some (g .bands) (g .band) 0 (omega (arith, l .row, l .filled))) j (panelOf g s k) b, mark-panel)
+
+  owe-panel : (whole : Bool) → (whole ≡ true → bandPart g m i ≡ wholeBand g i) → owedAt whole place (bandPart g m i) (encode g s) ≡ encode g (withPanel k (owingIn g m i (panelOf g s k)) s)
+  owe-panel true w = fill-panel (w refl)
+  owe-panel false w = mark-panel
 
 -- ---- one band of each panel: those of a are done, those of b are to come
 
@@ -171,17 +171,10 @@ module _ (v : Glass) (m : Rect) (i : ℕ) {r r′ : List ℕ} (p : Passing (geom
       record { passing = rw e (encode-passing g (p .glass) (withPanels (map (owingIn g m i) (s .panels)) s) w); state = ap (decode g) e ∙ decode-encode g (withPanels (map (owingIn g m i) (s .panels)) s) (p .glass) w }
 
   -- joined, or stored where it is the whole band
-  pub joined-band : {q : Rect} → q ≡ bandPart (geometry v) m i → r′ ≡ eachFrom (geometry v) i (λ a. joinedAt a q) 0 (v .panels) r → BandMarked (geometry v) m i r r′
-  joined-band e f =
+  pub owed-band : (whole : Bool) {q : Rect} → (whole ≡ true → bandPart (geometry v) m i ≡ wholeBand (geometry v) i) → q ≡ bandPart (geometry v) m i
+      → r′ ≡ eachFrom (geometry v) i (λ a. owedAt whole a q) 0 (v .panels) r → BandMarked (geometry v) m i r r′
+  owed-band whole w e f =
       let g = geometry v in
       let part = bandPart g m i in
-      was-marked (f ∙ ap (λ (x : Rect). eachFrom g i (λ a. joinedAt a x) 0 (v .panels) r) e ∙ ap (eachFrom g i (λ a. joinedAt a part) 0 (v .panels)) (sym (encode-decode g r p))
-      ∙ band-marked g m i j (p .glass) (λ a. joinedAt a part) (λ s z c k h b. mark-panel g m i j s z c (p .glass) k h b) (decode g r) (well-formed g r p))
-
-  pub filled-band : {q : Rect} → q ≡ bandPart (geometry v) m i → bandPart (geometry v) m i ≡ wholeBand (geometry v) i → r′ ≡ eachFrom (geometry v) i (λ a. storedAt a q) 0 (v .panels) r
-      → BandMarked (geometry v) m i r r′
-  filled-band e w f =
-      let g = geometry v in
-      let part = bandPart g m i in
-      was-marked (f ∙ ap (λ (x : Rect). eachFrom g i (λ a. storedAt a x) 0 (v .panels) r) e ∙ ap (eachFrom g i (λ a. storedAt a part) 0 (v .panels)) (sym (encode-decode g r p))
-      ∙ band-marked g m i j (p .glass) (λ a. storedAt a part) (λ s z c k h b. fill-panel g m i j s z c (p .glass) k h b w) (decode g r) (well-formed g r p))
+      was-marked (f ∙ ap (λ (x : Rect). eachFrom g i (λ a. owedAt whole a x) 0 (v .panels) r) e ∙ ap (eachFrom g i (λ a. owedAt whole a part) 0 (v .panels)) (sym (encode-decode g r p))
+      ∙ band-marked g m i j (p .glass) (λ a. owedAt whole a part) (λ s z c k h b. owe-panel g m i j s z c (p .glass) k h b whole w) (decode g r) (well-formed g r p))

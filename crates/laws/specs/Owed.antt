@@ -1,7 +1,7 @@
 -- The owed rectangles on the bytes: one joined with a mark's part; band after band, the first taken from them, and the test of them. In these two loops what is left, done to what
 -- stands, gives the whole.
 use mathlib.Core.Path.{_≡_, refl, sym, ap, _∙_}
-use mathlib.Core.Bool.{Bool, true, false, not, _&&_}
+use mathlib.Core.Bool.{Bool, true, false, cond, not, _&&_}
 use mathlib.Core.List.{List, [], _∷_, _++_, append-assoc}
 use Prim.Native.Nat.{ℕ, zero, suc, _+_, _-_, _*_, _<_, _≤_, min, max}
 use native.Mathlib.Omega.{arith}
@@ -79,7 +79,19 @@ is-clear r a =
 unfoldable pub joinedAt : ℕ → Rect → List ℕ → List ℕ
 joinedAt a q r = withWindow a (rectBytes (join (rectAt r a) q)) r
 
--- where nothing stands it is stored
+-- or stored over it, where it is a whole band
+unfoldable pub owedAt : Bool → ℕ → Rect → List ℕ → List ℕ
+owedAt whole a q r = cond whole (withWindow a (rectBytes q) r) (joinedAt a q r)
+
+pub owes-whole : (a : ℕ) (q : Rect) (r : List ℕ) {t : Bool} {r′ : List ℕ} → t ≡ true → r′ ≡ withWindow a (rectBytes q) r → r′ ≡ owedAt t a q r
+unfolding owedAt
+owes-whole a q r e f = rw e f
+
+pub owes-part : (a : ℕ) (q : Rect) (r : List ℕ) {t : Bool} {r′ : List ℕ} → t ≡ false → r′ ≡ joinedAt a q r → r′ ≡ owedAt t a q r
+unfolding owedAt
+owes-part a q r e f = rw e f
+
+-- where nothing stands a join stores it
 pub joins-clear : (a : ℕ) (q : Rect) (r : List ℕ) {t : Bool} {r′ : List ℕ} → t ≡ isEmpty (rectAt r a) → t ≡ true → r′ ≡ withWindow a (rectBytes q) r → r′ ≡ joinedAt a q r
 unfolding joinedAt
 joins-clear a q r e f g = cc (is-join-right (rectAt r a) q e f)

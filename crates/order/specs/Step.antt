@@ -1,10 +1,10 @@
 -- What each accepted call is to show: it leaves bytes that can be lent again, and the state of a panel follows by its effect. First, which states stay well formed.
 use mathlib.Core.Path.{_≡_, refl, _∙_}
 use mathlib.Core.Bool.{Bool, true}
-use mathlib.Core.List.{List, [], _∷_, map}
+use mathlib.Core.List.{List, [], _∷_}
 use Prim.Native.Nat.{ℕ, zero, suc, _+_, _≤_, _<_}
 use native.Mathlib.Omega.{arith}
-use lib.ListN.{length, getD, set, length-map, length-set}
+use lib.ListN.{length, getD, set, length-set}
 use lib.Seq.{getD-set-same, getD-set-other}
 use Rattle.model.specs.declared.Rect.{Rect}
 use Rattle.model.specs.declared.Head.{Head}
@@ -13,7 +13,7 @@ use Rattle.model.specs.Glass.{IsGlass}
 use Rattle.model.specs.Rects.{every}
 use Rattle.model.specs.Memory.{screenOf, withScreen}
 use Rattle.model.specs.Record.{Pending, State, nothingPending, panelOf, headTests, headFits, decode, encode, withHead, withPanels, withPanel, withFlags, WellPending, WellFormed}
-use Rattle.model.specs.Marks.{updateDirty, owing, marked}
+use Rattle.model.specs.Marks.{updateDirty, owing, owingEach, marked}
 use Rattle.model.specs.Calls.{Lent, lent, changed}
 use Rattle.model.specs.Lists.{Effect, nothing, marks, affected, edgeAfter}
 use Rattle.laws.specs.Tests.{by-eq, AllTrue, all-true, true-all}
@@ -24,6 +24,7 @@ use Rattle.laws.specs.Writes.{AgreeOutside}
 use Rattle.laws.specs.Record.{Passing, head-tells, decode-encode}
 use Rattle.laws.specs.States.{well-formed, encode-passing}
 use Rattle.laws.specs.Bands.{well-owing}
+use Rattle.laws.specs.Marking.{each-formed}
 use Rattle.order.specs.Held.{PanelState, Follows}
 
 -- ---- a head that passes STATE
@@ -64,9 +65,7 @@ module _ (g : Geometry) (s : State) (w : WellFormed g s) where
 pub marked-formed : (g : Geometry) (dirty owed : Rect) (s : State) → Fits 256 0 256 dirty → WellFormed g s → WellFormed g (marked g dirty owed s)
 unfolding marked updateDirty headFits
 marked-formed g dirty owed s d w =
-    head-formed g (withPanels (map (owing g owed) (s .panels)) s)
-    (panels-formed g s w (map (owing g owed) (s .panels)) (length-map (s .panels) (owing g owed) ∙ w .count)
-    (λ k h. rw (getD-map (owing g owed) (s .panels) k (nothingPending g) (omega (arith, w .count))) (well-owing g owed (panelOf g s k) (w .panels k h))))
+    head-formed g (owingEach g owed s) (each-formed g (owing g owed) s (well-owing g owed) w)
     (updateDirty dirty (s .head))
     (still-fits g (s .head) (w .head) 7
     (fits-passes 256 0 256 _ (join-fits 256 0 256 (s .head .dirty) dirty (passes-fits 256 0 256 (s .head .dirty) (head-tells g (s .head) (w .head) .dirty)) d)))

@@ -1,20 +1,19 @@
 -- Calls in any order: what is promised of panel k, of the record, the memory and its buffer, after an accepted open and every list of calls.
--- Call, takes and outcome stand in crates/model/specs/Calls.antt; Buffers, Item, lentTo, run, reckoned, lastEdge, linesLeft, Differs and differing in Lists.antt there;
+-- Call, takes and outcome stand in crates/model/specs/Calls.antt; Buffers, Item, lentTo, run, reckoned, lastEdge, linesLeft, ownBand, Differs and differing in Lists.antt there;
 -- acceptedCalls, leftBy and named in Accepted.antt here. docs/THEOREM.md says it in words.
 use mathlib.Core.Path.{_≡_}
 use mathlib.Core.Logic.{_⊎_, _↔_}
 use mathlib.Core.Bool.{true}
 use mathlib.Core.List.{List, [], _∷_, map}
-use Prim.Native.Nat.{ℕ, _-_, _/_, _≤_, _<_}
+use Prim.Native.Nat.{ℕ, _-_, _≤_, _<_}
 use native.Mathlib.Omega.{arith}
 use lib.ListN.{length, getD, replicate}
 use Rattle.model.specs.Geometry.{base}
 use Rattle.model.specs.Memory.{screenOf}
-use Rattle.model.specs.declared.Rect.{Rect}
-use Rattle.model.specs.Rects.{none, In}
+use Rattle.model.specs.Rects.{In}
 use Rattle.model.specs.Record.{Pending, nothingPending, panelOf, decode, total, valid}
 use Rattle.model.specs.Calls.{opening, send, lent, outcome}
-use Rattle.model.specs.Lists.{accepted, Typed, Item, here, Buffers, buffers, panelBuffer, lentToSend, run, reckoned, lastEdge, linesLeft, Differs, differing}
+use Rattle.model.specs.Lists.{accepted, Typed, Item, here, Buffers, buffers, panelBuffer, lentToSend, run, reckoned, lastEdge, linesLeft, ownBand, Differs, differing}
 use Rattle.laws.specs.Glasses.{base-glass}
 use Rattle.order.specs.Accepted.{acceptedCalls, leftBy, named, named-row, left-run}
 use Rattle.order.specs.Order.{standing-run, standing-opened, edge-opened, sendable, bound, idle, lines-more, level, row-of-sends}
@@ -22,10 +21,6 @@ use Rattle.order.specs.Order.{standing-run, standing-opened, edge-opened
 -- owed, in hand and lines sent of panel k as the record has them
 abbrev pub pendingIn : ℕ → Buffers → Pending
 pendingIn k b = panelOf base (decode base (b .rec)) k
-
--- what band i owes to panel k
-abbrev pub owedIn : ℕ → Buffers → ℕ → Rect
-owedIn k b i = getD (pendingIn k b .owed) i none
 
 -- its L
 abbrev pub linesIn : ℕ → Buffers → ℕ
@@ -53,7 +48,7 @@ pub record Promised (k : ℕ) (start : Buffers) (items : List (Item base)) (b : 
   -- L is at most 95
   pub bound : linesIn k b ≤ 95
   -- a pixel that differs on screen and panel lies in hand or in what its own band owes
-  pub places : (x y : ℕ) → x < 160 → y < 80 → Differs base (screenIn b) (panelBuffer k b) x y → In (pendingIn k b .hand) x y ⊎ In (owedIn k b (y / 16)) x y
+  pub places : (x y : ℕ) → x < 160 → y < 80 → Differs base (screenIn b) (panelBuffer k b) x y → In (pendingIn k b .hand) x y ⊎ In (ownBand base (pendingIn k b .owed) y) x y
   -- refused calls and accepted sends to the panels js may follow, in any order: the first that names k is done, and answers idle, which is four zeros, exactly
   -- when L is 0 ..
   pub idle : (more : List (Item base)) (js : List ℕ) → acceptedCalls base b more ≡ map send js → named k js ≡ 0

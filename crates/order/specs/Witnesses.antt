@@ -2,10 +2,9 @@
 -- buffers, sends to any of them in any order are a list of the kind that may follow, after which one panel is level and another is not. And what the bands are for:
 -- marks in the first text row and in the last owe the lines of two bands.
 use mathlib.Core.Path.{_≡_, refl, ap, _∙_}
-use mathlib.Core.Logic.{inl, inr}
 use mathlib.Core.Bool.{true}
 use mathlib.Core.List.{List, [], _∷_, map}
-use Prim.Native.Nat.{ℕ, zero, suc, _-_, _≤_, _<_}
+use Prim.Native.Nat.{ℕ, zero, suc, _≤_, _<_}
 use native.Mathlib.Omega.{arith}
 use lib.ListN.{length, getD, replicate, length-replicate, getD-replicate}
 use borrow.Author.Tests.{eq-eqb}
@@ -13,8 +12,8 @@ use Rattle.model.specs.Geometry.{base}
 use Rattle.model.specs.Bits.{bitAt}
 use Rattle.model.specs.Memory.{window, zeros, screenOf}
 use Rattle.model.specs.declared.Rect.{Rect}
-use Rattle.model.specs.Rects.{none, linesOf, isEmpty, join, cut}
-use Rattle.model.specs.Record.{Pending, nothingPending, decode, windows, edgeFits, total}
+use Rattle.model.specs.Rects.{isEmpty, join, cut}
+use Rattle.model.specs.Record.{Pending, nothingPending, decode, windows, edgeFits, total, WellPending}
 use Rattle.model.specs.Refusals.{refusal, ruled}
 use Rattle.model.specs.Marks.{owing, joinOwed}
 use Rattle.model.specs.Open.{isKey, withKeys, clearMemory, openPending, openState}
@@ -23,8 +22,7 @@ use Rattle.model.specs.Calls.{Call, opening, reset, cls, send, lent, answered, 
 use Rattle.model.specs.Lists.{accepted, Typed, Item, here, Buffers, buffers, panelBuffer, lentTo, givenBack, leaves, after, run, effect, affected, effectAt, itemEffect, reckoned, edgeAfter, lastEdge, owedLines, linesLeft, differs, sum, differing}
 use Rattle.model.specs.Script.Output.{noKeys}
 use Rattle.laws.specs.Glasses.{base-glass}
-use Rattle.laws.specs.Tests.{either}
-use Rattle.laws.specs.Rects.{join-none, none-join, cut-fits, cut-outside}
+use Rattle.laws.specs.Bands.{well-owing, owing-adds}
 use Rattle.laws.specs.Loops.{length-zeros}
 use Rattle.laws.specs.Calls.{own-decide}
 use Rattle.laws.specs.Record.{decode-encode}
@@ -148,19 +146,9 @@ module _ (graphics text version : ℕ) (keys : List ℕ) (edge : ℕ) (t : Typed
 
 -- ---- what the bands are for
 
-lines-cut : (w lo hi : ℕ) (m : Rect) → linesOf (cut w lo hi m) ≤ hi - lo
-lines-cut w lo hi m = either (cut-fits w lo hi m) (λ e. rw e (omega arith)) (λ p. omega arith)
-
 -- a level panel, a mark in the first text row and one in the last, a cursor and a clock: their two bands' lines at most
-pub cursor-and-clock : (m n : Rect) → m .bottom ≤ 16 → 64 ≤ n .top → linesLeft (owing base n (owing base m (nothingPending base))) ≤ 32
-unfolding linesLeft owedLines owing joinOwed nothingPending
-cursor-and-clock m n a b =
-    let first : join (join none (cut 160 0 16 m)) (cut 160 0 16 n) ≡ cut 160 0 16 m = cc (none-join (cut 160 0 16 m), cut-outside 160 0 16 n (inl (omega arith)), join-none (cut 160 0 16 m)) in
-    let second : join (join none (cut 160 16 32 m)) (cut 160 16 32 n) ≡ none = cc (cut-outside 160 16 32 m (inr a), cut-outside 160 16 32 n (inl (omega arith)), join-none none) in
-    let third : join (join none (cut 160 32 48 m)) (cut 160 32 48 n) ≡ none = cc (cut-outside 160 32 48 m (inr (omega arith)), cut-outside 160 32 48 n (inl (omega arith)), join-none none) in
-    let fourth : join (join none (cut 160 48 64 m)) (cut 160 48 64 n) ≡ none = cc (cut-outside 160 48 64 m (inr (omega arith)), cut-outside 160 48 64 n (inl b), join-none none) in
-    let fifth : join (join none (cut 160 64 80 m)) (cut 160 64 80 n) ≡ cut 160 64 80 n = cc (cut-outside 160 64 80 m (inr (omega arith)), join-none none, none-join (cut 160 64 80 n)) in
-    rw (first, second, third, fourth, fifth) (omega (arith, lines-cut 160 0 16 m, lines-cut 160 64 80 n))
+pub cursor-and-clock : (m n : Rect) (p : Pending) → WellPending base p → linesLeft p ≡ 0 → m .bottom ≤ 16 → 64 ≤ n .top → n .bottom ≤ 80 → linesLeft (owing base n (owing base m p)) ≤ 32
+cursor-and-clock m n p w z a b c = omega (arith, owing-adds base m 0 p w (omega arith) (omega arith), owing-adds base n 4 (owing base m p) (well-owing base m p w) (omega arith) (omega arith))
 
 -- ---- such lists written out: record and memory of zeros, four panels whose every pixel is set
 

@@ -8,7 +8,7 @@ ghost use lib.ListN.{length};
 ghost use Rattle.model.specs.Memory.{withWindow};
 ghost use Rattle.model.specs.Rects.{isEmpty, fits};
 ghost use Rattle.model.specs.Bytes.{rectAt, rectBytes};
-ghost use Rattle.laws.specs.Owed.{joinedAt};
+ghost use Rattle.laws.specs.Owed.{joinedAt, owedAt};
 
 // Where the rectangle of band i stands: that of the first begins at byte `at`.
 pub fn band_at(at: usize, i: usize) -> usize
@@ -80,7 +80,7 @@ pub fn store_rect(bytes: &mut [u8], at: usize, q: Rect)
 }
 
 // The rectangle that begins at byte `at`, joined with q, which is not empty. Each side is stored by itself: eight bytes put together of them cost more.
-pub fn join_rect(bytes: &mut [u8], at: usize, q: Rect)
+fn join_rect(bytes: &mut [u8], at: usize, q: Rect)
     requires { ⌜ at + 8 ≤ length (now bytes) ⌝ }
     requires { ⌜ isEmpty q ≡ false ⌝ }
     ensures { λ _. ⌜ now (bytes .exit) ≡ joinedAt at q (now (bytes .entry)) ⌝ }
@@ -98,4 +98,17 @@ pub fn join_rect(bytes: &mut [u8], at: usize, q: Rect)
     slices::store_two(bytes, at + 2, rect::least(stands.top, top));
     slices::store_two(bytes, at + 4, rect::greatest(stands.right, right));
     slices::store_two(bytes, at + 6, rect::greatest(stands.bottom, bottom));
+}
+
+// q, which is not empty, owed where a rectangle begins at byte `at`: a whole band is stored, as it holds what is owed there; any other is joined to it.
+pub fn owe_rect(bytes: &mut [u8], at: usize, q: Rect, whole: bool)
+    requires { ⌜ at + 8 ≤ length (now bytes) ⌝ }
+    requires { ⌜ isEmpty q ≡ false ⌝ }
+    ensures { λ _. ⌜ now (bytes .exit) ≡ owedAt whole at q (now (bytes .entry)) ⌝ }
+{
+    if whole {
+        store_rect(bytes, at, q);
+        return;
+    }
+    join_rect(bytes, at, q);
 }

@@ -13,10 +13,10 @@ ghost use Rattle.model.specs.Glass.{geometry, glassOf, Suits};
 ghost use Rattle.model.specs.Rects.{isEmpty};
 ghost use Rattle.model.specs.Record.{at, panel, recordBytes};
 ghost use Rattle.model.specs.Marks.{owingEach};
-ghost use Rattle.laws.specs.Owed.{joinedAt};
+ghost use Rattle.laws.specs.Owed.{owedAt};
 ghost use Rattle.laws.specs.Record.{Passing};
 ghost use Rattle.laws.specs.Panels.{Known};
-ghost use Rattle.laws.specs.Marking.{eachFrom, storedAt, BandMarked};
+ghost use Rattle.laws.specs.Marking.{eachFrom, BandMarked};
 ghost use Rattle.record.specs.Update.{updated};
 
 // Where panel k's part begins.
@@ -39,33 +39,18 @@ pub fn sent_at(glass: Glass, at: usize) -> usize
     at + 8 * glass.bands + 8
 }
 
-// A rectangle, not empty, joined to what each panel is owed in band i.
-fn join_band(rec: &mut [u8], glass: Glass, i: usize, q: Rect)
+// A rectangle, not empty, owed to each panel in band i: stored where it is the whole band, else joined to what is owed there.
+fn owe_band(rec: &mut [u8], glass: Glass, i: usize, q: Rect, whole: bool)
     requires { ⌜ Suits glass ⌝ }
     requires { ⌜ (length (now rec) ≡ recordBytes (geometry glass)) × (i < glass .bands) ⌝ }
     requires { ⌜ isEmpty q ≡ false ⌝ }
-    ensures { λ _. ⌜ now (rec .exit) ≡ eachFrom (geometry glass) i (λ a. joinedAt a q) 0 (glass .panels) (now (rec .entry)) ⌝ }
+    ensures { λ _. ⌜ now (rec .exit) ≡ eachFrom (geometry glass) i (λ a. owedAt whole a q) 0 (glass .panels) (now (rec .entry)) ⌝ }
 {
     let panels = glass.panels;
     let mut k: usize = 0;
     while k < panels {
         let at = panel_at(glass, k);
-        rects::join_rect(rec, rects::band_at(at, i), q);
-        k += 1;
-    }
-}
-
-// One that is the whole band is stored: it holds what is owed there.
-fn fill_band(rec: &mut [u8], glass: Glass, i: usize, q: Rect)
-    requires { ⌜ Suits glass ⌝ }
-    requires { ⌜ (length (now rec) ≡ recordBytes (geometry glass)) × (i < glass .bands) ⌝ }
-    ensures { λ _. ⌜ now (rec .exit) ≡ eachFrom (geometry glass) i (λ a. storedAt a q) 0 (glass .panels) (now (rec .entry)) ⌝ }
-{
-    let panels = glass.panels;
-    let mut k: usize = 0;
-    while k < panels {
-        let at = panel_at(glass, k);
-        rects::store_rect(rec, rects::band_at(at, i), q);
+        rects::owe_rect(rec, rects::band_at(at, i), q, whole);
         k += 1;
     }
 }
@@ -83,20 +68,20 @@ fn mark_band(rec: &mut [u8], glass: Glass, i: usize, lo: u16, m: Rect)
     let width = glass.width;
     let hi = lo + glass.band;
     if (left == 0) & (width <= right) & (top <= lo) & (hi <= bottom) {
-        let whole = Rect {
+        let all = Rect {
             left: 0,
             top: lo,
             right: width,
             bottom: hi,
         };
-        fill_band(rec, glass, i, whole);
+        owe_band(rec, glass, i, all, true);
         return;
     }
     let q = rect::cut_rect(width, lo, hi, m);
     if rect::is_empty(q) {
         return;
     }
-    join_band(rec, glass, i, q);
+    owe_band(rec, glass, i, q, false);
 }
 
 // A mark, cut at the edges of the screen and of the bands, owed to each panel: from the band of its top line on.

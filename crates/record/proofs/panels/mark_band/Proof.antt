@@ -1,17 +1,21 @@
 -- Where the mark has the whole band, that is stored; else its part, if there is one, is joined to what each panel is owed.
 use mathlib.Core.Path.{refl, sym, _∙_}
+use mathlib.Core.Bool.{true, false}
 use native.Mathlib.Omega.{arith}
 use borrow.Author.Needs.{needs}
-use Rattle.laws.specs.Marking.{empty-band, joined-band, filled-band}
-use Rattle.laws.specs.MarkLoops.{band-low, is-part, is-band, is-whole}
+use Rattle.laws.specs.Tests.{clash}
+use Rattle.laws.specs.Marking.{empty-band, owed-band}
+use Rattle.laws.specs.MarkLoops.{band-low, is-part, is-band, band-full, is-whole}
 use Rattle.record.proofs.panels.mark_band.Statement.{statement}
 use Rattle.record.proofs.panels.mark_band.Tie as tie
 
 add-hi : tie.Need-add-hi
 add-hi c = let s = c .before .before in omega (arith, band-low (s .args .glass) (s .args .i) (s .args .lo) (s .pre .0 .suits) (s .pre .1 .0) (s .pre .1 .1))
 
-fill-band-requires : tie.Need-fill-band-requires
-fill-band-requires c κs = let s = c .before .before .before .before in (s .pre .0 .suits, (s .pre .0 .passing .sized, s .pre .1 .0))
+owe-band-requires : tie.Need-owe-band-requires
+owe-band-requires c κs =
+    let s = c .before .before .before .before in
+    (s .pre .0 .suits, ((s .pre .0 .passing .sized, s .pre .1 .0), band-full (s .args .glass) (s .args .lo) (s .pre .0 .suits) refl))
 
 same-length : tie.Need-same-length
 same-length c = search needs
@@ -22,7 +26,7 @@ returns c =
     let a = s .args in
     let k = s .pre .0 in
     let whole = is-whole (a .glass) (a .m) (a .i) (k .suits) (s .pre .1 .1) refl (c .before .before .before .before .if1 .taken) in
-    filled-band (a .glass) (a .m) (a .i) (k .passing) (s .pre .1 .0) (is-band (a .glass) (a .i) (k .suits) (s .pre .1 .1) refl ∙ sym whole) whole (c .before .before .fill-band .ensures)
+    owed-band (a .glass) (a .m) (a .i) (k .passing) (s .pre .1 .0) true (λ e. whole) (is-band (a .glass) (a .i) (k .suits) (s .pre .1 .1) refl ∙ sym whole) (c .before .before .owe-band .ensures)
 
 cut-rect-requires : tie.Need-cut-rect-requires
 cut-rect-requires c κs = search needs
@@ -37,8 +41,8 @@ returns-2 c =
     let k = s .pre .0 in
     empty-band (a .glass) (a .m) (a .i) (k .passing) (is-part (a .glass) (a .m) (a .i) (k .suits) (s .pre .1 .1) refl (c .before .before .cut-rect .ensures)) (c .before .is-empty .ensures) (c .if2 .taken)
 
-join-band-requires : tie.Need-join-band-requires
-join-band-requires c κs =
+owe-band-requires-2 : tie.Need-owe-band-requires-2
+owe-band-requires-2 c κs =
     let s = c .before .before .before .before .before .before .before in
     (s .pre .0 .suits, ((s .pre .0 .passing .sized, s .pre .1 .0), sym (c .before .before .is-empty .ensures) ∙ c .before .if2 .left))
 
@@ -50,9 +54,9 @@ returns-3 c =
     let s = c .before .before .before .before .before .before .before .before .before .before in
     let a = s .args in
     let k = s .pre .0 in
-    joined-band (a .glass) (a .m) (a .i) (k .passing) (s .pre .1 .0) (is-part (a .glass) (a .m) (a .i) (k .suits) (s .pre .1 .1) refl (c .before .before .before .before .before .before .cut-rect .ensures)) (c .before .before .join-band .ensures)
+    owed-band (a .glass) (a .m) (a .i) (k .passing) (s .pre .1 .0) false (λ e. clash true refl (sym e)) (is-part (a .glass) (a .m) (a .i) (k .suits) (s .pre .1 .1) refl (c .before .before .before .before .before .before .cut-rect .ensures)) (c .before .before .owe-band2 .ensures)
 
 pub mark-band-spec : {M : Type 1} → statement M
 mark-band-spec =
     tie.close
-    (tie.spec add-hi fill-band-requires same-length returns cut-rect-requires is-empty-requires returns-2 join-band-requires same-length-2 returns-3)
+    (tie.spec add-hi owe-band-requires same-length returns cut-rect-requires is-empty-requires returns-2 owe-band-requires-2 same-length-2 returns-3)
