@@ -1,7 +1,6 @@
 //! Links a copy of an earlier landing's static library, all its symbols renamed so that it can stand beside
 //! that of today, and copies core's source to call it by the new names.
 
-use calls::Call;
 use calls::layout::{BANDS, PANELS, RECORD, RECT};
 use std::path::{Path, PathBuf};
 use std::process::Command;
@@ -90,11 +89,11 @@ fn run(command: &mut Command) -> String {
 /// The calls that this library has, as core's source asks for them. With a shorter record it is told other
 /// things at open, so that open is left out.
 fn say_calls(symbols: &[String], whole_record: bool, out: &Path) {
-    let names = Call::NAMES.map(|name| format!("{name:?}")).join(", ");
-    println!("cargo:rustc-check-cfg=cfg(has, values({names}))");
+    let names: Vec<String> = calls::names().map(|name| format!("{name:?}")).collect();
+    println!("cargo:rustc-check-cfg=cfg(has, values({}))", names.join(", "));
     let mut calls = String::new();
     let has = |name: &str| symbols.contains(&format!("caption_{name}")) && (name != "open" || whole_record);
-    for name in Call::NAMES.iter().filter(|name| has(name)) {
+    for name in calls::names().filter(|name| has(name)) {
         println!("cargo:rustc-cfg=has=\"{name}\"");
         calls += &format!("{name}\n");
     }
@@ -102,12 +101,14 @@ fn say_calls(symbols: &[String], whole_record: bool, out: &Path) {
 }
 
 fn copy_source(out: &Path) {
-    let [answer, ffi] = ["../core/src/lib.rs", "../core/src/ffi.rs"].map(|path| {
+    let [answer, device, ffi] = ["lib.rs", "device.rs", "ffi.rs"].map(|name| {
+        let path = format!("../core/src/{name}");
         println!("cargo:rerun-if-changed={path}");
         fs::read_to_string(path).unwrap()
     });
     fs::create_dir_all(out.join("library")).unwrap();
     fs::write(out.join("library/mod.rs"), answer).unwrap();
+    fs::write(out.join("library/device.rs"), device).unwrap();
     fs::write(out.join("library/ffi.rs"), with_new_names(&ffi)).unwrap();
 }
 

@@ -10,6 +10,7 @@ pub enum Refusal {
     Glyph = 7,
     Endless = 8,
     Panel = 9,
+    Register = 10,
 }
 
 /// What a call answers: its code, then the other numbers of its result, zero where it has none.

@@ -97,4 +97,15 @@ unsafe extern "C" {
         record: Out, record_len: usize, memory: Out, memory_len: usize,
         address: u16, x: i32, y: i32, width: u8, height: u8, mode: u8,
     ) -> u32;
+    pub fn caption_controller_write(
+        registers: Out, registers_len: usize, panel: Out, panel_len: usize, register_number: u8, value: u8,
+    ) -> u32;
+    pub fn caption_controller_read(
+        registers: Out, registers_len: usize, panel: In, panel_len: usize, register_number: u8,
+    ) -> Value;
+    pub fn caption_drive_line(
+        record: Out, record_len: usize, memory: In, memory_len: usize,
+        registers: Out, registers_len: usize, panel: Out, panel_len: usize, image: Out, image_len: usize,
+        number: u8,
+    ) -> Sent;
 }

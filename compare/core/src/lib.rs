@@ -1,12 +1,15 @@
 //! The core, by its static library. calls.txt says which calls it has; the others answer `None`.
 
+mod device;
 mod ffi;
+
+pub use device::answer as device_answer;
 
 use calls::{Answer, Call, Lent};
 
-/// Whether the core has the call of this number.
-pub fn has(number: usize) -> bool {
-    include_str!("../calls.txt").lines().any(|name| name == Call::NAMES[number])
+/// Whether the core has the call of this name.
+pub fn has(name: &str) -> bool {
+    include_str!("../calls.txt").lines().any(|known| known == name)
 }
 
 /// Give the core a call on the lent bytes; `None` if it has no such call.

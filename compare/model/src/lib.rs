@@ -7,6 +7,7 @@ mod bitmap;
 mod boxes;
 mod canvas;
 mod cursor;
+pub mod device;
 mod ellipse;
 mod flush;
 mod glyph;

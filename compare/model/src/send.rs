@@ -16,20 +16,34 @@ impl Record {
         if number >= PANELS {
             return Err(Refusal::Panel);
         }
-        let mut pending = self.panels[number];
+        let line = self.take_line(number);
+        if let Some(line) = &line {
+            copy_line(self.screen(memory), panel, line);
+        }
+        Ok(sent(&line))
+    }
+
+    /// The half of a send that changes the record: the next line of the panel's is taken and counted. `None`
+    /// for idle.
+    pub fn take_line(&mut self, panel: usize) -> Option<Rect> {
+        let pending = &mut self.panels[panel];
         pending.take();
-        let Some(rect) = pending.in_hand else { return Ok(IDLE) };
-        copy_line(self.screen(memory), panel, &rect);
+        let rect = pending.in_hand?;
+        let below = rect.top + 1;
         pending.lines_sent = pending.lines_sent.saturating_add(1);
-        pending.in_hand = (rect.top + 1 < rect.bottom).then_some(Rect { top: rect.top + 1, ..rect });
-        self.panels[number] = pending;
-        Ok([1, rect.top as u32, rect.left as u32, rect.right as u32])
+        pending.in_hand = (below < rect.bottom).then_some(Rect { top: below, ..rect });
+        Some(Rect { bottom: below, ..rect })
     }
 }
 
-/// The pixels of the rectangle's top line, from screen to panel.
-fn copy_line(screen: &[u8], panel: &mut [u8], rect: &Rect) {
-    for x in rect.left..rect.right {
-        set_bit(panel, x, rect.top, get_bit(screen, x, rect.top));
+/// What a send answers.
+pub fn sent(line: &Option<Rect>) -> [u32; 4] {
+    line.map_or(IDLE, |line| [1, line.top as u32, line.left as u32, line.right as u32])
+}
+
+/// The pixels of one line, from screen to panel.
+fn copy_line(screen: &[u8], panel: &mut [u8], line: &Rect) {
+    for x in line.left..line.right {
+        set_bit(panel, x, line.top, get_bit(screen, x, line.top));
     }
 }

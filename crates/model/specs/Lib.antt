@@ -25,6 +25,8 @@ pub mod Glyphs
 pub mod Flush
 pub mod Sends
 pub mod Calls
+pub mod Controller
+pub mod Driver
 pub mod Lists
 pub mod Characters
 pub mod Script

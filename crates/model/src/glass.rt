@@ -70,4 +70,7 @@ pub const RECORD_BYTES: usize = 359;
 
 pub const SCREEN_BYTES: usize = 1600;
 
+// The registers of the glass controller.
+pub const REGISTER_BYTES: usize = 8;
+
 pub const MEMORY_BYTES: usize = 65536;

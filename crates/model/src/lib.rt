@@ -101,6 +101,31 @@ pub struct Shown {
     pub kind: CellKind,
 }
 
+// The registers of the glass controller, in the order of their numbers; `byte` is register 4, the last data byte.
+pub struct Registers {
+    pub command: u8,
+    pub line: u8,
+    pub first: u8,
+    pub count: u8,
+    pub byte: u8,
+    pub status: u8,
+    pub enable: u8,
+    pub reset: u8,
+}
+
+// A register by its number; `Beyond`: a number above 7.
+pub enum Register {
+    Command,
+    Line,
+    First,
+    Count,
+    Data,
+    Status,
+    Enable,
+    Reset,
+    Beyond,
+}
+
 // Results that hold more than a code. With a refusal all numbers but the code are 0.
 #[repr(C)]
 pub struct Value {

@@ -1,6 +1,6 @@
 // The numbers of the refusals, in document 01's words. 0 means done.
 
-// A lent record, memory or panel has the wrong length, or the extra list is no multiple of 6.
+// A lent record, memory, panel, image or device register set has the wrong length, or the extra list is no multiple of 6.
 pub const LENT: u32 = 1;
 
 // A record field breaks the record's table, or the bases break WINDOW.
@@ -23,3 +23,6 @@ pub const GLYPH: u32 = 7;
 
 // Send: a panel's number above the last.
 pub const PANEL: u32 = 9;
+
+// The glass controller: a register above 7, a write that the device does not take, or a driver call while it is busy.
+pub const REGISTER: u32 = 10;

@@ -1,0 +1,5 @@
+pub mod Registers
+pub mod Entry
+pub mod Writing
+pub mod Device
+pub mod DeviceLines
