@@ -4,7 +4,7 @@
 pub const REGISTERS: usize = 8;
 
 pub const COMMAND: usize = 0;
-pub const LINE: usize = 1;
+pub const LINE_NUMBER: usize = 1;
 pub const FIRST_BYTE: usize = 2;
 pub const BYTE_COUNT: usize = 3;
 pub const DATA: usize = 4;

@@ -3,6 +3,7 @@
 
 pub mod bands;
 pub mod core_side;
+pub mod device;
 pub mod exhaustive;
 pub mod judge;
 pub mod list;

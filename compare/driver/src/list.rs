@@ -121,7 +121,7 @@ fn resized(from: &[u8], to: &mut Vec<u8>, len: usize) {
 }
 
 /// The bytes of each field of a record that isn't zero.
-fn fields(record: &[u8]) -> String {
+pub fn fields(record: &[u8]) -> String {
     let mut fields = String::new();
     for part in (0..RECORD).collect::<Vec<_>>().chunk_by(|a, b| field(*a) == field(*b)) {
         let bytes = &record[part[0]..part[0] + part.len()];

@@ -1,15 +1,19 @@
-//! `driver run` compares; `driver scripts` compares a script program with the model; `driver bands` says what
-//! is sent with one band and with five; `driver replay-make` writes a list for the replay.
+//! `driver run` compares, `driver device` the device calls alone; `driver scripts` compares a script program with
+//! the model; `driver bands` says what is sent with one band and with five; `driver replay-make` writes a list
+//! for the replay.
 
 use driver::run::{FULL, Run};
 use driver::scripts::{self, Scripts};
-use driver::{bands, core_side, replay};
+use driver::{bands, core_side, device, replay};
 use std::fs;
 use std::path::Path;
 use std::process::ExitCode;
 
 const USAGE: &str = "driver run [--calls N] [--seed S] [--no-core] [--no-exhaustive]
-    compare reference, model and core, if it is linked, on at least N calls (default 10000000)
+    compare reference, model and core, if it is linked, on at least N calls (default 10000000), and
+    model and core on at least N device calls
+driver device [--calls N] [--seed S] [--no-core]
+    compare the device calls alone
 driver scripts COUNT PROGRAM [--seed S]
     feed COUNT scripts to PROGRAM and hold what it prints to the model
 driver bands
@@ -19,8 +23,9 @@ driver replay-make FOLDER
     write the replay's stdin and stdout into FOLDER
 Seeds are 0 to 4294967295 (default 1). Exit status: 0 nothing differs, 1 something does, or 10000000
 calls or more had fewer than 10000 flushes with a pair in the gap or, with the core, fewer than 100000
-accepted calls of paint_bitmap_by_bytes or fewer than two fifths of the lists with edge flag 1, 2 bad
-arguments.";
+accepted calls of paint_bitmap_by_bytes or fewer than two fifths of the lists with edge flag 1, or as
+many device calls met a cause of a refusal, or something else that is counted, fewer than 1000 times,
+2 bad arguments.";
 
 const BANDS: &str = "\
 What goes to one panel, from a level one until it is idle: lines, and the bytes that hold their pixels.
@@ -32,6 +37,7 @@ fn main() -> ExitCode {
     let arguments: Vec<String> = std::env::args().skip(1).collect();
     match arguments.first().map(String::as_str) {
         Some("run") => run(&arguments[1..]),
+        Some("device") => run_device(&arguments[1..]),
         Some("scripts") => compare_scripts(&arguments[1..]),
         Some("bands") if arguments.len() == 1 => {
             print!("{BANDS}\n{}", bands::table());
@@ -84,23 +90,50 @@ fn usage() -> ExitCode {
     ExitCode::from(2)
 }
 
-fn run(arguments: &[String]) -> ExitCode {
-    let mut run = Run { calls: FULL, seed: 1, core: core_side::linked(), exhaustive: true };
-    let mut rest = arguments.iter();
-    while let Some(argument) = rest.next() {
-        match argument.as_str() {
-            "--no-core" => run.core = None,
-            "--no-exhaustive" => run.exhaustive = false,
-            "--calls" => match rest.next().and_then(|text| text.parse().ok()) {
-                Some(calls) => run.calls = calls,
-                None => return usage(),
-            },
-            "--seed" => match rest.next().and_then(|text| seed_of(text)) {
-                Some(seed) => run.seed = seed,
-                None => return usage(),
-            },
-            _ => return usage(),
+/// What runs are told.
+struct Told {
+    calls: u64,
+    seed: u64,
+    core: bool,
+    exhaustive: bool,
+}
+
+impl Told {
+    fn read(arguments: &[String]) -> Option<Self> {
+        let mut told = Self { calls: FULL, seed: 1, core: true, exhaustive: true };
+        let mut rest = arguments.iter();
+        while let Some(argument) = rest.next() {
+            match argument.as_str() {
+                "--no-core" => told.core = false,
+                "--no-exhaustive" => told.exhaustive = false,
+                "--calls" => told.calls = rest.next()?.parse().ok()?,
+                "--seed" => told.seed = seed_of(rest.next()?)?,
+                _ => return None,
+            }
         }
+        Some(told)
     }
-    if run.run() { ExitCode::SUCCESS } else { ExitCode::FAILURE }
+
+    fn device_run(&self) -> device::run::Run {
+        let linked = core_side::linked_device().zip(core_side::linked()).filter(|_| self.core);
+        let core = linked.map(|(device, screen)| device::judge::Core { device, screen });
+        device::run::Run { calls: self.calls, seed: self.seed, core }
+    }
+}
+
+fn run(arguments: &[String]) -> ExitCode {
+    let Some(told) = Told::read(arguments) else { return usage() };
+    let Told { calls, seed, exhaustive, .. } = told;
+    let core = core_side::linked().filter(|_| told.core);
+    let same = Run { calls, seed, core, exhaustive }.run() && told.device_run().run();
+    if same { ExitCode::SUCCESS } else { ExitCode::FAILURE }
+}
+
+/// Register and driver calls alone.
+fn run_device(arguments: &[String]) -> ExitCode {
+    match Told::read(arguments).filter(|told| told.exhaustive) {
+        None => usage(),
+        Some(told) if told.device_run().run() => ExitCode::SUCCESS,
+        Some(_) => ExitCode::FAILURE,
+    }
 }

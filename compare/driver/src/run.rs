@@ -157,7 +157,7 @@ impl Turns {
 }
 
 /// The seed of the list of this number in a run.
-fn list_seed(seed: u64, number: u64) -> u64 {
+pub fn list_seed(seed: u64, number: u64) -> u64 {
     (seed << 32).wrapping_add(number)
 }
 

@@ -36,7 +36,7 @@ fn shorter(list: &List) -> Vec<List> {
 }
 
 /// What can be left out: large parts first, then one by one.
-fn parts(all: Range<usize>) -> Vec<Range<usize>> {
+pub fn parts(all: Range<usize>) -> Vec<Range<usize>> {
     let mut parts = vec![];
     let mut size = all.len();
     while size > 0 {
@@ -71,16 +71,23 @@ fn simpler(list: &List) -> Vec<List> {
 fn simpler_starts(start: &Start) -> Vec<Start> {
     let mut starts = vec![Start { seed: 0, ..start.clone() }, Start { panels: PANELS, ..start.clone() }];
     if let Some(record) = &start.record {
-        let mut plain = [0; RECORD];
-        plain[GRAPHICS_BASE..ROW].copy_from_slice(&[0, 16, 0, 32]);
-        for field in record_fields() {
-            let mut simpler = record.clone();
-            simpler[field.clone()].copy_from_slice(&plain[field]);
-            starts.push(Start { record: Some(simpler), ..*start });
-        }
+        let simpler = simpler_records(record).into_iter();
+        starts.extend(simpler.map(|record| Start { record: Some(record), ..*start }));
     }
     starts.retain(|simpler| simpler != start);
     starts
+}
+
+/// The record with one field as in a plain one.
+pub fn simpler_records(record: &[u8]) -> Vec<Vec<u8>> {
+    let mut plain = [0; RECORD];
+    plain[GRAPHICS_BASE..ROW].copy_from_slice(&[0, 16, 0, 32]);
+    let simpler = |field: Range<usize>| {
+        let mut simpler = record.to_vec();
+        simpler[field.clone()].copy_from_slice(&plain[field]);
+        simpler
+    };
+    record_fields().into_iter().map(simpler).collect()
 }
 
 /// The fields of the record; the two bases are one.
@@ -108,7 +115,7 @@ fn plain_opens(call: &Call) -> Vec<Call> {
 }
 
 /// Values that count as smaller.
-trait Smaller: Sized {
+pub trait Smaller: Sized {
     fn smaller(&self) -> Vec<Self>;
 }
 
@@ -174,7 +181,7 @@ macro_rules! smaller_fields {
     };
 }
 
-fn smaller_calls(call: &Call) -> Vec<Call> {
+pub fn smaller_calls(call: &Call) -> Vec<Call> {
     smaller_fields!(call,
         Open { graphics_base, text_base, version, keys, edge }
         DrawPoint { x, y, mode }

@@ -115,16 +115,11 @@ impl Tally {
             "{:<24}{:>12}{:>12}{:>14}{:>12}{:>12}",
             "call", "accepted", "refused", "by reference", "panicked", "by core"
         );
-        for (number, row) in self.rows.iter().enumerate() {
-            let by_core = if core && core_side::has(number) { row.by_core.to_string() } else { "-".into() };
+        for (name, row) in Call::NAMES.into_iter().zip(&self.rows) {
+            let by_core = if core && core_side::has(name) { row.by_core.to_string() } else { "-".into() };
             println!(
                 "{:<24}{:>12}{:>12}{:>14}{:>12}{:>12}",
-                Call::NAMES[number],
-                row.accepted,
-                row.refused,
-                row.by_reference,
-                row.panicked,
-                by_core
+                name, row.accepted, row.refused, row.by_reference, row.panicked, by_core
             );
         }
         let refusals: Vec<String> = (1..REFUSALS.len())

@@ -2,7 +2,7 @@
 //! in the core where it is linked and has both.
 
 use calls::layout::*;
-use calls::{Answer, Buffers, Call, Painting};
+use calls::{Answer, Buffers, Painting};
 use driver::core_side::{self, Answering};
 use driver::exhaustive;
 use driver::random::{Random, Windows};
@@ -11,8 +11,7 @@ const MODEL: Answering = |call, lent| Some(model::answer(call, lent));
 
 /// The core, if it is linked and has the painter by bytes.
 fn core() -> Option<Answering> {
-    let number = Call::number_of("paint_bitmap_by_bytes").expect("a call's name");
-    core_side::linked().filter(|_| core_side::has(number))
+    core_side::linked().filter(|_| core_side::has("paint_bitmap_by_bytes"))
 }
 
 /// A painting by both painters of one side, each from the same bytes.

@@ -53,7 +53,7 @@ impl Device {
 #[test]
 fn a_line_of_three_bytes_by_hand() {
     let mut device = Device::new([0; REGISTERS]);
-    device.accepts(&[(LINE, 7), (FIRST_BYTE, 4), (BYTE_COUNT, 3), (COMMAND, START)]);
+    device.accepts(&[(LINE_NUMBER, 7), (FIRST_BYTE, 4), (BYTE_COUNT, 3), (COMMAND, START)]);
     assert_eq!(device.registers(), [2, 7, 4, 3, 0, 1, 0, 0]);
     device.accepts(&[(DATA, 0x81)]);
     assert_eq!(device.registers(), [2, 7, 5, 2, 0x81, 1, 0, 0]);
@@ -88,7 +88,7 @@ fn reset_while_busy_ends_the_line_and_keeps_the_panel() {
 /// The enable that counts is the one at the last byte.
 #[test]
 fn the_interrupt_rises_at_the_last_byte_if_enabled() {
-    let start = [(LINE, 1), (BYTE_COUNT, 2), (COMMAND, START), (DATA, 1)];
+    let start = [(LINE_NUMBER, 1), (BYTE_COUNT, 2), (COMMAND, START), (DATA, 1)];
     let [mut by_last, mut by_first] = [0, 1].map(|enable| Device::new([0, 0, 0, 0, 0, 0, enable, 0]));
     for (device, enable, status) in [(&mut by_last, 1, 2), (&mut by_first, 0, 0)] {
         device.accepts(&start);
@@ -107,8 +107,8 @@ fn a_pending_interrupt_stays() {
     assert_eq!(device.registers()[STATUS], 3);
     device.accepts(&[(DATA, 1)]);
     assert_eq!(device.registers()[STATUS], 2);
-    device.accepts(&[(COMMAND, CLEAR), (ENABLE, 1), (ENABLE, 0), (LINE, 200), (COMMAND, NOTHING)]);
-    assert_eq!([DATA, LINE, ENABLE].map(|register| device.read(register)), [1, 200, 0]);
+    device.accepts(&[(COMMAND, CLEAR), (ENABLE, 1), (ENABLE, 0), (LINE_NUMBER, 200), (COMMAND, NOTHING)]);
+    assert_eq!([DATA, LINE_NUMBER, ENABLE].map(|register| device.read(register)), [1, 200, 0]);
     assert_eq!(device.registers()[STATUS], 2);
     assert_eq!([device.read(STATUS), device.read(STATUS)], [2, 0]);
 }
@@ -190,7 +190,7 @@ fn writes_that_are_refused() {
 fn any_line_first_byte_and_count_while_not_busy() {
     let mut device = Device::new([0; REGISTERS]);
     for value in 0..=255 {
-        device.accepts(&[(LINE, value), (FIRST_BYTE, value), (BYTE_COUNT, value)]);
+        device.accepts(&[(LINE_NUMBER, value), (FIRST_BYTE, value), (BYTE_COUNT, value)]);
         assert_eq!(device.registers()[1..4], [value; 3]);
     }
 }

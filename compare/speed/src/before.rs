@@ -5,8 +5,8 @@ use crate::measure::{Measured, measure};
 use crate::rows::rows;
 use crate::side::{ByCore, Side};
 use calls::layout::PANELS;
-use calls::{Answer, Call, Lent};
-use driver::core_side::Answering;
+use calls::{Answer, Call, DeviceCall, DeviceLent, Lent};
+use driver::core_side::{Answering, DeviceAnswering};
 use std::cell::{Cell, RefCell};
 use std::collections::HashMap;
 
@@ -15,6 +15,7 @@ pub fn linked() -> Option<Library> {
     #[cfg(feature = "before")]
     return Some(Library {
         answering: caption_before::answer,
+        device: caption_before::device_answer,
         layout: crate::library::Layout { bands: caption_before::BANDS },
     });
     #[cfg(not(feature = "before"))]
@@ -123,6 +124,7 @@ type Noted = (bool, Option<Answer>);
 
 thread_local! {
     static ASKED: Cell<Answering> = const { Cell::new(|_, _| None) };
+    static ASKED_DEVICE: Cell<DeviceAnswering> = const { Cell::new(|_, _| None) };
     static ANSWERS: RefCell<Vec<Noted>> = const { RefCell::new(vec![]) };
 }
 
@@ -134,10 +136,18 @@ fn noting(call: &Call, lent: Lent) -> Option<Answer> {
     answer
 }
 
+/// The same for calls of the device.
+fn noting_device(call: &DeviceCall, lent: DeviceLent) -> Option<Answer> {
+    let answer = ASKED_DEVICE.get()(call, lent);
+    ANSWERS.with_borrow_mut(|answers| answers.push((false, answer)));
+    answer
+}
+
 /// The first turn of each row that the library has all calls of.
 fn first_turns(library: Library) -> HashMap<String, Turn> {
     ASKED.set(library.answering);
-    let noted = Library { answering: noting, ..library };
+    ASKED_DEVICE.set(library.device);
+    let noted = Library { answering: noting, device: noting_device, ..library };
     core_sides(noted).filter_map(|(name, side)| Some((name, first_turn(library, side)?))).collect()
 }
 

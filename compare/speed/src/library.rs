@@ -2,23 +2,29 @@
 
 use crate::plain::store_rect;
 use calls::layout::{self, *};
-use calls::{Answer, Buffers, Call, Lent};
-use driver::core_side::Answering;
+use calls::{Answer, Buffers, Call, DeviceCall, DeviceLent, Lent};
+use driver::core_side::{Answering, DeviceAnswering};
 
 #[derive(Clone, Copy)]
 pub struct Library {
     pub answering: Answering,
+    pub device: DeviceAnswering,
     pub layout: Layout,
 }
 
 impl Library {
-    pub fn today(answering: Answering) -> Self {
-        Self { answering, layout: Layout::TODAY }
+    pub fn today(answering: Answering, device: DeviceAnswering) -> Self {
+        Self { answering, device, layout: Layout::TODAY }
     }
 
     #[inline]
     pub fn answer(&self, call: &Call, lent: Lent) -> Option<Answer> {
         (self.answering)(call, lent)
+    }
+
+    #[inline]
+    pub fn device_answer(&self, call: &DeviceCall, lent: DeviceLent) -> Option<Answer> {
+        (self.device)(call, lent)
     }
 
     /// Bytes for this library: today's, with the record as it knows it.

@@ -19,3 +19,5 @@ pub const BY_BYTES_ALIGNED: f64 = 0.2;
 pub const BY_BYTES_ODD: f64 = 0.33;
 /// The whole screen by bytes, against the core's entry and a copy of 1,600 bytes.
 pub const BY_BYTES_SCREEN: f64 = 4.0;
+/// A line driven through the device, or idle, against the core's direct send.
+pub const DRIVE: f64 = 3.0;

@@ -23,7 +23,8 @@ fn main() {
         eprintln!("speed takes no arguments. From compare/: cargo run --release --features core -p speed");
         std::process::exit(2);
     }
-    let core = core_side::linked().map(Library::today);
+    let linked = core_side::linked().zip(core_side::linked_device());
+    let core = linked.map(|(answering, device)| Library::today(answering, device));
     if core.is_none() {
         println!("Built without --features core: the Rust sides alone.");
     }
@@ -49,8 +50,8 @@ fn print_columns() {
     println!(
         "Each row: {PAIRS} pairs of slices of about {} microseconds, Rust and core in turn.
 Rust ns  one turn of the reference, or of what the name says: plain Rust, the core's pixel painter, its
-         set_row with a plain copy or as often as there are calls, its drawing with edge flag 0. The
-         median
+         set_row with a plain copy or as often as there are calls, its drawing with edge flag 0, its send.
+         The median
 core ns  one turn of the core: the median
 ratio    core / Rust within a pair: the median
 limit    what the ratio may be at most, - where none was set. A row above it is measured up to

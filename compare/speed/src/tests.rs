@@ -6,14 +6,24 @@ use crate::plain;
 use crate::rows::{Row, rows};
 use crate::side::Side;
 use calls::layout::*;
-use calls::{Answer, Buffers, Call, Lent};
+use calls::{Answer, Buffers, Call, DeviceBuffers, DeviceCall, DeviceLent, Lent};
+use driver::core_side::Answering;
 use driver::random::Random;
 
 fn model(call: &Call, lent: Lent) -> Option<Answer> {
     Some(model::answer(call, lent))
 }
 
-const MODEL: Library = Library { answering: model, layout: Layout::TODAY };
+fn device(call: &DeviceCall, lent: DeviceLent) -> Option<Answer> {
+    Some(model::device::answer(call, lent))
+}
+
+const MODEL: Library = Library { answering: model, device, layout: Layout::TODAY };
+
+/// The model with other calls in the place of these.
+fn today(answering: Answering) -> Library {
+    Library::today(answering, device)
+}
 
 #[test]
 fn both_sides_leave_the_same() {
@@ -37,7 +47,7 @@ fn without_a_painter_by_bytes_nothing_of_it_is_measured() {
     let by_bytes = |row: &Row| row.name.starts_with("bitmap by bytes");
     let of_core = |row: &Row| row.name.contains("core's");
     let [with, without]: [Vec<Row>; 2] =
-        [model, without].map(|core| rows(Some(Library::today(core))).into_iter().filter(by_bytes).collect());
+        [model, without].map(|core| rows(Some(today(core))).into_iter().filter(by_bytes).collect());
     assert_eq!(with.iter().filter(|row| of_core(row)).count(), 3);
     assert!(with.iter().all(|row| row.core.is_some()));
     assert!(!without.is_empty() && !without.iter().any(|row| of_core(row) || row.core.is_some()));
@@ -53,6 +63,20 @@ fn drawings_that_stop_are_measured_against_such_as_are_clamped() {
         assert_eq!([row.rust.left().record[EDGE], core.left().record[EDGE]], [0, 1], "{}", row.name);
     }
     assert!(!rows(None).iter().any(stopping));
+}
+
+#[test]
+fn driven_lines_are_measured_against_sends() {
+    let of_device = |row: &Row| row.name.starts_with("drive") || row.name.starts_with("controller");
+    let against_send = |row: &Row| row.name.ends_with("core's send");
+    let lacking = Library { device: |_, _| None, ..MODEL };
+    let [with, without, alone]: [Vec<Row>; 3] =
+        [Some(MODEL), Some(lacking), None].map(|core| rows(core).into_iter().filter(of_device).collect());
+    assert_eq!((with.len(), with.iter().filter(|row| against_send(row)).count()), (8, 4));
+    assert!(with.iter().all(|row| row.core.is_some() && row.limit.is_some() == against_send(row)));
+    for rows in [without, alone] {
+        assert!(rows.len() == 4 && !rows.iter().any(|row| against_send(row) || row.core.is_some()));
+    }
 }
 
 /// What each library before has in common with the model, by the rows' names.
@@ -72,7 +96,7 @@ fn a_library_before_that_does_the_same() {
 
 #[test]
 fn rows_whose_call_the_library_before_lacks_are_left_out() {
-    let compared = compared_with_model(Library::today(|call, lent| {
+    let compared = compared_with_model(today(|call, lent| {
         let lacks = matches!(call, Call::Newline | Call::PaintBitmapByBytes { .. });
         if lacks { None } else { model(call, lent) }
     }));
@@ -85,18 +109,18 @@ fn rows_whose_call_the_library_before_lacks_are_left_out() {
 
 #[test]
 fn other_bytes_or_answers_of_the_library_before_are_seen() {
-    let other_bytes = compared_with_model(Library::today(|call, lent| match *call {
+    let other_bytes = compared_with_model(today(|call, lent| match *call {
         Call::WriteByte { address, byte } => model(&Call::WriteByte { address, byte: byte ^ 1 }, lent),
         _ => model(call, lent),
     }));
     let others = such(&other_bytes, Work::Other);
     assert!(others.len() == 3 && others.iter().all(|name| name.contains("poke")), "{others:?}");
-    let other_answers = compared_with_model(Library::today(|call, lent| {
+    let other_answers = compared_with_model(today(|call, lent| {
         let answer = model(call, lent);
         if *call == Call::Cls { answer.map(|_| Answer { code: 1, numbers: [0; 4] }) } else { answer }
     }));
     assert_eq!(such(&other_answers, Work::Other).len(), 3, "{other_answers:?}");
-    let other_count = compared_with_model(Library::today(|call, lent| {
+    let other_count = compared_with_model(today(|call, lent| {
         let Lent { record, memory, panel } = lent;
         let answer = model(call, Lent { record: &mut *record, memory, panel });
         if *call == (Call::Send { number: 0 }) {
@@ -147,7 +171,7 @@ fn with_one_band(call: &Call, lent: Lent) -> Option<Answer> {
 
 #[test]
 fn a_library_before_with_one_band() {
-    let before = Library { answering: with_one_band, layout: Layout { bands: 1 } };
+    let before = Library { answering: with_one_band, device: |_, _| None, layout: Layout { bands: 1 } };
     for (name, work) in compared_with_model(before) {
         let due = match name.as_str() {
             "cursor and clock, plain Rust copies" => Work::OtherSends { before: 80, now: 32 },
@@ -208,4 +232,29 @@ fn plain_functions_do_what_the_model_does() {
             assert!(plain == model, "send to {number} on {:?}", before.record);
         }
     }
+}
+
+#[test]
+fn plain_functions_of_registers_do_what_the_model_does() {
+    let mut random = Random::new(1);
+    let mut accepted = 0;
+    for _ in 0..50_000 {
+        let mut plain = DeviceBuffers::zero();
+        random.fill(&mut plain.panel);
+        plain.registers.copy_from_slice(&random.any_registers());
+        let mut by_model = plain.clone();
+        let register = random.register_number();
+        let value = random.register_value(register);
+        let write = DeviceCall::Write { register, value };
+        let code = plain::write(&mut plain.registers, &mut plain.panel, register, value);
+        assert_eq!(code, model::device::answer(&write, by_model.lend()).code);
+        assert!(plain == by_model, "{write:?}");
+        accepted += (code == 0) as u32;
+        let read = DeviceCall::Read { register };
+        let numbers = plain::read(&mut plain.registers, &plain.panel, register);
+        let answer = model::device::answer(&read, by_model.lend());
+        assert_eq!(numbers, [answer.code, answer.numbers[0]]);
+        assert!(plain == by_model, "{read:?}");
+    }
+    assert!(accepted > 5_000, "{accepted}");
 }

@@ -17,6 +17,7 @@ use Rattle.model.specs.Refusals.{Test, test, refusal, ruled}
 use Rattle.model.specs.Controller.{registerBytes, registerOf, registersOf, bytesOfRegisters, registers, busy, interrupt, enabled, statusOf, registersFit, takesWrite, registersAfter, panelAfter, registersRead, DeviceCall, write, read, Device, device, Answer, answer, takesCall, deviceFits, deviceRefusals, deviceNumbers, deviceDone, deviceOutcome, runDevice}
 use Rattle.laws.specs.Tests.{if-cases, by-test, by-eq, either, clash, tests, and-true}
 use Rattle.laws.specs.Loops.{length-zeros}
+use Rattle.device.specs.Writing.{Ready, Written}
 use Rattle.device.specs.Registers.{LineIn, Passes, passes, fits, status-busy, status-interrupt, write-passes, read-passes}
 
 -- ---- a device that passes LENT and STATE
@@ -108,3 +109,13 @@ pub record Cleared (g : Geometry) (d : Device) (o : Answer Device) : Type 0 wher
 pub reset-clears : (g : Geometry) (v : ℕ) (d : Device) → Sound g d → Cleared g d (deviceOutcome g (write 7 v) d)
 unfolding deviceDone answer takesWrite registersAfter panelAfter
 reset-clears g v d s = rw (taken g (write 7 v) d s refl) (record { code = refl; registers = refl; panel = refl })
+
+-- ---- a write by the device's function is the call
+
+pub write-outcome : (g : Geometry) (k v : ℕ) {r s : Registers} {p q : List ℕ} → Ready g r (registerOf k) v p → Written g r (registerOf k) v p s q
+    → deviceOutcome g (write k v) (device (bytesOfRegisters r) p) ≡ answer 0 [] (device (bytesOfRegisters s) q)
+unfolding deviceDone
+write-outcome g k v {r} {p = p} t w =
+    let d = device (bytesOfRegisters r) p in
+    let s : Sound g d = record { registers = refl; panel = t .panel; passes = t .passes } in
+    taken g (write k v) d s (t .taken) ∙ (λ i. answer 0 [] (device (bytesOfRegisters (sym (w .registers) i)) (sym (w .panel) i)))

@@ -1,15 +1,17 @@
 -- What registers that pass STATE are, and that an accepted write or read leaves registers that pass.
 use mathlib.Core.Path.{_≡_, refl, sym, _∙_}
+use mathlib.Core.List.{List, [], _∷_}
 use mathlib.Core.Bool.{Bool, true, false, not, cond, _&&_, _||_}
 use Prim.Native.Nat.{ℕ, _+_, _-_, _/_, _%_, _≤_, _<_}
 use native.Mathlib.Omega.{arith}
 use borrow.Author.Tests.{lt-ltb, le-leb, leb-true, eq-eqb, ne-eqb, eqb-true, not-true}
 use lib.Dec.{ltb, leb, eqb}
+use lib.ListN.{length}
 use Rattle.model.specs.declared.Registers.{Registers}
 use Rattle.model.specs.declared.Register.{Register}
 use Rattle.model.specs.declared.Register.the-variants.{Command, Line, First, Count, Data, Status, Enable, Reset, Beyond}
 use Rattle.model.specs.Geometry.{Geometry, height}
-use Rattle.model.specs.Controller.{busy, interrupt, enabled, statusOf, lineTests, lineFits, registerTests, registersFit, takesWrite, registersAfter, registersRead}
+use Rattle.model.specs.Controller.{registerBytes, registersOf, bytesOfRegisters, busy, interrupt, enabled, statusOf, lineTests, lineFits, registerTests, registersFit, takesWrite, registersAfter, registersRead}
 use Rattle.laws.specs.Tests.{if-cases, by-test, by-eq, either, clash, tests, all-true, true-all, and-true, or-cases, or-left, or-right}
 
 -- the fields of a line that command 2 takes
@@ -145,3 +147,17 @@ read-passes g r n p =
       line = λ b. let l = p .line (sym (status-busy (busy r) false) ∙ b) in record { on = l .on; within = l .within; some = l .some };
     })
     (λ e. p)
+
+-- ---- bytes and fields
+
+pub bytes-back : (b : List ℕ) → length b ≡ registerBytes → bytesOfRegisters (registersOf b) ≡ b
+bytes-back [] z = absurd (omega arith)
+bytes-back (a ∷ []) z = absurd (omega arith)
+bytes-back (a ∷ b ∷ []) z = absurd (omega arith)
+bytes-back (a ∷ b ∷ c ∷ []) z = absurd (omega arith)
+bytes-back (a ∷ b ∷ c ∷ d ∷ []) z = absurd (omega arith)
+bytes-back (a ∷ b ∷ c ∷ d ∷ e ∷ []) z = absurd (omega arith)
+bytes-back (a ∷ b ∷ c ∷ d ∷ e ∷ f ∷ []) z = absurd (omega arith)
+bytes-back (a ∷ b ∷ c ∷ d ∷ e ∷ f ∷ g ∷ []) z = absurd (omega arith)
+bytes-back (a ∷ b ∷ c ∷ d ∷ e ∷ f ∷ g ∷ h ∷ []) z = refl
+bytes-back (a ∷ b ∷ c ∷ d ∷ e ∷ f ∷ g ∷ h ∷ i ∷ l) z = absurd (omega arith)

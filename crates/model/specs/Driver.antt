@@ -6,11 +6,11 @@ use lib.Dec.{ltb, eqb}
 use lib.ListN.{length}
 use Rattle.model.specs.Geometry.{Geometry, screenBytes, memoryBytes}
 use Rattle.model.specs.Memory.{window}
-use Rattle.model.specs.Rects.{Rect, isEmpty}
-use Rattle.model.specs.Record.{Pending, decode, valid, recordBytes, panelOf}
-use Rattle.model.specs.Refusals.{LENT, STATE, PANEL, REGISTER, Test, test, refusal, ruled}
+use Rattle.model.specs.Rects.{isEmpty}
+use Rattle.model.specs.Record.{Pending, decode, panelOf}
+use Rattle.model.specs.Refusals.{STATE, PANEL, REGISTER, Test, test, refusal, ruled}
 use Rattle.model.specs.Sends.{takeOwed}
-use Rattle.model.specs.Calls.{send, lent, done}
+use Rattle.model.specs.Calls.{send, lent, lentTest, stateTest, done}
 use Rattle.model.specs.Controller.{registersOf, registersFit, busy, DeviceCall, write, Device, Answer, answer, deviceFits, runDevice}
 
 -- what a driver call is lent: the image is the driver's own, of the panel's length
@@ -23,35 +23,35 @@ pub record Driven : Type 0 where
 abbrev pub driven : List ℕ → List ℕ → Device → List ℕ → Driven
 driven r m d i = record { rec = r; memory = m; device = d; image = i }
 
--- ---- the writes that send the top line of a rectangle
+-- ---- the writes that send the pixels from left to right of line y
 
--- the bytes of that line that hold its pixels: the first, and how many
-abbrev pub firstByte : Rect → ℕ
-firstByte q = q .left / 8
+-- the bytes of the line that hold these pixels: the first, and how many
+abbrev pub firstByte : ℕ → ℕ
+firstByte left = left / 8
 
-abbrev pub byteCount : Rect → ℕ
-byteCount q = (q .right - 1) / 8 + 1 - q .left / 8
+abbrev pub byteCount : ℕ → ℕ → ℕ
+byteCount left right = (right - 1) / 8 + 1 - left / 8
 
 -- registers 1 to 3, command 2, and these bytes as the image has them
-unfoldable pub lineWrites : Geometry → Rect → List ℕ → List DeviceCall
-lineWrites g q image =
-    write 1 (q .top) ∷ write 2 (firstByte q) ∷ write 3 (byteCount q) ∷ write 0 2 ∷
-    map (write 4) (window (g .stride * q .top + firstByte q) (byteCount q) image)
+unfoldable pub lineWrites : Geometry → ℕ → ℕ → ℕ → List ℕ → List DeviceCall
+lineWrites g y left right image =
+    write 1 y ∷ write 2 (firstByte left) ∷ write 3 (byteCount left right) ∷ write 0 2 ∷
+    map (write 4) (window (g .stride * y + firstByte left) (byteCount left right) image)
 
--- idle: no write
+-- those of a send: the top line of what is in hand; idle: no write
 unfoldable pub driverWrites : Geometry → Pending → List ℕ → List DeviceCall
-driverWrites g p image = cond (isEmpty (takeOwed p .hand)) [] (lineWrites g (takeOwed p .hand) image)
+driverWrites g p image = let q = takeOwed p .hand in cond (isEmpty q) [] (lineWrites g (q .top) (q .left) (q .right) image)
 
 -- ---- the call
 
-abbrev pub drivenFits : Geometry → Driven → Bool
-drivenFits g l =
-    eqb (length (l .rec)) (recordBytes g) && eqb (length (l .memory)) memoryBytes && deviceFits g (l .device) && eqb (length (l .image)) (screenBytes g)
+-- what is lent beside the record has its length
+abbrev pub besideFits : Geometry → Driven → Bool
+besideFits g l = eqb (length (l .memory)) memoryBytes && (deviceFits g (l .device) && eqb (length (l .image)) (screenBytes g))
 
 unfoldable pub driveRefusals : Geometry → ℕ → Driven → List Test
 driveRefusals g k l =
     let r = registersOf (l .device .registers) in
-    test LENT (drivenFits g l) ∷ test STATE (valid g (l .rec) && registersFit g r) ∷ test PANEL (ltb k (g .panels)) ∷ test REGISTER (not (busy r)) ∷ []
+    lentTest g (l .rec) (besideFits g l) ∷ stateTest g (l .rec) ∷ test STATE (registersFit g r) ∷ test PANEL (ltb k (g .panels)) ∷ test REGISTER (not (busy r)) ∷ []
 
 -- The send's answer and record, with the image as its panel: the line's pixels come from the screen, all other bits stay. Then the device is sent the line's bytes
 -- as the image has them now.

@@ -1,8 +1,8 @@
 //! The judge: gives a list to reference, model and core, and says where they differ.
 
-mod area;
+pub(crate) mod area;
 mod demand3;
-mod difference;
+pub(crate) mod difference;
 mod edge;
 mod panel;
 pub mod panics;

@@ -23,7 +23,7 @@ impl Random {
 
     /// Also a record that ends before the part of a panel: 202 bytes hold panel 0's alone. One byte too few
     /// lacks the edge flag; 231 bytes are a record with one band.
-    fn record_length(&mut self) -> usize {
+    pub fn record_length(&mut self) -> usize {
         match self.below(6) {
             0 => 231,
             1..3 => part(self.below(PANELS)).start,
@@ -31,7 +31,7 @@ impl Random {
         }
     }
 
-    fn length(&mut self, right: usize, around: usize) -> usize {
+    pub fn length(&mut self, right: usize, around: usize) -> usize {
         match self.below(4) {
             0 => 0,
             1 => right + 1,
@@ -40,7 +40,7 @@ impl Random {
         }
     }
 
-    fn change_record(&mut self, bytes: &mut Vec<(usize, u8)>) {
+    pub fn change_record(&mut self, bytes: &mut Vec<(usize, u8)>) {
         match self.below(10) {
             0 => bytes.push((self.below(4), self.byte())),
             1 => bytes.push((ROW, self.pick(&[4, 5, 6, 128, 255]))),

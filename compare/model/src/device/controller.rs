@@ -1,6 +1,6 @@
 //! What accepted reads and writes of the registers do.
 
-use calls::layout;
+use calls::layout::LINE;
 use calls::register::*;
 
 pub struct Controller<'a> {
@@ -27,8 +27,8 @@ impl Controller<'_> {
 
     /// One byte of the line that was started.
     fn store(&mut self, byte: u8) {
-        let [line, first] = [LINE, FIRST_BYTE].map(|register| self.registers[register] as usize);
-        self.panel[layout::LINE * line + first] = byte;
+        let [line, first] = [LINE_NUMBER, FIRST_BYTE].map(|register| self.registers[register] as usize);
+        self.panel[LINE * line + first] = byte;
         self.registers[FIRST_BYTE] += 1;
         self.registers[BYTE_COUNT] -= 1;
         if self.registers[BYTE_COUNT] == 0 {

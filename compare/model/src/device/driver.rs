@@ -5,8 +5,9 @@ use crate::canvas::{get_bit, set_bit};
 use crate::record::Record;
 use crate::rect::Rect;
 use crate::send::sent;
+use calls::layout::LINE;
 use calls::register::*;
-use calls::{DeviceCall, DeviceLent, layout};
+use calls::{DeviceCall, DeviceLent};
 
 /// An accepted call: what it answers, and the lent bytes as it leaves them.
 pub fn drive(mut lent: DeviceLent, panel: usize) -> [u32; 4] {
@@ -22,12 +23,12 @@ pub fn drive(mut lent: DeviceLent, panel: usize) -> [u32; 4] {
 /// Registers 1 to 3, the command, and each byte that holds a pixel of the line.
 fn drive_line(record: &Record, lent: &mut DeviceLent, line: &Rect) {
     let (first, end) = (line.left / 8, (line.right - 1) / 8 + 1);
-    write(lent, LINE, line.top as u8);
+    write(lent, LINE_NUMBER, line.top as u8);
     write(lent, FIRST_BYTE, first as u8);
     write(lent, BYTE_COUNT, (end - first) as u8);
     write(lent, COMMAND, START);
     for byte in first..end {
-        let place = layout::LINE * line.top + byte;
+        let place = LINE * line.top + byte;
         lent.image[place] = joined(record.screen(lent.memory), lent.image, line, byte);
         write(lent, DATA, lent.image[place]);
     }

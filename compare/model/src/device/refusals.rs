@@ -3,7 +3,7 @@
 use super::cause::{Cause, Causes};
 use crate::record::Record;
 use calls::DeviceLent;
-use calls::layout::{self, HEIGHT, MEMORY, PANEL, PANELS, RECORD};
+use calls::layout::{HEIGHT, LINE, MEMORY, PANEL, PANELS, RECORD};
 use calls::register::*;
 
 pub fn write(lent: &DeviceLent, register: u8, value: u8, causes: &mut Causes) {
@@ -69,8 +69,8 @@ fn busy(registers: &[u8]) -> bool {
 /// What keeps command 2 from starting a line: the line, where it would end, or its count.
 fn add_fields(registers: &[u8], [line, end, far_end, count]: [Cause; 4], causes: &mut Causes) {
     let sum = registers[FIRST_BYTE] as usize + registers[BYTE_COUNT] as usize;
-    causes.add(line, registers[LINE] as usize >= HEIGHT);
-    causes.add(end, (layout::LINE + 1..256).contains(&sum));
+    causes.add(line, registers[LINE_NUMBER] as usize >= HEIGHT);
+    causes.add(end, (LINE + 1..256).contains(&sum));
     causes.add(far_end, sum >= 256);
     causes.add(count, registers[BYTE_COUNT] == 0);
 }

@@ -1,8 +1,10 @@
 //! What a Rust programmer would write for calls that the reference hasn't got, or tests nothing in.
 
+mod device;
 mod record;
 mod send;
 
+pub use device::{read, write};
 pub use record::store_rect;
 pub use send::{copy_line, send};
 

@@ -2,6 +2,7 @@
 
 mod bitmaps;
 mod cues;
+mod device;
 mod drawings;
 mod edges;
 mod flushes;
@@ -41,6 +42,7 @@ pub fn rows(core: Option<Library>) -> Vec<Row> {
     rows.extend(text::rows(core));
     rows.extend(flushes::rows(core));
     rows.extend(sends::rows(core));
+    rows.extend(device::rows(core));
     rows.extend(cues::rows(core));
     rows
 }

@@ -15,14 +15,14 @@ const NARROW: [u16; 4] = [3, 0, 157, 80];
 
 /// What a send finds: a rectangle in hand, or none there and one owed, of a band.
 #[derive(Clone, Copy)]
-enum Found {
+pub enum Found {
     InHand([u16; 4]),
     Owed(usize, [u16; 4]),
 }
 
 impl Found {
     /// The stores that the host makes before each send, so that all are alike.
-    fn stores(self, layout: Layout, panel: usize) -> Vec<(usize, [u16; 4])> {
+    pub fn stores(self, layout: Layout, panel: usize) -> Vec<(usize, [u16; 4])> {
         match self {
             Self::InHand(rect) => vec![(layout.in_hand(panel), rect)],
             Self::Owed(band, rect) => {
@@ -32,7 +32,7 @@ impl Found {
     }
 }
 
-fn store(record: &mut [u8], stores: &[(usize, [u16; 4])]) {
+pub fn store(record: &mut [u8], stores: &[(usize, [u16; 4])]) {
     for (place, rect) in black_box(stores) {
         plain::store_rect(record, *place, *rect);
     }
@@ -84,7 +84,7 @@ fn by_core(row: Row, found: Found, number: u8, core: Option<Library>) -> Row {
 }
 
 /// A screen that differs from the panel everywhere.
-fn painted() -> Buffers {
+pub fn painted() -> Buffers {
     let mut buffers = opened();
     buffers.memory[SCREEN_BASE..][..SCREEN].fill(0xff);
     buffers

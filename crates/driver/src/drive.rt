@@ -1,0 +1,52 @@
+// The accepted driver call: a send to the image, then its line through the device.
+use accepted::sends;
+use crate::line;
+use device::registers::store_registers;
+use model::Head;
+use model::Registers;
+use model::Sent;
+use model::glass::Glass;
+ghost use mathlib.Core.Path.{_≡_};
+ghost use Prim.Native.Nat.{_<_};
+ghost use lib.ListN.{length};
+ghost use Rattle.model.specs.Calls.{sentNumbers};
+ghost use Rattle.model.specs.Controller.{registerBytes, registersOf, device, answer};
+ghost use Rattle.model.specs.Driver.{driven, driveDone};
+ghost use Rattle.model.specs.Geometry.{base, screenBytes};
+ghost use Rattle.model.specs.Glass.{geometry};
+ghost use Rattle.record.specs.Given.{Given};
+ghost use Rattle.driver.specs.Line.{Idle};
+
+// To panel k, whose image is lent; r are the registers, which pass and are not busy.
+pub fn drive(
+    rec: &mut [u8],
+    memory: &[u8],
+    registers: &mut [u8],
+    panel: &mut [u8],
+    image: &mut [u8],
+    glass: Glass,
+    h: Head,
+    r: Registers,
+    k: usize,
+) -> Sent
+    requires { ⌜ Given glass (now rec) h (now memory) ⌝ }
+    requires { ⌜ (length (now image) ≡ screenBytes (geometry glass)) × (k < glass .panels) ⌝ }
+    requires { ⌜ (length (now registers) ≡ registerBytes) × (r ≡ registersOf (now registers)) ⌝ }
+    requires { ⌜ Idle base r (now panel) ⌝ }
+    ensures { λ s. ⌜ answer (s .code) (sentNumbers s) (driven (now (rec .exit)) (now (memory .entry)) (device (now (registers .exit)) (now (panel .exit))) (now (image .exit))) ≡ driveDone base k (driven (now (rec .entry)) (now (memory .entry)) (device (now (registers .entry)) (now (panel .entry))) (now (image .entry))) ⌝ }
+{
+    let sent = sends::send(rec, memory, image, glass, h, k);
+    if sent.sent == 0 {
+        return sent;
+    }
+    let s = line::write_line(
+        r,
+        panel,
+        image,
+        sent.line as usize,
+        sent.left as usize,
+        sent.right as usize,
+    );
+    store_registers(registers, s);
+    sent
+}
