@@ -25,14 +25,14 @@ use Rattle.record.specs.Given.{Given}
 -- ---- tests
 
 -- two tests before others: they refuse, or the others decide
-before-stops : (s t : Test) (l : List Test) (k : ℕ) → k ≡ refusal (s ∷ t ∷ []) → (k ≡ 0 → ⊥) → refusal (s ∷ t ∷ l) ≡ k
+pub before-stops : (s t : Test) (l : List Test) (k : ℕ) → k ≡ refusal (s ∷ t ∷ []) → (k ≡ 0 → ⊥) → refusal (s ∷ t ∷ l) ≡ k
 unfolding refusal
 before-stops s t l k e n =
     by-test (s .passes)
     (λ p. by-test (t .passes) (λ q. absurd (n (e ∙ rw (p, q)))) (λ q. rw (p, q) (sym (e ∙ rw (p, q)))))
     (λ p. rw p (sym (e ∙ rw p)))
 
-before-passes : (s t : Test) (l : List Test) → 0 ≡ refusal (s ∷ t ∷ []) → (s .number ≡ 0 → ⊥) → (t .number ≡ 0 → ⊥) → refusal (s ∷ t ∷ l) ≡ refusal l
+pub before-passes : (s t : Test) (l : List Test) → 0 ≡ refusal (s ∷ t ∷ []) → (s .number ≡ 0 → ⊥) → (t .number ≡ 0 → ⊥) → refusal (s ∷ t ∷ l) ≡ refusal l
 unfolding refusal
 before-passes s t l e a b =
     by-test (s .passes)

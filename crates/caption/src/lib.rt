@@ -1,8 +1,10 @@
 // The exported calls: each tests all that it is given, and lends what it was lent on to what an accepted call does.
 pub mod bitmaps;
 pub mod clear;
+pub mod controller;
 pub mod cursor;
 pub mod dirty;
+pub mod drive;
 pub mod ellipses;
 pub mod flushes;
 pub mod lines;

@@ -18,7 +18,7 @@ abbrev pub lengths : List ℕ → ℕ → Bool
 lengths b n = eqb (length b) registerBytes && eqb n (screenBytes base)
 
 -- a panel of n bytes is lent beside the registers b
-pub record Entered (b : List ℕ) (n : ℕ) (e : DeviceEntry) : Type 0 where
+pub record DeviceEntered (b : List ℕ) (n : ℕ) (e : DeviceEntry) : Type 0 where
   pub code : e .code ≡ refusal (test LENT (lengths b n) ∷ test STATE (registersFit base (registersOf b)) ∷ [])
   pub bytes : e .code ≡ 0 → length b ≡ registerBytes
   pub panel : e .code ≡ 0 → n ≡ screenBytes base
@@ -33,7 +33,7 @@ module _ (b : List ℕ) (n : ℕ) where
       let t = and-true (eqb (length b) registerBytes) (eqb n (screenBytes base)) l in
       (eqb-true (length b) registerBytes (t .0), eqb-true n (screenBytes base) (t .1))
 
-  pub wrong-length : {e : DeviceEntry} → lengths b n ≡ false → e .code ≡ LENT → Entered b n e
+  pub wrong-length : {e : DeviceEntry} → lengths b n ≡ false → e .code ≡ LENT → DeviceEntered b n e
   unfolding refusal
   wrong-length l e =
       record {
@@ -48,7 +48,7 @@ module _ (b : List ℕ) (n : ℕ) where
     here : t ≡ registersFit base (registersOf b)
     here = f ∙ ap (registersFit base) k
 
-    pub damaged : {e : DeviceEntry} → t ≡ false → e .code ≡ STATE → Entered b n e
+    pub damaged : {e : DeviceEntry} → t ≡ false → e .code ≡ STATE → DeviceEntered b n e
     unfolding refusal
     damaged z e =
         record {
@@ -59,7 +59,7 @@ module _ (b : List ℕ) (n : ℕ) where
           fits = λ z. absurd (omega arith);
         }
 
-    pub entered : t ≡ true → Entered b n (record { code = 0; registers = r })
+    pub entered : t ≡ true → DeviceEntered b n (record { code = 0; registers = r })
     unfolding refusal
     entered z =
         let s = sized l in

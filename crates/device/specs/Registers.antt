@@ -51,9 +51,19 @@ passes g r e =
 pub fits : (g : Geometry) (r : Registers) → Passes g r → registersFit g r ≡ true
 unfolding registersFit
 fits g r p =
-    true-all (registerTests g r)
-    (le-leb _ _ (p .command), (le-leb _ _ (p .status), (le-leb _ _ (p .enable), (eq-eqb _ _ (p .reset),
-    (by-test (busy r) (λ b. or-right (not (busy r)) (line-fits g r (p .line b))) (λ b. or-left (lineFits g r) (λ i. not (b i))), tt)))))
+    true-all (registerTests g r) (
+      le-leb _ _ (p .command),
+      (
+        le-leb _ _ (p .status),
+        (
+          le-leb _ _ (p .enable),
+          (
+            eq-eqb _ _ (p .reset),
+            (by-test (busy r) (λ b. or-right (not (busy r)) (line-fits g r (p .line b))) (λ b. or-left (lineFits g r) (λ i. not (b i))), tt),
+          ),
+        ),
+      ),
+    )
 
 -- ---- bits of status
 

@@ -5,7 +5,7 @@ use model::glass::REGISTER_BYTES;
 use model::glass::SMALL;
 use model::refusal;
 ghost use mathlib.Core.Path.{_≡_};
-ghost use Rattle.device.specs.Entry.{Entered};
+ghost use Rattle.device.specs.Entry.{DeviceEntered};
 
 pub struct DeviceEntry {
     pub code: u32,
@@ -23,7 +23,7 @@ fn refused(code: u32) -> DeviceEntry
 
 // The registers of a device that passes, or the refusal's number. `panel`: the bytes of the lent panel.
 pub fn enter(bytes: &[u8], panel: usize) -> DeviceEntry
-    ensures { λ r. ⌜ Entered (now (bytes .entry)) panel r ⌝ }
+    ensures { λ r. ⌜ DeviceEntered (now (bytes .entry)) panel r ⌝ }
 {
     let glass = SMALL;
     if (bytes.len() == REGISTER_BYTES) & (panel == glass.screen) {

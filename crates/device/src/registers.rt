@@ -28,7 +28,14 @@ pub fn store_registers(bytes: &mut [u8], r: Registers)
     ensures { λ _. ⌜ now (bytes .exit) ≡ bytesOfRegisters r ⌝ }
 {
     let stored = [
-        r.command, r.line, r.first, r.count, r.byte, r.status, r.enable, r.reset,
+        r.command,
+        r.line,
+        r.first,
+        r.count,
+        r.byte,
+        r.status,
+        r.enable,
+        r.reset,
     ];
     slices::copy_bytes(&stored, bytes);
 }

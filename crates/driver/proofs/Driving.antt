@@ -1,11 +1,12 @@
 -- The accepted driver call: the send's answer and record, and the image as the send leaves it; then nothing, where the send is idle, or the writes of its line.
-use mathlib.Core.Path.{_≡_, refl, ap, subst, _∙_}
+use mathlib.Core.Path.{_≡_, refl, sym, ap, subst, _∙_}
 use mathlib.Core.Logic.{_≢_}
-use mathlib.Core.Bool.{true, false}
+use mathlib.Core.Bool.{Bool, true, false, not}
 use mathlib.Core.List.{List, [], _∷_}
-use Prim.Native.Nat.{ℕ, _<_}
+use Prim.Native.Nat.{ℕ, _≤_, _<_}
 use native.Mathlib.Omega.{arith}
 use lib.ListN.{length, getD}
+use borrow.Author.Tests.{not-true, not-false, lt-ltb, le-ltb}
 use Rattle.model.specs.declared.Head.{Head}
 use Rattle.model.specs.declared.Sent.{Sent}
 use Rattle.model.specs.declared.Registers.{Registers}
@@ -14,10 +15,11 @@ use Rattle.model.specs.Geometry.{Geometry, base, screenBytes}
 use Rattle.model.specs.Glass.{geometry}
 use Rattle.model.specs.Rects.{isEmpty}
 use Rattle.model.specs.Record.{Pending, panelOf, decode}
+use Rattle.model.specs.Refusals.{STATE, PANEL, REGISTER, refusal}
 use Rattle.model.specs.Sends.{takeOwed, lineNumbers, sendNumbers}
 use Rattle.model.specs.Calls.{send, lent, answered, sentNumbers, Outcome, done}
-use Rattle.model.specs.Controller.{registerBytes, Device, device, registersOf, bytesOfRegisters, Answer, answer, runDevice}
-use Rattle.model.specs.Driver.{Driven, driven, lineWrites, driverWrites, driveDone}
+use Rattle.model.specs.Controller.{registerBytes, Device, device, registersOf, bytesOfRegisters, registersFit, busy, Answer, answer, runDevice}
+use Rattle.model.specs.Driver.{Driven, driven, driverTests, lineWrites, driverWrites, driveDone}
 use Rattle.laws.specs.Tests.{by-test, clash}
 use Rattle.laws.specs.Record.{Passing}
 use Rattle.laws.specs.States.{well-formed}
@@ -93,3 +95,27 @@ module _ {v : Glass} {r : List ℕ} {h : Head} {m : List ℕ} (w : Given v r h m
 -- the image has its length after the send
 pub image-sized : {v : Glass} {r : List ℕ} {h : Head} {m : List ℕ} → Given v r h m → {n l : ℕ} → n ≡ l → l ≡ screenBytes (geometry v) → n ≡ screenBytes base
 image-sized w e f = e ∙ f ∙ ap screenBytes (w .chosen .glass)
+
+-- ---- what is tested after the record
+
+module _ (k : ℕ) (r : Registers) {t : Bool} (f : t ≡ registersFit base r) where
+  pub damaged : not t ≡ true → STATE ≡ refusal (driverTests base k r)
+  unfolding refusal
+  damaged n = rw (sym f ∙ not-true t n) refl
+
+  module _ (n : not t ≡ false) where
+    fit : registersFit base r ≡ true
+    fit = sym f ∙ not-false t n
+
+    pub no-panel : 4 ≤ k → PANEL ≡ refusal (driverTests base k r)
+    unfolding refusal
+    no-panel h = rw (fit, le-ltb k 4 h) refl
+
+    module _ (h : k < 4) {b : Bool} (o : b ≡ busy r) where
+      pub still-busy : b ≡ true → REGISTER ≡ refusal (driverTests base k r)
+      unfolding refusal
+      still-busy e = rw (fit, lt-ltb k 4 h, sym o ∙ e) refl
+
+      pub may-drive : b ≡ false → 0 ≡ refusal (driverTests base k r)
+      unfolding refusal
+      may-drive e = rw (fit, lt-ltb k 4 h, sym o ∙ e) refl

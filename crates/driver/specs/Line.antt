@@ -182,8 +182,8 @@ module _ (g : Geometry) {r s : Registers} {p q bs : List ℕ} {i : ℕ} (b : Byt
 pub line-run : (g : Geometry) (y left right : ℕ) (r a s : Registers) (p pa q image : List ℕ)
     → device (bytesOfRegisters a) pa ≡ runDevice g (startWrites y (firstByte left) (byteCount left right)) (device (bytesOfRegisters r) p)
     → let from = g .stride * y + firstByte left in
-      let to = from + byteCount left right in
-      device (bytesOfRegisters s) q ≡ runDevice g (map (write 4) (take (to - from) (drop from image))) (device (bytesOfRegisters a) pa)
+    let to = from + byteCount left right in
+    device (bytesOfRegisters s) q ≡ runDevice g (map (write 4) (take (to - from) (drop from image))) (device (bytesOfRegisters a) pa)
     → device (bytesOfRegisters s) q ≡ runDevice g (lineWrites g y left right image) (device (bytesOfRegisters r) p)
 unfolding lineWrites runDevice window
 line-run g y left right r a s p pa q image e f =

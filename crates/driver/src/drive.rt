@@ -1,21 +1,43 @@
 // The accepted driver call: a send to the image, then its line through the device.
-use accepted::sends;
 use crate::line;
+use accepted::sends;
+use device::registers::is_busy;
+use device::registers::registers_fit;
 use device::registers::store_registers;
 use model::Head;
 use model::Registers;
 use model::Sent;
 use model::glass::Glass;
+use model::glass::SMALL;
+use model::refusal;
 ghost use mathlib.Core.Path.{_≡_};
 ghost use Prim.Native.Nat.{_<_};
 ghost use lib.ListN.{length};
 ghost use Rattle.model.specs.Calls.{sentNumbers};
 ghost use Rattle.model.specs.Controller.{registerBytes, registersOf, device, answer};
-ghost use Rattle.model.specs.Driver.{driven, driveDone};
+ghost use Rattle.model.specs.Refusals.{refusal};
+ghost use Rattle.model.specs.Driver.{driven, driverTests, driveDone};
 ghost use Rattle.model.specs.Geometry.{base, screenBytes};
 ghost use Rattle.model.specs.Glass.{geometry};
 ghost use Rattle.record.specs.Given.{Given};
 ghost use Rattle.driver.specs.Line.{Idle};
+
+// What is tested after the record: the refusal's number, or 0.
+pub fn test_device(r: Registers, k: usize) -> u32
+    ensures { λ n. ⌜ n ≡ refusal (driverTests base k r) ⌝ }
+{
+    let glass = SMALL;
+    if !registers_fit(r) {
+        return refusal::STATE;
+    }
+    if k >= glass.panels {
+        return refusal::PANEL;
+    }
+    if is_busy(r) {
+        return refusal::REGISTER;
+    }
+    0
+}
 
 // To panel k, whose image is lent; r are the registers, which pass and are not busy.
 pub fn drive(

@@ -4,6 +4,7 @@ use mathlib.Core.List.{List, [], _∷_, map}
 use Prim.Native.Nat.{ℕ, _+_, _-_, _*_, _/_}
 use lib.Dec.{ltb, eqb}
 use lib.ListN.{length}
+use Rattle.model.specs.declared.Registers.{Registers}
 use Rattle.model.specs.Geometry.{Geometry, screenBytes, memoryBytes}
 use Rattle.model.specs.Memory.{window}
 use Rattle.model.specs.Rects.{isEmpty}
@@ -48,10 +49,12 @@ driverWrites g p image = let q = takeOwed p .hand in cond (isEmpty q) [] (lineWr
 abbrev pub besideFits : Geometry → Driven → Bool
 besideFits g l = eqb (length (l .memory)) memoryBytes && (deviceFits g (l .device) && eqb (length (l .image)) (screenBytes g))
 
+-- what is tested after the record: the registers, the panel's number, and that the device is not busy
+abbrev pub driverTests : Geometry → ℕ → Registers → List Test
+driverTests g k r = test STATE (registersFit g r) ∷ test PANEL (ltb k (g .panels)) ∷ test REGISTER (not (busy r)) ∷ []
+
 unfoldable pub driveRefusals : Geometry → ℕ → Driven → List Test
-driveRefusals g k l =
-    let r = registersOf (l .device .registers) in
-    lentTest g (l .rec) (besideFits g l) ∷ stateTest g (l .rec) ∷ test STATE (registersFit g r) ∷ test PANEL (ltb k (g .panels)) ∷ test REGISTER (not (busy r)) ∷ []
+driveRefusals g k l = lentTest g (l .rec) (besideFits g l) ∷ stateTest g (l .rec) ∷ driverTests g k (registersOf (l .device .registers))
 
 -- The send's answer and record, with the image as its panel: the line's pixels come from the screen, all other bits stay. Then the device is sent the line's bytes
 -- as the image has them now.

@@ -1,6 +1,6 @@
 // The numbers of the refusals, in document 01's words. 0 means done.
 
-// A lent record, memory, panel, image or device register set has the wrong length, or the extra list is no multiple of 6.
+// A lent record, memory, panel, image or set of registers has the wrong length, or the extra list is no multiple of 6.
 pub const LENT: u32 = 1;
 
 // A record field breaks the record's table, or the bases break WINDOW.

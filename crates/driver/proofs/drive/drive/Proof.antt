@@ -34,9 +34,10 @@ write-line-requires c κs =
     let i = c .before .before .before .before .before in
     let k = i .before .before .before in
     let f = k .before .before .before in
-    let e = f .before .before .before .before .before .before .before .before in
-    (e .pre .1 .1 .1,
-    (on-glass (e .pre .0) (e .pre .1 .0 .1) refl _ _ _ (f .send .result) (f .send .ensures) (i .if1 .left), image-sized (e .pre .0) (k .image .given) (e .pre .1 .0 .0)))
+    let e = f .before .before .before .before .before .before .before .before in (
+      e .pre .1 .1 .1,
+      (on-glass (e .pre .0) (e .pre .1 .0 .1) refl _ _ _ (f .send .result) (f .send .ensures) (i .if1 .left), image-sized (e .pre .0) (k .image .given) (e .pre .1 .0 .0)),
+    )
 
 store-registers-requires : tie.Need-store-registers-requires
 store-registers-requires c κs = c .before .before .before .before .before .before .before .before .before .before .before .before .before .before .before .before .before .before .before .before .before .before .before .pre .1 .1 .0 .0
