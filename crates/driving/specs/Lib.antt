@@ -1,3 +1,3 @@
 pub mod Copies
 pub mod Writes
-
+pub mod Sends

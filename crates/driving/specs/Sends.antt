@@ -15,15 +15,15 @@ use Rattle.model.specs.Rects.{isEmpty}
 use Rattle.model.specs.Record.{Pending, panelOf, decode}
 use Rattle.model.specs.Refusals.{refusal, ruled}
 use Rattle.model.specs.Sends.{takeOwed, copyLine, sendPanel}
-use Rattle.model.specs.Calls.{send, Lent, lent, answered, refusals, refused, done, outcome}
+use Rattle.model.specs.Calls.{send, lent, Outcome, answered, ownTests, refusals, refused, done, outcome}
 use Rattle.model.specs.Lists.{accepted}
 use Rattle.model.specs.Controller.{registerBytes, registersFit, busy, Device, device, Answer, answer, runDevice}
 use Rattle.model.specs.Driver.{byteCount, Driven, driven, lineWrites, driverWrites, driveRefusals, driveDone, driveOutcome}
 use Rattle.laws.specs.Tests.{by-test, and-true}
+use Rattle.laws.specs.Pixels.{length-copyRun}
 use Rattle.laws.specs.Bands.{to-send}
-use Rattle.laws.specs.Calls.{accepted-call}
+use Rattle.laws.specs.Calls.{Tested, AllPass, accepted-call}
 use Rattle.device.specs.Device.{Sound, fieldsOf}
-use Rattle.order.specs.Held.{length-send}
 use Rattle.order.specs.Step.{Lendable, known}
 use Rattle.order.specs.Opens.{send-step}
 use Rattle.driving.specs.Copies.{copied-bytes}
@@ -35,16 +35,16 @@ pub record Free (g : Geometry) (d : Device) : Type 0 where
   pub passes : registersFit g (fieldsOf d) ≡ true
   pub not-busy : busy (fieldsOf d) ≡ false
 
--- answers and bytes of a driven send, a, and a direct one, o
-pub record Same (g : Geometry) (a : Answer Driven) (code : ℕ) (numbers : List ℕ) (left : Lent) : Type 0 where
-  pub code : a .code ≡ code
-  pub numbers : a .numbers ≡ numbers
-  pub rec : a .left .rec ≡ left .rec
-  pub memory : a .left .memory ≡ left .memory
-  pub panel : a .left .device .panel ≡ left .panel
-  pub image : a .left .image ≡ left .panel
+-- a driven send answers a, a direct one o: the answers are the same, and so are record and memory; panel and image are as the direct panel; the device is free again
+pub record Same (g : Geometry) (a : Answer Driven) (o : Outcome) : Type 0 where
+  pub code : a .code ≡ o .code
+  pub numbers : a .numbers ≡ o .numbers
+  pub rec : a .left .rec ≡ o .left .rec
+  pub memory : a .left .memory ≡ o .left .memory
+  pub panel : a .left .device .panel ≡ o .left .panel
+  pub image : a .left .image ≡ o .left .panel
   pub free : Free g (a .left .device)
-  pub bytes : Bytes (left .rec)
+  pub bytes : Bytes (o .left .rec)
 
 module _ (g : Geometry) (glass : IsGlass g) (k : ℕ) (r m b p : List ℕ) (free : Free g (device b p)) (bytes : Bytes r) where
   abbrev l : Driven
@@ -61,6 +61,7 @@ module _ (g : Geometry) (glass : IsGlass g) (k : ℕ) (r m b p : List ℕ) (free
       rw (eq-eqb (length b) registerBytes (free .registers), free .passes, free .not-busy, twice (eqb (length p) (screenBytes g))) refl
 
   module _ (a : accepted g (send k) (lent r m p)) where
+    tested : Tested g (send k) (lent r m p) × AllPass (ownTests g (send k) (lent r m p))
     tested = accepted-call g (send k) (lent r m p) (omega arith) a
 
     lendable : Lendable g (lent r m p)
@@ -97,7 +98,32 @@ module _ (g : Geometry) (glass : IsGlass g) (k : ℕ) (r m b p : List ℕ) (free
         (λ e. rw e (refl, free))
         (λ e.
         let h = to-send g pending (known g (lent r m p) lendable .panels k there) e in
-        let long : length copied ≡ screenBytes g = length-send (g .stride) screen p pending ∙ lendable .panel in
-        let d = line-done g (q .top) (q .left) (q .right) copied (device b p) sound (free .not-busy) (omega arith) (h .wide) (h .right-in) long in
+        let line = copyLine (g .stride) q screen p in
+        let long : length line ≡ screenBytes g = length-copyRun (g .stride) screen (q .top) (q .left) (q .right - q .left) p ∙ lendable .panel in
+        let d = line-done g (q .top) (q .left) (q .right) line (device b p) sound (free .not-busy) (omega arith) (h .wide) (h .right-in) long in
         let c = copied-bytes (g .stride) (q .top) (q .left) (q .right) (h .wide) screen p (rw (lendable .panel) (line-room g (q .top) (q .left) (q .right) (omega arith) (h .wide) (h .right-in))) in
-        ?)
+        rw e (d .panel ∙ c, record { registers = d .sound .registers; passes = d .sound .passes; not-busy = d .not-busy }))
+
+    same-done : Same g (driveDone g k l) (done g (send k) (lent r m p))
+    unfolding driveDone answer done answered
+    same-done =
+        record {
+          code = refl;
+          numbers = refl;
+          rec = refl;
+          memory = refl;
+          panel = driven-panel .0;
+          image = refl;
+          free = driven-panel .1;
+          bytes = send-step g k there (lent r m p) lendable .lendable .passing .bytes;
+        }
+
+  same-ruled : (n : ℕ) → refusal (refusals g (send k) (lent r m p)) ≡ n
+      → Same g (ruled n (λ c. answer c (0 ∷ 0 ∷ 0 ∷ 0 ∷ []) l) (driveDone g k l)) (ruled n (refused (send k) (lent r m p)) (done g (send k) (lent r m p)))
+  unfolding ruled answer refused answered
+  same-ruled zero e = same-done e
+  same-ruled (suc n) e = record { code = refl; numbers = refl; rec = refl; memory = refl; panel = refl; image = refl; free = free; bytes = bytes }
+
+  pub same-send : Same g (driveOutcome g k l) (outcome g (send k) (lent r m p))
+  unfolding driveOutcome outcome
+  same-send = rw same-refusal (same-ruled (refusal (refusals g (send k) (lent r m p))) refl)

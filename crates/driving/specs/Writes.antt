@@ -174,5 +174,6 @@ module _ (g : Geometry) (y left right : ℕ) (image : List ℕ) (d : Device) (s 
       let i : InLine g y first count 0 d₄ = subst (λ (o : Answer Device). InLine g y first count 0 (o .left)) (taken g (write 0 2) d₃ s₃ t₃) (starts g d₃ s₃ t₃) in
       let size : length lineBytes ≡ count = length-window (lineAt (g .stride) y left) count image (rw long (line-room g y left right hy hx hw)) in
       let here : g .stride * y + (first + 0) ≡ lineAt (g .stride) y left = omega arith in
-      let k : LineDone g (map (write 4) lineBytes) d₄ (lineAt (g .stride) y left) lineBytes = rw (← here) (data-all g lineBytes d₄ i (rw size (omega arith)) (omega arith)) in
+      let k : LineDone g (map (write 4) lineBytes) d₄ (lineAt (g .stride) y left) lineBytes =
+      subst (λ (x : ℕ). LineDone g (map (write 4) lineBytes) d₄ x lineBytes) here (data-all g lineBytes d₄ i (rw size (omega arith)) (omega arith)) in
       quiet-first g (write 1 y) _ d s t refl refl (quiet-first g (write 2 first) _ d₁ s₁ t refl refl (quiet-first g (write 3 count) _ d₂ s₂ t refl refl (quiet-first g (write 0 2) _ d₃ s₃ t₃ refl refl k)))

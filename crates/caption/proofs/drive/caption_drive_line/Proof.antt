@@ -67,10 +67,13 @@ drive-requires c κs =
     let t = c .before .before .before .before .before .test-device .ensures in
     let z = c .before .before .before .before .before .before .before .before .if1 .left in
     let y = c .before .before .before .before .if2 .left in
-    let n = g .glass-of .ensures in
-    (drive-given (a .rec .now) (a .memory .now) (a .registers .now) (a .panel .now) (a .image .now) (a .number) n (e .enter .ensures) z x t,
-    ((drive-image (a .rec .now) (a .memory .now) (a .registers .now) (a .panel .now) (a .image .now) (a .number) n (e .enter .ensures) z x t, omega (arith, tested (a .number) (c .before .before .before .before .before .before .load-registers .result) t y .there, ap (λ (w : Geometry). w .panels) (n .glass))),
-    ((registers-lent (a .rec .now) (a .memory .now) (a .registers .now) (a .panel .now) (a .image .now) (a .number) n (e .enter .ensures) z, x), drive-idle (a .rec .now) (a .memory .now) (a .registers .now) (a .panel .now) (a .image .now) (a .number) n (e .enter .ensures) z x t y)))
+    let n = g .glass-of .ensures in (
+      drive-given (a .rec .now) (a .memory .now) (a .registers .now) (a .panel .now) (a .image .now) (a .number) n (e .enter .ensures) z x t,
+      (
+        (drive-image (a .rec .now) (a .memory .now) (a .registers .now) (a .panel .now) (a .image .now) (a .number) n (e .enter .ensures) z x t, omega (arith, tested (a .number) (c .before .before .before .before .before .before .load-registers .result) t y .there, ap (λ (w : Geometry). w .panels) (n .glass))),
+        ((registers-lent (a .rec .now) (a .memory .now) (a .registers .now) (a .panel .now) (a .image .now) (a .number) n (e .enter .ensures) z, x), drive-idle (a .rec .now) (a .memory .now) (a .registers .now) (a .panel .now) (a .image .now) (a .number) n (e .enter .ensures) z x t y),
+      ),
+    )
 
 same-length-4 : tie.Need-same-length-4
 same-length-4 c = search needs
