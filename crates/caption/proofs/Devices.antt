@@ -11,11 +11,11 @@ use lib.ListN.{length, getD}
 use Rattle.model.specs.declared.Registers.{Registers}
 use Rattle.model.specs.declared.Register.{Register}
 use Rattle.model.specs.declared.glass.Glass.{Glass}
-use Rattle.model.specs.Geometry.{Geometry, base, screenBytes, memoryBytes}
+use Rattle.model.specs.Geometry.{base, screenBytes, memoryBytes}
 use Rattle.model.specs.Glass.{geometry}
-use Rattle.model.specs.Refusals.{STATE, PANEL, REGISTER, Test, test, refusal, ruled}
+use Rattle.model.specs.Refusals.{STATE, REGISTER, Test, test, refusal, ruled}
 use Rattle.model.specs.Calls.{lentTest, stateTest}
-use Rattle.model.specs.Controller.{registerBytes, registerOf, registersOf, bytesOfRegisters, registersFit, busy, takesWrite, registersRead, DeviceCall, write, read, device, Device, Answer, answer, takesCall, deviceRefusals, deviceNumbers, deviceDone, deviceOutcome}
+use Rattle.model.specs.Controller.{registerBytes, registerOf, registersOf, bytesOfRegisters, registersFit, busy, takesWrite, registersRead, DeviceCall, write, read, device, Device, Answer, answer, deviceRefusals, deviceNumbers, deviceDone, deviceOutcome}
 use Rattle.model.specs.Driver.{Driven, driven, besideFits, driverTests, driveRefusals, driveDone, driveOutcome}
 use Rattle.laws.specs.Tests.{by-test, and-true}
 use Rattle.record.specs.declared.entry.Entry.{Entry}

@@ -1,24 +1,22 @@
 -- Lists of device calls: the registers pass STATE after every list, a line of n bytes is done after n data writes, and a write to register 7 clears the registers and
 -- leaves the panel.
-use mathlib.Core.Path.{_≡_, refl, sym, ap, _∙_}
-use mathlib.Core.Bool.{Bool, true, false, cond, _&&_, _||_}
-use mathlib.Core.List.{List, [], _∷_, _++_, map}
-use Prim.Native.Nat.{ℕ, zero, suc, _+_, _-_, _*_, _≤_, _<_}
-use native.Mathlib.Omega.{arith}
-use borrow.Author.Tests.{eqb-true, eq-eqb, ne-eqb}
+use mathlib.Core.Path.{_≡_, refl, sym, _∙_}
+use mathlib.Core.Bool.{true, false, cond}
+use mathlib.Core.List.{List, [], _∷_}
+use Prim.Native.Nat.{ℕ}
+use borrow.Author.Tests.{eq-eqb}
 use lib.Dec.{eqb}
-use lib.ListN.{length, getD, set, length-set}
+use lib.ListN.{length, length-set}
 use Rattle.model.specs.declared.Registers.{Registers}
 use Rattle.model.specs.declared.Register.{Register}
 use Rattle.model.specs.declared.Register.the-variants.{Command, Line, First, Count, Data, Status, Enable, Reset, Beyond}
-use Rattle.model.specs.Geometry.{Geometry, height, screenBytes}
-use Rattle.model.specs.Memory.{zeros}
-use Rattle.model.specs.Refusals.{Test, test, refusal, ruled}
-use Rattle.model.specs.Controller.{registerBytes, registerOf, registersOf, bytesOfRegisters, registers, busy, interrupt, enabled, statusOf, registersFit, takesWrite, registersAfter, panelAfter, registersRead, DeviceCall, write, read, Device, device, Answer, answer, takesCall, deviceFits, deviceRefusals, deviceNumbers, deviceDone, deviceOutcome, runDevice}
-use Rattle.laws.specs.Tests.{if-cases, by-test, by-eq, either, clash, tests, and-true}
+use Rattle.model.specs.Geometry.{Geometry, screenBytes}
+use Rattle.model.specs.Refusals.{test, refusal, ruled}
+use Rattle.model.specs.Controller.{registerBytes, registerOf, registersOf, bytesOfRegisters, registers, busy, registersFit, takesWrite, registersAfter, panelAfter, registersRead, DeviceCall, write, read, Device, device, Answer, answer, takesCall, deviceRefusals, deviceNumbers, deviceDone, deviceOutcome, runDevice}
+use Rattle.laws.specs.Tests.{if-cases, by-test}
 use Rattle.laws.specs.Loops.{length-zeros}
 use Rattle.device.specs.Writing.{Ready, Written}
-use Rattle.device.specs.Registers.{LineIn, Passes, passes, fits, status-busy, status-interrupt, write-passes, read-passes}
+use Rattle.device.specs.Registers.{Passes, passes, fits, write-passes, read-passes}
 
 -- ---- a device that passes LENT and STATE
 

@@ -1,21 +1,18 @@
 -- A line that command 2 starts: it is done after as many data writes as it has bytes, whatever other calls stand between them, and not before. And what a row of data
 -- writes leaves.
-use mathlib.Core.Path.{_≡_, refl, sym, ap, _∙_}
+use mathlib.Core.Path.{_≡_, refl, _∙_}
 use mathlib.Core.Logic.{_≢_}
-use mathlib.Core.Bool.{Bool, true, false, cond, not, _&&_, _||_}
-use mathlib.Core.List.{List, [], _∷_, map}
-use Prim.Native.Nat.{ℕ, zero, suc, _+_, _-_, _*_, _≤_, _<_}
+use mathlib.Core.Bool.{true, false, cond, not, _||_}
+use mathlib.Core.List.{List, [], _∷_}
+use Prim.Native.Nat.{ℕ, zero, suc, _+_, _-_, _<_}
 use native.Mathlib.Omega.{arith}
 use borrow.Author.Tests.{eq-eqb, ne-eqb}
 use lib.Dec.{leb, ltb, eqb}
-use lib.ListN.{length}
-use Rattle.model.specs.declared.Registers.{Registers}
-use Rattle.model.specs.declared.Register.the-variants.{Command, Data, Enable}
+use Rattle.model.specs.declared.Register.the-variants.{Command}
 use Rattle.model.specs.Geometry.{Geometry}
-use Rattle.model.specs.Memory.{withWindow}
-use Rattle.model.specs.Controller.{registerOf, registersOf, busy, interrupt, enabled, takesWrite, registersAfter, panelAfter, registersRead, DeviceCall, write, read, Device, takesCall, deviceDone, answer, deviceOutcome, runDevice}
-use Rattle.laws.specs.Tests.{if-cases, by-test, by-eq}
-use Rattle.device.specs.Registers.{passes, status-busy, status-interrupt}
+use Rattle.model.specs.Controller.{busy, interrupt, enabled, takesWrite, registersAfter, panelAfter, registersRead, DeviceCall, write, read, Device, takesCall, deviceDone, answer, deviceOutcome, runDevice}
+use Rattle.laws.specs.Tests.{by-test}
+use Rattle.device.specs.Registers.{status-busy, status-interrupt}
 use Rattle.device.specs.Device.{Sound, fieldsOf, taken, not-taken, sound-call}
 
 -- a data write, and how many stand in a list

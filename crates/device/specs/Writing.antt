@@ -2,7 +2,7 @@
 use mathlib.Core.Path.{_≡_, refl, ap, _∙_}
 use mathlib.Core.List.{List}
 use mathlib.Core.Bool.{Bool, true, false, _||_}
-use Prim.Native.Nat.{ℕ, _+_, _-_, _*_, _<_}
+use Prim.Native.Nat.{ℕ, _+_, _-_, _<_}
 use native.Mathlib.Omega.{arith}
 use borrow.Author.Tests.{eq-eqb, ne-eqb}
 use lib.Arith.{digits-lt}
@@ -10,7 +10,7 @@ use lib.ListN.{length, set}
 use Rattle.model.specs.declared.Registers.{Registers}
 use Rattle.model.specs.declared.Register.{Register}
 use Rattle.model.specs.declared.Register.the-variants.{Command, Data}
-use Rattle.model.specs.Geometry.{Geometry, height, screenBytes}
+use Rattle.model.specs.Geometry.{Geometry, screenBytes}
 use Rattle.model.specs.Memory.{zeros}
 use Rattle.model.specs.Controller.{registers, interrupt, enabled, statusOf, dataPlace, registersFit, takesWrite, registersAfter, panelAfter}
 use Rattle.device.specs.Registers.{LineIn, passes}

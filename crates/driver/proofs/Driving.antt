@@ -18,9 +18,9 @@ use Rattle.model.specs.Record.{Pending, panelOf, decode}
 use Rattle.model.specs.Refusals.{STATE, PANEL, REGISTER, refusal}
 use Rattle.model.specs.Sends.{takeOwed, lineNumbers, sendNumbers}
 use Rattle.model.specs.Calls.{send, lent, answered, sentNumbers, Outcome, done}
-use Rattle.model.specs.Controller.{registerBytes, Device, device, registersOf, bytesOfRegisters, registersFit, busy, Answer, answer, runDevice}
-use Rattle.model.specs.Driver.{Driven, driven, driverTests, lineWrites, driverWrites, driveDone}
-use Rattle.laws.specs.Tests.{by-test, clash}
+use Rattle.model.specs.Controller.{registerBytes, Device, device, registersOf, bytesOfRegisters, registersFit, busy, answer, runDevice}
+use Rattle.model.specs.Driver.{driven, driverTests, lineWrites, driverWrites, driveDone}
+use Rattle.laws.specs.Tests.{by-test}
 use Rattle.laws.specs.Record.{Passing}
 use Rattle.laws.specs.States.{well-formed}
 use Rattle.laws.specs.Bands.{to-send}

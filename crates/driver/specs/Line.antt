@@ -13,7 +13,7 @@ use Rattle.model.specs.declared.Registers.{Registers}
 use Rattle.model.specs.Geometry.{Geometry, width, height, screenBytes}
 use Rattle.model.specs.declared.Register.{Register}
 use Rattle.model.specs.declared.Register.the-variants.{Command, Line, First, Count, Data}
-use Rattle.model.specs.Controller.{registerOf, busy, interrupt, takesWrite, registersAfter, bytesOfRegisters, DeviceCall, write, Device, device, Answer, answer, deviceOutcome, runDevice}
+use Rattle.model.specs.Controller.{registerOf, busy, interrupt, takesWrite, registersAfter, bytesOfRegisters, DeviceCall, write, Device, device, Answer, answer, runDevice}
 use Rattle.model.specs.Memory.{window}
 use Rattle.model.specs.Driver.{firstByte, byteCount, lineWrites}
 use Rattle.device.specs.Registers.{line-fits, status-busy}

@@ -1,5 +1,5 @@
 -- The copy of a line changes the bytes that hold its pixels and no others, so these bytes, put into the old panel, make the new one.
-use mathlib.Core.Path.{_≡_, refl, sym, ap, _∙_}
+use mathlib.Core.Path.{_≡_, refl, sym, _∙_}
 use mathlib.Core.List.{List, _++_}
 use Prim.Native.Nat.{ℕ, zero, suc, _+_, _-_, _*_, _/_, _≤_, _<_, max}
 use native.Mathlib.Omega.{arith}
@@ -30,6 +30,10 @@ behind-run st s y x (suc n) e p h =
 abbrev pub lineAt : ℕ → ℕ → ℕ → ℕ
 lineAt st y left = st * y + firstByte left
 
+-- the first of these pixels in byte i
+abbrev pub pixelOf : ℕ → ℕ → ℕ → ℕ → ℕ
+pixelOf st y left i = max left (8 * (i - st * y))
+
 module _ (st y left right : ℕ) (wide : left < right) where
   abbrev a : ℕ
   a = lineAt st y left
@@ -42,10 +46,7 @@ module _ (st y left right : ℕ) (wide : left < right) where
   pixel-in x l u = (omega arith, omega arith)
 
   -- .. and each of them has one of the pixels
-  abbrev pub pixelOf : ℕ → ℕ
-  pixelOf i = max left (8 * (i - st * y))
-
-  pub pixel-of : (i : ℕ) → a ≤ i → i < a + n → (left ≤ pixelOf i) × (pixelOf i < right) × (place st (pixelOf i) y ≡ i)
+  pub pixel-of : (i : ℕ) → a ≤ i → i < a + n → (left ≤ pixelOf st y left i) × (pixelOf st y left i < right) × (place st (pixelOf st y left i) y ≡ i)
   pixel-of i l u = (omega arith, omega arith, omega arith)
 
   -- the copied panel is the old one with these bytes of it

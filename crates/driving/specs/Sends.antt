@@ -1,6 +1,6 @@
 -- One send, driven and direct: from one record and memory, and from panel, image and direct panel that are equal, both answer the same and leave the same.
-use mathlib.Core.Path.{_≡_, refl, sym, ap, _∙_}
-use mathlib.Core.Bool.{Bool, true, false, cond, not, _&&_}
+use mathlib.Core.Path.{_≡_, refl, _∙_}
+use mathlib.Core.Bool.{Bool, true, false, not, _&&_}
 use mathlib.Core.List.{List, [], _∷_}
 use Prim.Native.Nat.{ℕ, zero, suc, _-_, _<_}
 use native.Mathlib.Omega.{arith}
@@ -18,7 +18,7 @@ use Rattle.model.specs.Sends.{takeOwed, copyLine, sendPanel}
 use Rattle.model.specs.Calls.{send, lent, Outcome, answered, ownTests, refusals, refused, done, outcome}
 use Rattle.model.specs.Lists.{accepted}
 use Rattle.model.specs.Controller.{registerBytes, registersFit, busy, Device, device, Answer, answer, runDevice}
-use Rattle.model.specs.Driver.{byteCount, Driven, driven, lineWrites, driverWrites, driveRefusals, driveDone, driveOutcome}
+use Rattle.model.specs.Driver.{Driven, driven, driverWrites, driveRefusals, driveDone, driveOutcome}
 use Rattle.laws.specs.Tests.{by-test, and-true}
 use Rattle.laws.specs.Pixels.{length-copyRun}
 use Rattle.laws.specs.Bands.{to-send}

@@ -1,23 +1,22 @@
 -- The writes of a line: each is done, the bytes of the line are stored and no others, and then the device is not busy.
 use mathlib.Core.Path.{_≡_, refl, sym, ap, subst, _∙_}
-use mathlib.Core.Bool.{Bool, true, false, cond, not, _||_}
+use mathlib.Core.Bool.{true, false, cond, not}
 use mathlib.Core.List.{List, [], _∷_, _++_, map}
-use Prim.Native.Nat.{ℕ, zero, suc, _+_, _-_, _*_, _≤_, _<_}
+use Prim.Native.Nat.{ℕ, suc, _+_, _-_, _*_, _≤_, _<_}
 use native.Mathlib.Omega.{arith}
 use native.Mathlib.Numerals.{add-one}
 use lib.Dec.{eqb}
 use lib.Arith.{digits-lt}
 use lib.ListN.{length, set}
-use borrow.Author.Tests.{eq-eqb, ne-eqb}
 use Rattle.model.specs.declared.Registers.{Registers}
 use Rattle.model.specs.declared.Register.the-variants.{Command}
 use Rattle.model.specs.Geometry.{Geometry, width, height, screenBytes}
 use Rattle.model.specs.Memory.{window, withWindow}
 use Rattle.model.specs.Record.{listing}
-use Rattle.model.specs.Controller.{busy, interrupt, enabled, statusOf, registers, registersOf, bytesOfRegisters, takesWrite, registersAfter, panelAfter, dataPlace, DeviceCall, write, read, Device, device, Answer, answer, takesCall, deviceDone, deviceOutcome, runDevice}
+use Rattle.model.specs.Controller.{busy, takesWrite, registersAfter, panelAfter, dataPlace, DeviceCall, write, read, Device, device, Answer, answer, takesCall, deviceDone, deviceOutcome, runDevice}
 use Rattle.model.specs.Driver.{firstByte, byteCount, lineWrites}
 use Rattle.laws.specs.Memory.{set-window, window-extend, length-window}
-use Rattle.device.specs.Registers.{LineIn, line-fits, passes}
+use Rattle.device.specs.Registers.{line-fits, passes}
 use Rattle.device.specs.Device.{Sound, fieldsOf, taken, sound-done}
 use Rattle.device.specs.DeviceLines.{InLine, starts, data-goes, line-ends}
 use Rattle.driving.specs.Copies.{lineAt}

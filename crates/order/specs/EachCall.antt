@@ -55,6 +55,9 @@ module _ (g : Geometry) (k : ℕ) (there : k < g .panels) (b : Buffers) (q : Len
   abbrev z : IsGlass g
   z = q .passing .glass
 
+  pub buffer-there : k < length (b .panels)
+  buffer-there = has-buffer (b .panels) k (rw (q .panel) (mul-pos (omega (arith, z .columns)) (omega (arith, z .row, z .filled))))
+
   abbrev h : Head
   h = old g l .head
 
@@ -72,8 +75,7 @@ module _ (g : Geometry) (k : ℕ) (there : k < g .panels) (b : Buffers) (q : Len
   sent-step j a =
       by-eq j k
       (λ e.
-      let some : 0 < length (panelBuffer k b) = rw (q .panel) (mul-pos (omega (arith, z .columns)) (omega (arith, z .row, z .filled))) in
-      rw (e, eq-eqb k k refl, getD-set-same (b .panels) k (sendPanel (g .stride) (panelOf g (old g l) k) (screenHeld g l) (panelBuffer k b)) [] (has-buffer (b .panels) k some)) (send-step g k there l q))
+      rw (e, eq-eqb k k refl, getD-set-same (b .panels) k (sendPanel (g .stride) (panelOf g (old g l) k) (screenHeld g l) (panelBuffer k b)) [] buffer-there) (send-step g k there l q))
       (λ n.
       let p = accepted-call g (send j) (lentToSend j b) (omega arith) a .1 in
       rw (ne-eqb j k n, getD-set-other (b .panels) j k (sendPanel (g .stride) (panelOf g (old g l) j) (screenHeld g l) (panelBuffer j b)) [] (λ e. n (sym e)))
