@@ -14,24 +14,37 @@ fn print_number(n: u64) {
     io::print_decimal(1, n);
 }
 
+fn print_byte(byte: u8) {
+    print_number(byte as u64);
+}
+
+fn print_four(a: u8, b: u8, c: u8, d: u8) {
+    print_byte(a);
+    print_byte(b);
+    print_byte(c);
+    print_byte(d);
+}
+
 fn print_device(registers: &[u8; REGISTER_BYTES], panel: &[u8; SCREEN_BYTES]) {
     io::write_all(1, b",");
-    let mut i: usize = 0;
-    while i < REGISTER_BYTES {
-        print_number(registers[i] as u64);
-        i += 1;
-    }
+    print_four(registers[0], registers[1], registers[2], registers[3]);
+    print_four(registers[4], registers[5], registers[6], registers[7]);
     io::write_all(1, b",");
-    print_number(panel[100] as u64);
-    print_number(panel[101] as u64);
-    print_number(panel[1599] as u64);
+    print_byte(panel[100]);
+    print_byte(panel[101]);
+    print_byte(panel[1599]);
     io::write_all(1, b"\n");
 }
 
-fn write(registers: &mut [u8; REGISTER_BYTES], panel: &mut [u8; SCREEN_BYTES], register: u8, value: u8) {
+fn write(
+    registers: &mut [u8; REGISTER_BYTES],
+    panel: &mut [u8; SCREEN_BYTES],
+    register: u8,
+    value: u8,
+) {
     io::write_all(1, b"write");
-    print_number(register as u64);
-    print_number(value as u64);
+    print_byte(register);
+    print_byte(value);
     io::write_all(1, b":");
     let code = controller::caption_controller_write(registers, panel, register, value);
     print_number(code as u64);
@@ -40,7 +53,7 @@ fn write(registers: &mut [u8; REGISTER_BYTES], panel: &mut [u8; SCREEN_BYTES], r
 
 fn read(registers: &mut [u8; REGISTER_BYTES], panel: &[u8; SCREEN_BYTES], register: u8) {
     io::write_all(1, b"read");
-    print_number(register as u64);
+    print_byte(register);
     io::write_all(1, b":");
     let v = controller::caption_controller_read(registers, panel, register);
     print_number(v.code as u64);
@@ -87,7 +100,7 @@ fn drive_line(
     number: u8,
 ) {
     io::write_all(1, b"drive");
-    print_number(number as u64);
+    print_byte(number);
     io::write_all(1, b":");
     let s = drive::caption_drive_line(rec, memory, registers, panel, image, number);
     print_number(s.code as u64);
@@ -98,6 +111,44 @@ fn drive_line(
     print_device(registers, panel);
 }
 
+// Four lines of a text row, and then the row's sixteen.
+fn drive_four(
+    rec: &mut [u8; RECORD_BYTES],
+    memory: &[u8; MEMORY_BYTES],
+    registers: &mut [u8; REGISTER_BYTES],
+    panel: &mut [u8; SCREEN_BYTES],
+    image: &mut [u8; SCREEN_BYTES],
+) {
+    drive::caption_drive_line(rec, memory, registers, panel, image, 0);
+    drive::caption_drive_line(rec, memory, registers, panel, image, 0);
+    drive::caption_drive_line(rec, memory, registers, panel, image, 0);
+    drive::caption_drive_line(rec, memory, registers, panel, image, 0);
+}
+
+fn drive_row(
+    rec: &mut [u8; RECORD_BYTES],
+    memory: &[u8; MEMORY_BYTES],
+    registers: &mut [u8; REGISTER_BYTES],
+    panel: &mut [u8; SCREEN_BYTES],
+    image: &mut [u8; SCREEN_BYTES],
+) {
+    drive_four(rec, memory, registers, panel, image);
+    drive_four(rec, memory, registers, panel, image);
+    drive_four(rec, memory, registers, panel, image);
+    drive_four(rec, memory, registers, panel, image);
+}
+
+// V2, no keys, every pixel set.
+fn draw_screen(rec: &mut [u8; RECORD_BYTES], memory: &mut [u8; MEMORY_BYTES]) {
+    open::caption_open(rec, memory, 4096, 8192, 1, 0, 0, 0, 0, 0, 0, 0, 0, 0);
+    lines::caption_draw_box(rec, memory, 0, 0, 159, 79, 1, 1);
+}
+
+// Pixels 3 to 12 of line 5.
+fn clear_pixels(rec: &mut [u8; RECORD_BYTES], memory: &mut [u8; MEMORY_BYTES]) {
+    lines::caption_draw_line(rec, memory, 3, 5, 12, 5, 0);
+}
+
 // A whole screen of set pixels is driven line by line; then pixels 3 to 12 of line 5 are cleared, and the driver sends two bytes; then it is idle.
 fn driven() {
     let mut rec = [0u8; RECORD_BYTES];
@@ -105,15 +156,14 @@ fn driven() {
     let mut registers = [0u8; REGISTER_BYTES];
     let mut panel = [0u8; SCREEN_BYTES];
     let mut image = [0u8; SCREEN_BYTES];
-    open::caption_open(&mut rec, &mut memory, 4096, 8192, 1, 0, 0, 0, 0, 0, 0, 0, 0, 0);
-    lines::caption_draw_box(&mut rec, &mut memory, 0, 0, 159, 79, 1, 1);
-    let mut i: usize = 0;
-    while i < 80 {
-        drive::caption_drive_line(&mut rec, &memory, &mut registers, &mut panel, &mut image, 0);
-        i += 1;
-    }
+    draw_screen(&mut rec, &mut memory);
+    drive_row(&mut rec, &memory, &mut registers, &mut panel, &mut image);
+    drive_row(&mut rec, &memory, &mut registers, &mut panel, &mut image);
+    drive_row(&mut rec, &memory, &mut registers, &mut panel, &mut image);
+    drive_row(&mut rec, &memory, &mut registers, &mut panel, &mut image);
+    drive_row(&mut rec, &memory, &mut registers, &mut panel, &mut image);
     drive_line(&mut rec, &memory, &mut registers, &mut panel, &mut image, 0);
-    lines::caption_draw_line(&mut rec, &mut memory, 3, 5, 12, 5, 0);
+    clear_pixels(&mut rec, &mut memory);
     drive_line(&mut rec, &memory, &mut registers, &mut panel, &mut image, 0);
     drive_line(&mut rec, &memory, &mut registers, &mut panel, &mut image, 0);
     drive_line(&mut rec, &memory, &mut registers, &mut panel, &mut image, 4);
@@ -123,8 +173,8 @@ fn driven() {
     drive_line(&mut rec, &memory, &mut registers, &mut panel, &mut image, 0);
     drive_line(&mut rec, &memory, &mut registers, &mut panel, &mut image, 4);
     io::write_all(1, b"image");
-    print_number(image[100] as u64);
-    print_number(image[101] as u64);
+    print_byte(image[100]);
+    print_byte(image[101]);
     io::write_all(1, b"\n");
 }
 
