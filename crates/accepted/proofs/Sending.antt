@@ -1,5 +1,5 @@
 -- A send: idle, or the line in hand copied and counted.
-use mathlib.Core.Path.{_≡_, refl, sym, ap, _∙_}
+use mathlib.Core.Path.{_≡_, refl, sym, ap, subst, _∙_}
 use mathlib.Core.List.{List}
 use mathlib.Core.Bool.{Bool, true, false}
 use Prim.Native.Nat.{ℕ, _*_, _<_}
@@ -10,18 +10,31 @@ use Rattle.model.specs.declared.Rect.{Rect}
 use Rattle.model.specs.declared.Head.{Head}
 use Rattle.model.specs.declared.Sent.{Sent}
 use Rattle.model.specs.declared.glass.Glass.{Glass}
-use Rattle.model.specs.Geometry.{height, screenBytes}
-use Rattle.model.specs.Glass.{geometry, canvas}
+use Rattle.model.specs.Geometry.{Geometry, height, screenBytes}
+use Rattle.model.specs.Glass.{geometry, canvas, glassOf}
 use Rattle.model.specs.Memory.{window}
 use Rattle.model.specs.Rects.{isEmpty}
 use Rattle.model.specs.Record.{decode, encode, panelOf, withPanel}
 use Rattle.model.specs.Sends.{takeOwed, sendPending, lineNumbers, sendNumbers, copyLine, sendPanel}
-use Rattle.model.specs.Calls.{send, lent, answered, sentNumbers, done}
+use Rattle.model.specs.Calls.{send, lent, Outcome, answered, sentNumbers, done}
 use Rattle.laws.specs.Sending.{SentOn, sent-proper}
 use Rattle.send.specs.Line.{LineOn}
+use Rattle.record.specs.Entry.{Chosen}
 use Rattle.record.specs.Given.{Given}
+use Rattle.record.proofs.Updating.{known-glass, head-for}
 use Rattle.accepted.specs.NoLine.{noLine}
+use Rattle.accepted.specs.GivenBy.{GivenBy}
 use Rattle.record.proofs.Drawing.{screenPart, screen-is, screen-part}
+
+-- for the glass that the code has asked for
+pub given-for : {v : Glass} {r : List ℕ} {h : Head} {m : List ℕ} → Chosen (length r) v → GivenBy r h m → Given v r h m
+given-for {r = r} c w = record { chosen = c; known = known-glass c (w .passing); head = head-for r c (w .head); memory = w .memory }
+
+pub panel-for : {v : Glass} {n k p : ℕ} → Chosen n v → (p ≡ screenBytes (glassOf n)) × (k < glassOf n .panels) → (p ≡ screenBytes (geometry v)) × (k < v .panels)
+panel-for {k = k} c l = (l .0 ∙ sym (ap screenBytes (c .glass)), subst (λ (g : Geometry). k < g .panels) (sym (c .glass)) (l .1))
+
+pub done-for : {v : Glass} (k : ℕ) (r m p : List ℕ) {o : Outcome} → Chosen (length r) v → o ≡ done (geometry v) (send k) (lent r m p) → o ≡ done (glassOf (length r)) (send k) (lent r m p)
+done-for k r m p c e = e ∙ ap (λ (g : Geometry). done g (send k) (lent r m p)) (c .glass)
 
 -- panel j is sent to, which is the one that is named, k
 module _ {v : Glass} {r : List ℕ} {h : Head} {m : List ℕ} (w : Given v r h m) (k : ℕ) {j : ℕ} {q : Rect} {s : List ℕ} (sent : SentOn v j r q s) (named : j ≡ k) {t : Bool}

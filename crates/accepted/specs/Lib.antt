@@ -1,3 +1,4 @@
 pub mod Opened
 pub mod NoLine
+pub mod GivenBy
 pub mod ScreenByte

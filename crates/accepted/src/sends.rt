@@ -3,19 +3,19 @@ use marks::rect;
 use model::Head;
 use model::Rect;
 use model::Sent;
-use model::glass::Glass;
 use record::glass::canvas_of;
+use record::glass::glass_of;
 use send::line;
 use send::pending;
 ghost use mathlib.Core.Path.{_≡_};
 ghost use Prim.Native.Nat.{_<_};
 ghost use lib.ListN.{length};
 ghost use Rattle.model.specs.Geometry.{screenBytes};
-ghost use Rattle.model.specs.Glass.{geometry};
+ghost use Rattle.model.specs.Glass.{glassOf};
 ghost use Rattle.model.specs.Sends.{lineNumbers};
 ghost use Rattle.model.specs.Calls.{lent, answered, sentNumbers, done};
 ghost use Rattle.model.specs.Calls as calls;
-ghost use Rattle.record.specs.Given.{Given};
+ghost use Rattle.accepted.specs.GivenBy.{GivenBy};
 ghost use Rattle.accepted.specs.NoLine.{noLine};
 
 // No line: idle, or a refusal.
@@ -44,19 +44,13 @@ fn sent_line(q: Rect) -> Sent
     }
 }
 
-// A send to panel k.
-pub fn send(
-    rec: &mut [u8],
-    memory: &[u8],
-    panel: &mut [u8],
-    glass: Glass,
-    h: Head,
-    k: usize,
-) -> Sent
-    requires { ⌜ Given glass (now rec) h (now memory) ⌝ }
-    requires { ⌜ (length (now panel) ≡ screenBytes (geometry glass)) × (k < glass .panels) ⌝ }
-    ensures { λ r. ⌜ answered (r .code) (sentNumbers r) (lent (now (rec .exit)) (now (memory .entry)) (now (panel .exit))) ≡ done (geometry glass) (calls.send k) (lent (now (rec .entry)) (now (memory .entry)) (now (panel .entry))) ⌝ }
+// A send to panel k. Two calls end in it, so it asks for the glass itself: its numbers are constants here.
+pub fn send(rec: &mut [u8], memory: &[u8], panel: &mut [u8], h: Head, k: usize) -> Sent
+    requires { ⌜ GivenBy (now rec) h (now memory) ⌝ }
+    requires { ⌜ (length (now panel) ≡ screenBytes (glassOf (length (now rec)))) × (k < glassOf (length (now rec)) .panels) ⌝ }
+    ensures { λ r. ⌜ answered (r .code) (sentNumbers r) (lent (now (rec .exit)) (now (memory .entry)) (now (panel .exit))) ≡ done (glassOf (length (now (rec .entry)))) (calls.send k) (lent (now (rec .entry)) (now (memory .entry)) (now (panel .entry))) ⌝ }
 {
+    let glass = glass_of(rec.len());
     let q = pending::send_panel(rec, glass, k);
     if rect::is_empty(q) {
         return no_line(0);

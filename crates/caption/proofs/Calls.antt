@@ -21,6 +21,7 @@ use Rattle.record.specs.Entry.{Chosen, Entered}
 use Rattle.record.specs.Update.{updated}
 use Rattle.record.proofs.Updating.{known-glass, head-for}
 use Rattle.record.specs.Given.{Given}
+use Rattle.accepted.specs.GivenBy.{GivenBy}
 
 -- ---- tests
 
@@ -147,7 +148,7 @@ module _ {r : List ℕ} (m p : List ℕ) {e : Entry} {v : Glass} (k : Chosen (le
   pub entered-panel : Entered (eqb (length m) 65536 && eqb (length p) (screenBytes (glassOf (length r)))) r e
   entered-panel = rw (k .suits .is-screen ∙ ap screenBytes (k .glass)) at n
 
-  pub given-panel : e .code ≡ 0 → Given v r (e .head) m × (length p ≡ screenBytes (geometry v))
+  pub given-panel : e .code ≡ 0 → GivenBy r (e .head) m × (length p ≡ screenBytes (glassOf (length r)))
   given-panel z =
-      let l = and-true (eqb (length m) 65536) (eqb (length p) (v .screen)) (n .lent z) in
-      (record { chosen = k; known = knows k n z; head = loads k n z; memory = eqb-true (length m) 65536 (l .0) }, eqb-true (length p) (v .screen) (l .1) ∙ k .suits .is-screen)
+      let l = and-true (eqb (length m) 65536) (eqb (length p) (screenBytes (glassOf (length r)))) (entered-panel .lent z) in
+      (record { passing = n .passing z; head = n .head z; memory = eqb-true (length m) 65536 (l .0) }, eqb-true (length p) (screenBytes (glassOf (length r))) (l .1))

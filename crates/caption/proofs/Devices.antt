@@ -20,14 +20,14 @@ use Rattle.model.specs.Driver.{Driven, driven, besideFits, driverTests, driveRe
 use Rattle.laws.specs.Tests.{by-test, and-true}
 use Rattle.record.specs.declared.entry.Entry.{Entry}
 use Rattle.record.specs.Entry.{Chosen, Entered}
-use Rattle.record.specs.Given.{Given}
+use Rattle.accepted.specs.GivenBy.{GivenBy}
 use Rattle.device.specs.declared.entry.DeviceEntry.{DeviceEntry}
 use Rattle.device.specs.Registers.{bytes-back}
 use Rattle.device.specs.Entry.{DeviceEntered, lengths}
 use Rattle.device.specs.Writing.{Ready, Written}
 use Rattle.device.specs.Device.{Sound, taken, not-taken, write-outcome}
 use Rattle.driver.specs.Line.{Idle}
-use Rattle.caption.proofs.Calls.{before-stops, before-passes, knows, loads}
+use Rattle.caption.proofs.Calls.{before-stops, before-passes}
 
 -- a code and numbers that are equal to those
 pub as-answer : {A : Type 0} {j k : ℕ} {ms ns : List ℕ} (l : A) {o : Answer A} → j ≡ k → ms ≡ ns → answer k ns l ≡ o → answer j ms l ≡ o
@@ -142,11 +142,11 @@ module _ (r m b p i : List ℕ) (k : ℕ) {e : Entry} {v : Glass} (c : Chosen (l
       unfolding driveOutcome ruled
       drive-ends y d = let s : refusal (driveRefusals base k l) ≡ 0 = own ∙ is-rest ∙ y in d ∙ rw s refl
 
-      pub drive-given : Given v r (e .head) m
-      drive-given = record { chosen = c; known = knows c o z; head = loads c o z; memory = lengths-fit .0 }
+      pub drive-given : GivenBy r (e .head) m
+      drive-given = record { passing = o .passing z; head = o .head z; memory = lengths-fit .0 }
 
-      pub drive-image : length i ≡ screenBytes (geometry v)
-      drive-image = lengths-fit .3 ∙ sym (ap screenBytes (c .glass))
+      pub drive-image : length i ≡ screenBytes base
+      drive-image = lengths-fit .3
 
       pub drive-idle : t ≡ 0 → Idle base x p
       drive-idle y =

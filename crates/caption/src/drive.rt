@@ -41,5 +41,5 @@ pub extern "C" fn caption_drive_line(
     if refused != 0 {
         return no_line(refused);
     }
-    drive::drive(rec, memory, registers, panel, image, glass, e.head, r, k)
+    drive::drive(rec, memory, registers, panel, image, e.head, r, k)
 }

@@ -1,5 +1,5 @@
 -- The accepted driver call: the send's answer and record, and the image as the send leaves it; then nothing, where the send is idle, or the writes of its line.
-use mathlib.Core.Path.{_≡_, refl, sym, ap, subst, _∙_}
+use mathlib.Core.Path.{_≡_, refl, sym, ap, _∙_}
 use mathlib.Core.Logic.{_≢_}
 use mathlib.Core.Bool.{Bool, true, false, not}
 use mathlib.Core.List.{List, [], _∷_}
@@ -10,9 +10,7 @@ use borrow.Author.Tests.{not-true, not-false, lt-ltb, le-ltb}
 use Rattle.model.specs.declared.Head.{Head}
 use Rattle.model.specs.declared.Sent.{Sent}
 use Rattle.model.specs.declared.Registers.{Registers}
-use Rattle.model.specs.declared.glass.Glass.{Glass}
-use Rattle.model.specs.Geometry.{Geometry, base, screenBytes}
-use Rattle.model.specs.Glass.{geometry}
+use Rattle.model.specs.Geometry.{base}
 use Rattle.model.specs.Rects.{isEmpty}
 use Rattle.model.specs.Record.{Pending, panelOf, decode}
 use Rattle.model.specs.Refusals.{STATE, PANEL, REGISTER, refusal}
@@ -21,32 +19,27 @@ use Rattle.model.specs.Calls.{send, lent, answered, sentNumbers, Outcome, done}
 use Rattle.model.specs.Controller.{registerBytes, Device, device, registersOf, bytesOfRegisters, registersFit, busy, answer, runDevice}
 use Rattle.model.specs.Driver.{driven, driverTests, lineWrites, driverWrites, driveDone}
 use Rattle.laws.specs.Tests.{by-test}
-use Rattle.laws.specs.Record.{Passing}
 use Rattle.laws.specs.States.{well-formed}
 use Rattle.laws.specs.Bands.{to-send}
 use Rattle.device.specs.Registers.{bytes-back}
-use Rattle.record.specs.Given.{Given}
+use Rattle.accepted.specs.GivenBy.{GivenBy}
 use Rattle.driver.specs.Line.{OnGlass}
 
-module _ {v : Glass} {r : List ℕ} {h : Head} {m : List ℕ} (w : Given v r h m) {k j : ℕ} (there : j < v .panels) (named : j ≡ k) (i r′ i′ : List ℕ) (s : Sent)
-    (sent : answered (s .code) (sentNumbers s) (lent r′ m i′) ≡ done (geometry v) (send j) (lent r m i)) where
+module _ {r : List ℕ} {h : Head} {m : List ℕ} (w : GivenBy r h m) {k : ℕ} (there : k < 4) (i r′ i′ : List ℕ) (s : Sent)
+    (sent : answered (s .code) (sentNumbers s) (lent r′ m i′) ≡ done base (send k) (lent r m i)) where
   abbrev pending : Pending
   pending = panelOf base (decode base r) k
 
-  -- for the glass that there is
-  here : answered (s .code) (sentNumbers s) (lent r′ m i′) ≡ done base (send k) (lent r m i)
-  here = sent ∙ (λ x. done (w .chosen .glass x) (send (named x)) (lent r m i))
-
   numbers-are : sentNumbers s ≡ sendNumbers pending
   unfolding answered done
-  numbers-are = ap (λ (o : Outcome). o .numbers) here
+  numbers-are = ap (λ (o : Outcome). o .numbers) sent
 
   -- the device as the writes leave it
   drives : (d d′ : Device) → d′ ≡ runDevice base (driverWrites base pending i′) d → answer (s .code) (sentNumbers s) (driven r′ m d′ i′) ≡ driveDone base k (driven r m d i)
   unfolding answered driveDone
   drives d d′ e =
       ap (λ (x : Device). answer (s .code) (sentNumbers s) (driven r′ m x i′)) e
-      ∙ ap (λ (o : Outcome). answer (o .code) (o .numbers) (driven (o .left .rec) m (runDevice base (driverWrites base pending (o .left .panel)) d) (o .left .panel))) here
+      ∙ ap (λ (o : Outcome). answer (o .code) (o .numbers) (driven (o .left .rec) m (runDevice base (driverWrites base pending (o .left .panel)) d) (o .left .panel))) sent
 
   idle-if : s .sent ≡ 0 → isEmpty (takeOwed pending .hand) ≡ true
   unfolding sendNumbers lineNumbers
@@ -74,9 +67,7 @@ module _ {v : Glass} {r : List ℕ} {h : Head} {m : List ℕ} (w : Given v r h m
 
   pub on-glass : s .sent ≢ 0 → OnGlass base (s .line) (s .left) (s .right)
   on-glass n =
-      let passing : Passing base r = subst (λ (g : Geometry). Passing g r) (w .chosen .glass) (w .known .passing) in
-      let count : j < base .panels = subst (λ (g : Geometry). j < g .panels) (w .chosen .glass) there in
-      let well = well-formed base r passing .panels k (rw (← named) count) in
+      let well = well-formed base r (w .passing) .panels k there in
       let q = to-send base pending well (line-if n) in
       let l = line-numbers n in
       record { on = omega arith; wide = omega arith; within = omega arith }
@@ -91,10 +82,6 @@ module _ {v : Glass} {r : List ℕ} {h : Head} {m : List ℕ} (w : Given v r h m
       drives (device b p) (device b′ p′)
       (ap (λ (c : List ℕ). device c p′) f ∙ e ∙ ap (λ (c : List ℕ). runDevice base (lineWrites base (s .line) (s .left) (s .right) i′) (device c p)) back
       ∙ rw (line-if n) (λ c. runDevice base (lineWrites base (l .0 c) (l .1 c) (l .2 c) i′) (device b p)))
-
--- the image has its length after the send
-pub image-sized : {v : Glass} {r : List ℕ} {h : Head} {m : List ℕ} → Given v r h m → {n l : ℕ} → n ≡ l → l ≡ screenBytes (geometry v) → n ≡ screenBytes base
-image-sized w e f = e ∙ f ∙ ap screenBytes (w .chosen .glass)
 
 -- ---- what is tested after the record
 

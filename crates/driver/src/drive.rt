@@ -7,7 +7,6 @@ use device::registers::store_registers;
 use model::Head;
 use model::Registers;
 use model::Sent;
-use model::glass::Glass;
 use model::glass::SMALL;
 use model::refusal;
 ghost use mathlib.Core.Path.{_≡_};
@@ -18,8 +17,7 @@ ghost use Rattle.model.specs.Controller.{registerBytes, registersOf, device, an
 ghost use Rattle.model.specs.Refusals.{refusal};
 ghost use Rattle.model.specs.Driver.{driven, driverTests, driveDone};
 ghost use Rattle.model.specs.Geometry.{base, screenBytes};
-ghost use Rattle.model.specs.Glass.{geometry};
-ghost use Rattle.record.specs.Given.{Given};
+ghost use Rattle.accepted.specs.GivenBy.{GivenBy};
 ghost use Rattle.driver.specs.Line.{Idle};
 
 // What is tested after the record: the refusal's number, or 0.
@@ -46,18 +44,17 @@ pub fn drive(
     registers: &mut [u8],
     panel: &mut [u8],
     image: &mut [u8],
-    glass: Glass,
     h: Head,
     r: Registers,
     k: usize,
 ) -> Sent
-    requires { ⌜ Given glass (now rec) h (now memory) ⌝ }
-    requires { ⌜ (length (now image) ≡ screenBytes (geometry glass)) × (k < glass .panels) ⌝ }
+    requires { ⌜ GivenBy (now rec) h (now memory) ⌝ }
+    requires { ⌜ (length (now image) ≡ screenBytes base) × (k < base .panels) ⌝ }
     requires { ⌜ (length (now registers) ≡ registerBytes) × (r ≡ registersOf (now registers)) ⌝ }
     requires { ⌜ Idle base r (now panel) ⌝ }
     ensures { λ s. ⌜ answer (s .code) (sentNumbers s) (driven (now (rec .exit)) (now (memory .entry)) (device (now (registers .exit)) (now (panel .exit))) (now (image .exit))) ≡ driveDone base k (driven (now (rec .entry)) (now (memory .entry)) (device (now (registers .entry)) (now (panel .entry))) (now (image .entry))) ⌝ }
 {
-    let sent = sends::send(rec, memory, image, glass, h, k);
+    let sent = sends::send(rec, memory, image, h, k);
     if sent.sent == 0 {
         return sent;
     }

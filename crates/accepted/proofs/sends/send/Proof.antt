@@ -1,13 +1,19 @@
 -- What the record gives is idle or a line; that line lies on the screen, so it can be copied.
 use native.Mathlib.Omega.{arith}
 use Rattle.record.proofs.Drawing.{screen-room}
-use Rattle.accepted.proofs.Sending.{idles, may-copy, sends-line}
+use Rattle.accepted.proofs.Sending.{given-for, panel-for, done-for, idles, may-copy, sends-line}
 use borrow.Author.Needs.{needs}
 use Rattle.accepted.proofs.sends.send.Statement.{statement}
 use Rattle.accepted.proofs.sends.send.Tie as tie
 
+glass-of-requires : tie.Need-glass-of-requires
+glass-of-requires c κs = search needs
+
 send-panel-requires : tie.Need-send-panel-requires
-send-panel-requires c κs = let s = c .before .before .before .before in (s .pre .0 .known, omega (arith, s .pre .1 .1))
+send-panel-requires c κs =
+    let g = c .before in
+    let a = g .before .before .before .before in
+    (given-for (g .glass-of .ensures) (a .pre .0) .known, panel-for (g .glass-of .ensures) (a .pre .1) .1)
 
 is-empty-requires : tie.Need-is-empty-requires
 is-empty-requires c κs = search needs
@@ -20,8 +26,12 @@ same-length c = search needs
 
 returns : tie.Need-returns
 returns c =
-    let s = c .before .before .before .before .before .before .before .before .before .before in
-    idles (s .pre .0) (s .args .k) (c .before .before .before .before .before .send-panel .ensures) (omega arith) (c .before .before .is-empty .ensures) _ (c .before .if1 .taken) (c .no-line .ensures)
+    let p = c .before .before .before .before .before in
+    let g = p .before .before in
+    let a = g .before .before .before .before in
+    let k = g .glass-of .ensures in
+    done-for (a .args .k) _ _ _ k
+    (idles (given-for k (a .pre .0)) (a .args .k) (p .send-panel .ensures) (omega arith) (c .before .before .is-empty .ensures) _ (c .before .if1 .taken) (c .no-line .ensures))
 
 cast-from : tie.Need-cast-from
 cast-from c = search needs
@@ -39,12 +49,15 @@ part-copy-line-start : tie.Need-part-copy-line-start
 part-copy-line-start c = search needs
 
 part-copy-line-end : tie.Need-part-copy-line-end
-part-copy-line-end c = screen-room (c .before .before .before .before .before .before .before .before .before .before .before .before .pre .0)
+part-copy-line-end c = let g = c .before .before .before .before .before .before .before .before .before in screen-room (given-for (g .glass-of .ensures) (g .before .before .before .before .pre .0))
 
 copy-line-requires : tie.Need-copy-line-requires
 copy-line-requires c κs =
-    let s = c .before .before .before .before .before .before .before .before .before .before .before .before .before .before in
-    may-copy (s .pre .0) (s .args .k) (c .before .before .before .before .before .before .before .before .before .send-panel .ensures) (omega arith) (c .before .before .before .before .before .before .is-empty .ensures) (c .before .before .before .before .before .if1 .left) (c .before .before .canvas-of .ensures) (s .pre .1)
+    let p = c .before .before .before .before .before .before .before .before .before in
+    let g = p .before .before in
+    let a = g .before .before .before .before in
+    let k = g .glass-of .ensures in
+    may-copy (given-for k (a .pre .0)) (a .args .k) (p .send-panel .ensures) (omega arith) (c .before .before .before .before .before .before .is-empty .ensures) (c .before .before .before .before .before .if1 .left) (c .before .before .canvas-of .ensures) (panel-for k (a .pre .1))
 
 sent-line-requires : tie.Need-sent-line-requires
 sent-line-requires c κs = search needs
@@ -57,14 +70,19 @@ same-length-3 c = search needs
 
 returns-2 : tie.Need-returns-2
 returns-2 c =
-    let s = c .before .before .before .before .before .before .before .before .before .before .before .before .before .before .before .before .before .before in
-    sends-line (s .pre .0) (s .args .k) (c .before .before .before .before .before .before .before .before .before .before .before .before .before .send-panel .ensures) (omega arith) (c .before .before .before .before .before .before .before .before .before .before .is-empty .ensures) _ (c .before .before .before .before .before .before .before .before .before .if1 .left) (c .before .before .before .before .before .before .canvas-of .ensures)
-    (c .before .before .before .copy-line .ensures) (c .sent-line .ensures .0) (c .sent-line .ensures .1)
+    let p = c .before .before .before .before .before .before .before .before .before .before .before .before .before in
+    let g = p .before .before in
+    let a = g .before .before .before .before in
+    let k = g .glass-of .ensures in
+    done-for (a .args .k) _ _ _ k
+    (sends-line (given-for k (a .pre .0)) (a .args .k) (p .send-panel .ensures) (omega arith) (c .before .before .before .before .before .before .before .before .before .before .is-empty .ensures) _ (c .before .before .before .before .before .before .before .before .before .if1 .left) (c .before .before .before .before .before .before .canvas-of .ensures)
+    (c .before .before .before .copy-line .ensures) (c .sent-line .ensures .0) (c .sent-line .ensures .1))
 
 pub send-spec : {M : Type 1} → statement M
 send-spec =
     tie.close
     (tie.spec
+    glass-of-requires
     send-panel-requires
     is-empty-requires
     no-line-requires

@@ -1,8 +1,6 @@
 -- Three ends: refused at the entry, refused by the tests of device and panel, and what a driven send does.
 use mathlib.Core.Path.{ap}
-use native.Mathlib.Omega.{arith}
 use Rattle.model.specs.declared.Sent.{Sent}
-use Rattle.model.specs.Geometry.{Geometry}
 use Rattle.model.specs.Calls.{sentNumbers}
 use Rattle.caption.proofs.Devices.{as-answer, drive-stops, registers-lent, drive-stops-later, tested, drive-given, drive-image, drive-idle, drive-ends}
 use borrow.Author.Needs.{needs}
@@ -70,7 +68,7 @@ drive-requires c κs =
     let n = g .glass-of .ensures in (
       drive-given (a .rec .now) (a .memory .now) (a .registers .now) (a .panel .now) (a .image .now) (a .number) n (e .enter .ensures) z x t,
       (
-        (drive-image (a .rec .now) (a .memory .now) (a .registers .now) (a .panel .now) (a .image .now) (a .number) n (e .enter .ensures) z x t, omega (arith, tested (a .number) (c .before .before .before .before .before .before .load-registers .result) t y .there, ap (λ (w : Geometry). w .panels) (n .glass))),
+        (drive-image (a .rec .now) (a .memory .now) (a .registers .now) (a .panel .now) (a .image .now) (a .number) n (e .enter .ensures) z x t, tested (a .number) (c .before .before .before .before .before .before .load-registers .result) t y .there),
         ((registers-lent (a .rec .now) (a .memory .now) (a .registers .now) (a .panel .now) (a .image .now) (a .number) n (e .enter .ensures) z, x), drive-idle (a .rec .now) (a .memory .now) (a .registers .now) (a .panel .now) (a .image .now) (a .number) n (e .enter .ensures) z x t y),
       ),
     )

@@ -3,9 +3,10 @@ use mathlib.Core.Path.{refl, ap}
 use mathlib.Core.List.{[]}
 use native.Mathlib.Omega.{arith}
 use Rattle.model.specs.declared.Sent.{Sent}
+use Rattle.model.specs.Geometry.{Geometry}
 use Rattle.model.specs.Refusals.{PANEL}
 use Rattle.model.specs.Calls.{sentNumbers}
-use Rattle.caption.proofs.Calls.{as-answered, fails, passes, none-left, stops, stops-later, ends, beyond, below, entered-panel, given-panel}
+use Rattle.caption.proofs.Calls.{as-answered, fails, passes, none-left, stops, stops-later, finishes, beyond, below, entered-panel, given-panel}
 use borrow.Author.Needs.{needs}
 use Rattle.caption.proofs.sends.caption_send.Statement.{statement}
 use Rattle.caption.proofs.sends.caption_send.Tie as tie
@@ -47,9 +48,10 @@ returns-2 c =
 
 send-requires : tie.Need-send-requires
 send-requires c κs =
+    let g = c .before .before .before .before .before .before .before .before .glass-of .ensures in
     let a = c .before .before .before .before .before .before .before .before .before .before .before .before .args in
-    let p = given-panel (a .memory .now) (a .panel .now) (c .before .before .before .before .before .before .before .before .glass-of .ensures) (c .before .before .before .before .before .enter .ensures) (c .before .before .before .before .if1 .left) in
-    (p .0, (p .1, omega (arith, c .before .before .if2 .left)))
+    let p = given-panel (a .memory .now) (a .panel .now) g (c .before .before .before .before .before .enter .ensures) (c .before .before .before .before .if1 .left) in
+    (p .0, (p .1, omega (arith, c .before .before .if2 .left, ap (λ (x : Geometry). x .panels) (g .glass))))
 
 same-length-3 : tie.Need-same-length-3
 same-length-3 c = search needs
@@ -63,7 +65,7 @@ returns-3 c =
     let a = c .before .before .before .before .before .before .before .before .before .before .before .before .before .before .before .before .before .args in
     let g = c .before .before .before .before .before .before .before .before .before .before .before .before .before .glass-of .ensures in
     let n = entered-panel (a .memory .now) (a .panel .now) g (c .before .before .before .before .before .before .before .before .before .before .enter .ensures) in
-    ends _ _ refl n (c .before .before .before .before .before .before .before .before .before .if1 .left) g (passes PANEL [] (below g (λ x. x .panels) refl (a .number) (omega (arith, c .before .before .before .before .before .before .before .if2 .left))) none-left) (c .before .before .before .before .send .ensures)
+    finishes _ _ refl n (c .before .before .before .before .before .before .before .before .before .if1 .left) (passes PANEL [] (below g (λ x. x .panels) refl (a .number) (omega (arith, c .before .before .before .before .before .before .before .if2 .left))) none-left) (c .before .before .before .before .send .ensures)
 
 pub caption-send-spec : {M : Type 1} → statement M
 caption-send-spec =

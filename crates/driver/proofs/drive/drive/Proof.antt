@@ -1,6 +1,6 @@
 -- The send is idle, and nothing is written; or its line lies on the glass, and its writes are made.
-use mathlib.Core.Path.{refl}
-use Rattle.driver.proofs.Driving.{drives-idle, on-glass, image-sized, drives-line}
+use mathlib.Core.Path.{_∙_}
+use Rattle.driver.proofs.Driving.{drives-idle, on-glass, drives-line}
 use borrow.Author.Needs.{needs}
 use Rattle.driver.proofs.drive.drive.Statement.{statement}
 use Rattle.driver.proofs.drive.drive.Tie as tie
@@ -18,7 +18,7 @@ returns : tie.Need-returns
 returns c =
     let f = c .before .before .before .before .before .before in
     let e = f .before .before .before .before .before .before .before .before in
-    drives-idle (e .pre .0) (e .pre .1 .0 .1) refl _ _ _ (f .send .result) (f .send .ensures) _ (c .if1 .taken)
+    drives-idle (e .pre .0) (e .pre .1 .0 .1) _ _ _ (f .send .result) (f .send .ensures) _ (c .if1 .taken)
 
 cast-write-line : tie.Need-cast-write-line
 cast-write-line c = search needs
@@ -36,7 +36,7 @@ write-line-requires c κs =
     let f = k .before .before .before in
     let e = f .before .before .before .before .before .before .before .before in (
       e .pre .1 .1 .1,
-      (on-glass (e .pre .0) (e .pre .1 .0 .1) refl _ _ _ (f .send .result) (f .send .ensures) (i .if1 .left), image-sized (e .pre .0) (k .image .given) (e .pre .1 .0 .0)),
+      (on-glass (e .pre .0) (e .pre .1 .0 .1) _ _ _ (f .send .result) (f .send .ensures) (i .if1 .left), k .image .given ∙ e .pre .1 .0 .0),
     )
 
 store-registers-requires : tie.Need-store-registers-requires
@@ -61,7 +61,7 @@ returns-2 c =
     let i = w .before .before .before .before .before .before in
     let f = i .before .before .before .before .before .before in
     let e = f .before .before .before .before .before .before .before .before in
-    drives-line (e .pre .0) (e .pre .1 .0 .1) refl _ _ _ (f .send .result) (f .send .ensures) _ _ _ _ (e .pre .1 .1 .0 .0) (e .pre .1 .1 .0 .1) (i .if1 .left) (w .write-line .ensures) (t .store-registers .ensures)
+    drives-line (e .pre .0) (e .pre .1 .0 .1) _ _ _ (f .send .result) (f .send .ensures) _ _ _ _ (e .pre .1 .1 .0 .0) (e .pre .1 .1 .0 .1) (i .if1 .left) (w .write-line .ensures) (t .store-registers .ensures)
 
 pub drive-spec : {M : Type 1} → statement M
 drive-spec =
