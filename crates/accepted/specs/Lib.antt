@@ -1,4 +1,5 @@
 pub mod Opened
 pub mod NoLine
 pub mod GivenBy
+pub mod LineSent
 pub mod ScreenByte

@@ -12,10 +12,9 @@ ghost use Prim.Native.Nat.{_<_};
 ghost use lib.ListN.{length};
 ghost use Rattle.model.specs.Geometry.{screenBytes};
 ghost use Rattle.model.specs.Glass.{glassOf};
-ghost use Rattle.model.specs.Sends.{lineNumbers};
-ghost use Rattle.model.specs.Calls.{lent, answered, sentNumbers, done};
-ghost use Rattle.model.specs.Calls as calls;
+ghost use Rattle.model.specs.Calls.{sentNumbers};
 ghost use Rattle.accepted.specs.GivenBy.{GivenBy};
+ghost use Rattle.accepted.specs.LineSent.{LineSent, numbersOf};
 ghost use Rattle.accepted.specs.NoLine.{noLine};
 
 // No line: idle, or a refusal.
@@ -31,10 +30,13 @@ pub fn no_line(code: u32) -> Sent
     }
 }
 
-// The line that a rectangle in hand gives.
-fn sent_line(q: Rect) -> Sent
-    ensures { λ r. ⌜ (r .code ≡ 0) × (sentNumbers r ≡ lineNumbers q) ⌝ }
+// The answer of a send whose line is the top line of q; empty: idle.
+pub fn answer(q: Rect) -> Sent
+    ensures { λ r. ⌜ (r .code ≡ 0) × (sentNumbers r ≡ numbersOf q) ⌝ }
 {
+    if rect::is_empty(q) {
+        return no_line(0);
+    }
     Sent {
         code: 0,
         sent: 1,
@@ -44,19 +46,20 @@ fn sent_line(q: Rect) -> Sent
     }
 }
 
-// A send to panel k. Two calls end in it, so it asks for the glass itself: its numbers are constants here.
-pub fn send(rec: &mut [u8], memory: &[u8], panel: &mut [u8], h: Head, k: usize) -> Sent
+// A line of panel k counts as sent and is copied to the panel: the rectangle whose top line it is, empty where there is none. Two calls end in it, so it asks for the
+// glass itself, whose numbers are constants here.
+pub fn send_line(rec: &mut [u8], memory: &[u8], panel: &mut [u8], h: Head, k: usize) -> Rect
     requires { ⌜ GivenBy (now rec) h (now memory) ⌝ }
     requires { ⌜ (length (now panel) ≡ screenBytes (glassOf (length (now rec)))) × (k < glassOf (length (now rec)) .panels) ⌝ }
-    ensures { λ r. ⌜ answered (r .code) (sentNumbers r) (lent (now (rec .exit)) (now (memory .entry)) (now (panel .exit))) ≡ done (glassOf (length (now (rec .entry)))) (calls.send k) (lent (now (rec .entry)) (now (memory .entry)) (now (panel .entry))) ⌝ }
+    ensures { λ q. ⌜ LineSent (glassOf (length (now (rec .entry)))) k (now (rec .entry)) (now (memory .entry)) (now (panel .entry)) q (now (rec .exit)) (now (panel .exit)) ⌝ }
 {
     let glass = glass_of(rec.len());
     let q = pending::send_panel(rec, glass, k);
     if rect::is_empty(q) {
-        return no_line(0);
+        return q;
     }
     let from = h.graphics as usize;
     let to = from + glass.screen;
     line::copy_line(canvas_of(glass), &memory[from..to], panel, q);
-    sent_line(q)
+    q
 }

@@ -27,5 +27,5 @@ pub extern "C" fn caption_send(rec: &mut [u8], memory: &[u8], panel: &mut [u8], 
     if k >= glass.panels {
         return sends::no_line(refusal::PANEL);
     }
-    sends::send(rec, memory, panel, e.head, k)
+    sends::answer(sends::send_line(rec, memory, panel, e.head, k))
 }

@@ -7,6 +7,7 @@ use Prim.Native.Nat.{ℕ, _≤_, _<_}
 use native.Mathlib.Omega.{arith}
 use lib.ListN.{length, getD}
 use borrow.Author.Tests.{not-true, not-false, lt-ltb, le-ltb}
+use Rattle.model.specs.declared.Rect.{Rect}
 use Rattle.model.specs.declared.Head.{Head}
 use Rattle.model.specs.declared.Sent.{Sent}
 use Rattle.model.specs.declared.Registers.{Registers}
@@ -14,7 +15,7 @@ use Rattle.model.specs.Geometry.{base}
 use Rattle.model.specs.Rects.{isEmpty}
 use Rattle.model.specs.Record.{Pending, panelOf, decode}
 use Rattle.model.specs.Refusals.{STATE, PANEL, REGISTER, refusal}
-use Rattle.model.specs.Sends.{takeOwed, lineNumbers, sendNumbers}
+use Rattle.model.specs.Sends.{takeOwed}
 use Rattle.model.specs.Calls.{send, lent, answered, sentNumbers, Outcome, done}
 use Rattle.model.specs.Controller.{registerBytes, Device, device, registersOf, bytesOfRegisters, registersFit, busy, answer, runDevice}
 use Rattle.model.specs.Driver.{driven, driverTests, lineWrites, driverWrites, driveDone}
@@ -23,65 +24,45 @@ use Rattle.laws.specs.States.{well-formed}
 use Rattle.laws.specs.Bands.{to-send}
 use Rattle.device.specs.Registers.{bytes-back}
 use Rattle.accepted.specs.GivenBy.{GivenBy}
-use Rattle.driver.specs.Line.{OnGlass}
+use Rattle.accepted.specs.LineSent.{LineSent, numbersOf}
+use Rattle.accepted.proofs.Sending.{send-done}
+use Rattle.driver.specs.Line.{OnGlass, LineWritten}
 
-module _ {r : List ℕ} {h : Head} {m : List ℕ} (w : GivenBy r h m) {k : ℕ} (there : k < 4) (i r′ i′ : List ℕ) (s : Sent)
-    (sent : answered (s .code) (sentNumbers s) (lent r′ m i′) ≡ done base (send k) (lent r m i)) where
+module _ {r m i : List ℕ} {k : ℕ} {q : Rect} {r′ i′ : List ℕ} (s : LineSent base k r m i q r′ i′) where
   abbrev pending : Pending
   pending = panelOf base (decode base r) k
 
-  numbers-are : sentNumbers s ≡ sendNumbers pending
-  unfolding answered done
-  numbers-are = ap (λ (o : Outcome). o .numbers) sent
+  empty-as : {t u : Bool} → t ≡ isEmpty q → t ≡ u → isEmpty (takeOwed pending .hand) ≡ u
+  empty-as e f = ap isEmpty (sym (s .line)) ∙ sym e ∙ f
 
-  -- the device as the writes leave it
-  drives : (d d′ : Device) → d′ ≡ runDevice base (driverWrites base pending i′) d → answer (s .code) (sentNumbers s) (driven r′ m d′ i′) ≡ driveDone base k (driven r m d i)
-  unfolding answered driveDone
-  drives d d′ e =
-      ap (λ (x : Device). answer (s .code) (sentNumbers s) (driven r′ m x i′)) e
-      ∙ ap (λ (o : Outcome). answer (o .code) (o .numbers) (driven (o .left .rec) m (runDevice base (driverWrites base pending (o .left .panel)) d) (o .left .panel))) sent
+  -- the line lies on the glass
+  pub on-glass : {h : Head} {t : Bool} → GivenBy r h m → k < 4 → t ≡ isEmpty q → t ≡ false → OnGlass base (q .top) (q .left) (q .right)
+  on-glass w there e f =
+      let p = to-send base pending (well-formed base r (w .passing) .panels k there) (empty-as e f) in
+      rw (s .line) (record { on = omega arith; wide = p .wide; within = p .right-in })
 
-  idle-if : s .sent ≡ 0 → isEmpty (takeOwed pending .hand) ≡ true
-  unfolding sendNumbers lineNumbers
-  idle-if z =
-      by-test (isEmpty (takeOwed pending .hand)) (λ e. e)
-      (λ e. absurd (let n : sentNumbers s ≡ lineNumbers (takeOwed pending .hand) = numbers-are ∙ rw e refl in let one : s .sent ≡ 1 = ap (λ (l : List ℕ). getD l 0 0) n in omega arith))
+  module _ {a : Sent} (n : (a .code ≡ 0) × (sentNumbers a ≡ numbersOf q)) where
+    -- the device as the writes leave it
+    drives : (d d′ : Device) → d′ ≡ runDevice base (driverWrites base pending i′) d → answer (a .code) (sentNumbers a) (driven r′ m d′ i′) ≡ driveDone base k (driven r m d i)
+    unfolding answered driveDone
+    drives d d′ e =
+        ap (λ (x : Device). answer (a .code) (sentNumbers a) (driven r′ m x i′)) e
+        ∙ ap (λ (o : Outcome). answer (o .code) (o .numbers) (driven (o .left .rec) m (runDevice base (driverWrites base pending (o .left .panel)) d) (o .left .panel))) (send-done base k r m i s n)
 
-  line-if : s .sent ≢ 0 → isEmpty (takeOwed pending .hand) ≡ false
-  unfolding sendNumbers
-  line-if n =
-      by-test (isEmpty (takeOwed pending .hand)) (λ e. let z : sentNumbers s ≡ 0 ∷ 0 ∷ 0 ∷ 0 ∷ [] = numbers-are ∙ rw e refl in absurd (n (ap (λ (l : List ℕ). getD l 0 0) z))) (λ e. e)
+    -- idle: no write
+    pub drives-idle : (d : Device) {t : Bool} → t ≡ isEmpty q → t ≡ true → answer (a .code) (sentNumbers a) (driven r′ m d i′) ≡ driveDone base k (driven r m d i)
+    unfolding driverWrites runDevice
+    drives-idle d e f = drives d d (rw (empty-as e f) refl)
 
-  -- idle: no write
-  pub drives-idle : (d : Device) → s .sent ≡ 0 → answer (s .code) (sentNumbers s) (driven r′ m d i′) ≡ driveDone base k (driven r m d i)
-  unfolding driverWrites runDevice
-  drives-idle d z = drives d d (rw (idle-if z) refl)
-
-  -- a line: its numbers are the hand's
-  line-numbers : s .sent ≢ 0 → let q = takeOwed pending .hand in (s .line ≡ q .top) × (s .left ≡ q .left) × (s .right ≡ q .right)
-  unfolding sendNumbers lineNumbers
-  line-numbers n =
-      let q = takeOwed pending .hand in
-      let e : sentNumbers s ≡ 1 ∷ q .top ∷ q .left ∷ q .right ∷ [] = numbers-are ∙ rw (line-if n) refl in
-      (ap (λ (l : List ℕ). getD l 1 0) e, ap (λ (l : List ℕ). getD l 2 0) e, ap (λ (l : List ℕ). getD l 3 0) e)
-
-  pub on-glass : s .sent ≢ 0 → OnGlass base (s .line) (s .left) (s .right)
-  on-glass n =
-      let well = well-formed base r (w .passing) .panels k there in
-      let q = to-send base pending well (line-if n) in
-      let l = line-numbers n in
-      record { on = omega arith; wide = omega arith; within = omega arith }
-
-  pub drives-line : {x y : Registers} (b b′ p p′ : List ℕ) → length b ≡ registerBytes → x ≡ registersOf b → s .sent ≢ 0
-      → device (bytesOfRegisters y) p′ ≡ runDevice base (lineWrites base (s .line) (s .left) (s .right) i′) (device (bytesOfRegisters x) p)
-      → b′ ≡ bytesOfRegisters y → answer (s .code) (sentNumbers s) (driven r′ m (device b′ p′) i′) ≡ driveDone base k (driven r m (device b p) i)
-  unfolding driverWrites
-  drives-line {x} {y} b b′ p p′ z o n e f =
-      let l = line-numbers n in
-      let back : bytesOfRegisters x ≡ b = ap bytesOfRegisters o ∙ bytes-back b z in
-      drives (device b p) (device b′ p′)
-      (ap (λ (c : List ℕ). device c p′) f ∙ e ∙ ap (λ (c : List ℕ). runDevice base (lineWrites base (s .line) (s .left) (s .right) i′) (device c p)) back
-      ∙ rw (line-if n) (λ c. runDevice base (lineWrites base (l .0 c) (l .1 c) (l .2 c) i′) (device b p)))
+    -- a line
+    pub drives-line : {x y : Registers} (b b′ p p′ : List ℕ) {t : Bool} → length b ≡ registerBytes → x ≡ registersOf b → t ≡ isEmpty q → t ≡ false → LineWritten base x p i′ q y p′
+        → b′ ≡ bytesOfRegisters y → answer (a .code) (sentNumbers a) (driven r′ m (device b′ p′) i′) ≡ driveDone base k (driven r m (device b p) i)
+    unfolding driverWrites
+    drives-line {x} b b′ p p′ z o e f w u =
+        let back : bytesOfRegisters x ≡ b = ap bytesOfRegisters o ∙ bytes-back b z in
+        drives (device b p) (device b′ p′)
+        (ap (λ (c : List ℕ). device c p′) u ∙ w .left ∙ ap (λ (c : List ℕ). runDevice base (lineWrites base (q .top) (q .left) (q .right) i′) (device c p)) back
+        ∙ rw (empty-as e f) (ap (λ (c : Rect). runDevice base (lineWrites base (c .top) (c .left) (c .right) i′) (device b p)) (s .line)))
 
 -- ---- what is tested after the record
 

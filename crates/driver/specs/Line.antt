@@ -9,6 +9,7 @@ use native.Mathlib.Numerals.{add-one}
 use borrow.Author.Tests.{ne-eqb}
 use lib.ListN.{length, getD, take, drop, drop-of-length-le}
 use lib.Seq.{drop-cons}
+use Rattle.model.specs.declared.Rect.{Rect}
 use Rattle.model.specs.declared.Registers.{Registers}
 use Rattle.model.specs.Geometry.{Geometry, width, height, screenBytes}
 use Rattle.model.specs.declared.Register.{Register}
@@ -54,6 +55,10 @@ pub record Started (g : Geometry) (r : Registers) (p : List ℕ) (line first cou
 pub record DataWritten (g : Geometry) (r : Registers) (p bs : List ℕ) (s : Registers) (q : List ℕ) : Type 0 where
   pub left : device (bytesOfRegisters s) q ≡ runDevice g (map (write 4) bs) (device (bytesOfRegisters r) p)
   pub long : length q ≡ length p
+
+-- the writes of the top line of q
+pub record LineWritten (g : Geometry) (r : Registers) (p image : List ℕ) (q : Rect) (s : Registers) (p′ : List ℕ) : Type 0 where
+  pub left : device (bytesOfRegisters s) p′ ≡ runDevice g (lineWrites g (q .top) (q .left) (q .right) image) (device (bytesOfRegisters r) p)
 
 -- ---- as the code goes
 

@@ -4,6 +4,7 @@ use accepted::sends;
 use device::registers::is_busy;
 use device::registers::registers_fit;
 use device::registers::store_registers;
+use marks::rect;
 use model::Head;
 use model::Registers;
 use model::Sent;
@@ -54,18 +55,11 @@ pub fn drive(
     requires { ⌜ Idle base r (now panel) ⌝ }
     ensures { λ s. ⌜ answer (s .code) (sentNumbers s) (driven (now (rec .exit)) (now (memory .entry)) (device (now (registers .exit)) (now (panel .exit))) (now (image .exit))) ≡ driveDone base k (driven (now (rec .entry)) (now (memory .entry)) (device (now (registers .entry)) (now (panel .entry))) (now (image .entry))) ⌝ }
 {
-    let sent = sends::send(rec, memory, image, h, k);
-    if sent.sent == 0 {
+    let q = sends::send_line(rec, memory, image, h, k);
+    let sent = sends::answer(q);
+    if rect::is_empty(q) {
         return sent;
     }
-    let s = line::write_line(
-        r,
-        panel,
-        image,
-        sent.line as usize,
-        sent.left as usize,
-        sent.right as usize,
-    );
-    store_registers(registers, s);
+    store_registers(registers, line::write_line(r, panel, image, q));
     sent
 }

@@ -1,14 +1,13 @@
 // A line written to the device by the device's own writes.
 use device::write::write;
+use model::Rect;
 use model::Register;
 use model::Registers;
 use model::glass::SMALL;
 ghost use mathlib.Core.Path.{_≡_};
 ghost use lib.ListN.{length};
 ghost use Rattle.model.specs.Geometry.{base, screenBytes};
-ghost use Rattle.model.specs.Controller.{bytesOfRegisters, device, runDevice};
-ghost use Rattle.model.specs.Driver.{lineWrites};
-ghost use Rattle.driver.specs.Line.{Idle, Begun, Started, DataWritten, Placed, OnGlass};
+ghost use Rattle.driver.specs.Line.{Idle, Begun, Started, DataWritten, Placed, OnGlass, LineWritten};
 
 // Registers 1 to 3, then command 2.
 fn start_line(r: Registers, panel: &mut [u8], line: u8, first: u8, count: u8) -> Registers
@@ -37,24 +36,19 @@ fn write_bytes(r: Registers, panel: &mut [u8], bytes: &[u8]) -> Registers
     s
 }
 
-// The pixels from left to right of a line, by the bytes of the image that hold them.
-pub fn write_line(
-    r: Registers,
-    panel: &mut [u8],
-    image: &[u8],
-    y: usize,
-    left: usize,
-    right: usize,
-) -> Registers
+// The top line of a rectangle, by the bytes of the image that hold its pixels.
+pub fn write_line(r: Registers, panel: &mut [u8], image: &[u8], q: Rect) -> Registers
     requires { ⌜ Idle base r (now panel) ⌝ }
-    requires { ⌜ OnGlass base y left right × (length (now image) ≡ screenBytes base) ⌝ }
-    ensures { λ s. ⌜ device (bytesOfRegisters s) (now (panel .exit)) ≡ runDevice base (lineWrites base y left right (now (image .entry))) (device (bytesOfRegisters r) (now (panel .entry))) ⌝ }
+    requires { ⌜ OnGlass base (q .top) (q .left) (q .right) × (length (now image) ≡ screenBytes base) ⌝ }
+    ensures { λ s. ⌜ LineWritten base r (now (panel .entry)) (now (image .entry)) q s (now (panel .exit)) ⌝ }
 {
     let glass = SMALL;
+    let left = q.left as usize;
+    let right = q.right as usize;
     let first = left / 8;
     let count = (right - 1) / 8 + 1 - first;
-    let from = glass.stride * y + first;
+    let from = glass.stride * (q.top as usize) + first;
     let to = from + count;
-    let s = start_line(r, panel, y as u8, first as u8, count as u8);
+    let s = start_line(r, panel, q.top as u8, first as u8, count as u8);
     write_bytes(s, panel, &image[from..to])
 }

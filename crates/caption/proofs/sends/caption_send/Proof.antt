@@ -2,10 +2,13 @@
 use mathlib.Core.Path.{refl, ap}
 use mathlib.Core.List.{[]}
 use native.Mathlib.Omega.{arith}
+use lib.ListN.{length}
 use Rattle.model.specs.declared.Sent.{Sent}
 use Rattle.model.specs.Geometry.{Geometry}
+use Rattle.model.specs.Glass.{glassOf}
 use Rattle.model.specs.Refusals.{PANEL}
 use Rattle.model.specs.Calls.{sentNumbers}
+use Rattle.accepted.proofs.Sending.{send-done}
 use Rattle.caption.proofs.Calls.{as-answered, fails, passes, none-left, stops, stops-later, finishes, beyond, below, entered-panel, given-panel}
 use borrow.Author.Needs.{needs}
 use Rattle.caption.proofs.sends.caption_send.Statement.{statement}
@@ -46,12 +49,15 @@ returns-2 c =
     as-answered _ (ap (λ (s : Sent). s .code) (c .no-line2 .ensures)) (ap sentNumbers (c .no-line2 .ensures))
     (stops-later _ _ refl n (c .before .before .before .if1 .left) PANEL (fails [] (beyond g (λ x. x .panels) refl (a .number) (omega (arith, c .before .if2 .taken)))) (λ z. omega arith))
 
-send-requires : tie.Need-send-requires
-send-requires c κs =
+send-line-requires : tie.Need-send-line-requires
+send-line-requires c κs =
     let g = c .before .before .before .before .before .before .before .before .glass-of .ensures in
     let a = c .before .before .before .before .before .before .before .before .before .before .before .before .args in
     let p = given-panel (a .memory .now) (a .panel .now) g (c .before .before .before .before .before .enter .ensures) (c .before .before .before .before .if1 .left) in
     (p .0, (p .1, omega (arith, c .before .before .if2 .left, ap (λ (x : Geometry). x .panels) (g .glass))))
+
+answer-requires : tie.Need-answer-requires
+answer-requires c κs = search needs
 
 same-length-3 : tie.Need-same-length-3
 same-length-3 c = search needs
@@ -62,10 +68,12 @@ same-length-4 c = search needs
 -- sent
 returns-3 : tie.Need-returns-3
 returns-3 c =
-    let a = c .before .before .before .before .before .before .before .before .before .before .before .before .before .before .before .before .before .args in
-    let g = c .before .before .before .before .before .before .before .before .before .before .before .before .before .glass-of .ensures in
-    let n = entered-panel (a .memory .now) (a .panel .now) g (c .before .before .before .before .before .before .before .before .before .before .enter .ensures) in
-    finishes _ _ refl n (c .before .before .before .before .before .before .before .before .before .if1 .left) (passes PANEL [] (below g (λ x. x .panels) refl (a .number) (omega (arith, c .before .before .before .before .before .before .before .if2 .left))) none-left) (c .before .before .before .before .send .ensures)
+    let e = c .before .before .before .before .before .before .before .before .before .before .before in
+    let g = e .before .before .before .glass-of .ensures in
+    let a = e .before .before .before .before .before .before .before .args in
+    let n = entered-panel (a .memory .now) (a .panel .now) g (e .enter .ensures) in
+    finishes _ _ refl n (c .before .before .before .before .before .before .before .before .before .before .if1 .left) (passes PANEL [] (below g (λ x. x .panels) refl (a .number) (omega (arith, c .before .before .before .before .before .before .before .before .if2 .left))) none-left)
+    (send-done (glassOf (length (a .rec .now))) (a .number) (a .rec .now) (a .memory .now) (a .panel .now) (c .before .before .before .before .before .send-line .ensures) (c .answer .ensures))
 
 pub caption-send-spec : {M : Type 1} → statement M
 caption-send-spec =
@@ -79,7 +87,8 @@ caption-send-spec =
     no-line-requires-2
     same-length-2
     returns-2
-    send-requires
+    send-line-requires
+    answer-requires
     same-length-3
     same-length-4
     returns-3)

@@ -5,8 +5,14 @@ use borrow.Author.Needs.{needs}
 use Rattle.driver.proofs.drive.drive.Statement.{statement}
 use Rattle.driver.proofs.drive.drive.Tie as tie
 
-send-requires : tie.Need-send-requires
-send-requires c κs = let e = c .before .before .before .before .before .before .before in (e .pre .0, (e .pre .1 .0 .0, e .pre .1 .0 .1))
+send-line-requires : tie.Need-send-line-requires
+send-line-requires c κs = search needs
+
+answer-requires : tie.Need-answer-requires
+answer-requires c κs = search needs
+
+is-empty-requires : tie.Need-is-empty-requires
+is-empty-requires c κs = search needs
 
 same-length : tie.Need-same-length
 same-length c = search needs
@@ -15,32 +21,16 @@ same-length-2 : tie.Need-same-length-2
 same-length-2 c = search needs
 
 returns : tie.Need-returns
-returns c =
-    let f = c .before .before .before .before .before .before in
-    let e = f .before .before .before .before .before .before .before .before in
-    drives-idle (e .pre .0) (e .pre .1 .0 .1) _ _ _ (f .send .result) (f .send .ensures) _ (c .if1 .taken)
-
-cast-write-line : tie.Need-cast-write-line
-cast-write-line c = search needs
-
-cast-write-line-2 : tie.Need-cast-write-line-2
-cast-write-line-2 c = search needs
-
-cast-write-line-3 : tie.Need-cast-write-line-3
-cast-write-line-3 c = search needs
+returns c = drives-idle (c .before .before .before .before .before .before .before .send-line .ensures) (c .before .before .answer .ensures) _ (c .before .is-empty .ensures) (c .if1 .taken)
 
 write-line-requires : tie.Need-write-line-requires
 write-line-requires c κs =
-    let i = c .before .before .before .before .before in
-    let k = i .before .before .before in
-    let f = k .before .before .before in
-    let e = f .before .before .before .before .before .before .before .before in (
-      e .pre .1 .1 .1,
-      (on-glass (e .pre .0) (e .pre .1 .0 .1) _ _ _ (f .send .result) (f .send .ensures) (i .if1 .left), k .image .given ∙ e .pre .1 .0 .0),
-    )
+    let f = c .before .before .before .before .before .before .before .before .before .before in
+    let e = f .before .before .before .before .before .before .before .before in
+    (e .pre .1 .1 .1, (on-glass (f .send-line .ensures) (e .pre .0) (e .pre .1 .0 .1) (c .before .before .before .before .is-empty .ensures) (c .before .before .before .if1 .left), c .before .before .before .before .before .before .before .image .given ∙ e .pre .1 .0 .0))
 
 store-registers-requires : tie.Need-store-registers-requires
-store-registers-requires c κs = c .before .before .before .before .before .before .before .before .before .before .before .before .before .before .before .before .before .before .before .before .before .before .before .pre .1 .1 .0 .0
+store-registers-requires c κs = c .before .before .before .before .before .before .before .before .before .before .before .before .before .before .before .before .before .before .before .before .before .pre .1 .1 .0 .0
 
 same-length-3 : tie.Need-same-length-3
 same-length-3 c = search needs
@@ -56,24 +46,21 @@ same-length-6 c = search needs
 
 returns-2 : tie.Need-returns-2
 returns-2 c =
-    let t = c .before .before in
-    let w = t .before .before .before .before in
-    let i = w .before .before .before .before .before .before in
-    let f = i .before .before .before .before .before .before in
+    let f = c .before .before .before .before .before .before .before .before .before .before .before .before .before .before .before .before in
     let e = f .before .before .before .before .before .before .before .before in
-    drives-line (e .pre .0) (e .pre .1 .0 .1) _ _ _ (f .send .result) (f .send .ensures) _ _ _ _ (e .pre .1 .1 .0 .0) (e .pre .1 .1 .0 .1) (i .if1 .left) (w .write-line .ensures) (t .store-registers .ensures)
+    drives-line (f .send-line .ensures) (c .before .before .before .before .before .before .before .before .before .before .before .answer .ensures) _ _ _ _ (e .pre .1 .1 .0 .0) (e .pre .1 .1 .0 .1) (c .before .before .before .before .before .before .before .before .before .before .is-empty .ensures) (c .before .before .before .before .before .before .before .before .before .if1 .left) (c .before .before .before .before .before .write-line .ensures)
+    (c .before .before .store-registers .ensures)
 
 pub drive-spec : {M : Type 1} → statement M
 drive-spec =
     tie.close
     (tie.spec
-    send-requires
+    send-line-requires
+    answer-requires
+    is-empty-requires
     same-length
     same-length-2
     returns
-    cast-write-line
-    cast-write-line-2
-    cast-write-line-3
     write-line-requires
     store-registers-requires
     same-length-3

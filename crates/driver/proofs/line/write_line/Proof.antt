@@ -1,13 +1,16 @@
 -- A start and a data write for each byte: the list of the line's writes.
+use native.Mathlib.Omega.{arith}
 use Rattle.model.specs.Geometry.{base}
 use Rattle.driver.specs.Line.{line-run}
 use borrow.Author.Needs.{needs}
 use Rattle.driver.proofs.line.write_line.Statement.{statement}
 use Rattle.driver.proofs.line.write_line.Tie as tie
-use Rattle.driver.proofs.line.write_line.Reads as reads
-use Rattle.driver.proofs.line.write_line.Lts as lts
-use Rattle.driver.proofs.line.start_line.Reads as start-line-reads
-use Rattle.driver.proofs.line.write_bytes.Reads as write-bytes-reads
+
+cast-left : tie.Need-cast-left
+cast-left c = search needs
+
+cast-right : tie.Need-cast-right
+cast-right c = search needs
 
 sub-count : tie.Need-sub-count
 sub-count c = search needs
@@ -17,6 +20,9 @@ add-count c = search needs
 
 sub-count-2 : tie.Need-sub-count-2
 sub-count-2 c = search needs
+
+cast-from : tie.Need-cast-from
+cast-from c = search needs
 
 mul-from : tie.Need-mul-from
 mul-from c = search needs
@@ -46,7 +52,7 @@ part-write-bytes-start : tie.Need-part-write-bytes-start
 part-write-bytes-start c = search needs
 
 part-write-bytes-end : tie.Need-part-write-bytes-end
-part-write-bytes-end c = search needs
+part-write-bytes-end c = let e = c .before .before .before .before .before .before .before .before .before .before .before .before .pre in omega (arith, e .1 .0, e .1 .1)
 
 write-bytes-requires : tie.Need-write-bytes-requires
 write-bytes-requires c κs = search needs
@@ -57,16 +63,18 @@ same-length c = search needs
 returns : tie.Need-returns
 returns c =
     let b = c .before .before in
-    let s = b .before .before .before .before .before in
-    line-run base _ _ _ _ _ _ _ _ _ _ (s .start-line .ensures .left) (b .write-bytes .ensures .left)
+    record { left = line-run base _ _ _ _ _ _ _ _ _ _ (c .before .before .before .before .before .before .before .start-line .ensures .left) (b .write-bytes .ensures .left) }
 
 pub write-line-spec : {M : Type 1} → statement M
 write-line-spec =
     tie.close
     (tie.spec
+    cast-left
+    cast-right
     sub-count
     add-count
     sub-count-2
+    cast-from
     mul-from
     add-from
     add-to

@@ -1,10 +1,10 @@
 -- What the record gives is idle or a line; that line lies on the screen, so it can be copied.
 use native.Mathlib.Omega.{arith}
 use Rattle.record.proofs.Drawing.{screen-room}
-use Rattle.accepted.proofs.Sending.{given-for, panel-for, done-for, idles, may-copy, sends-line}
+use Rattle.accepted.proofs.Sending.{given-for, panel-for, sent-for, idles, may-copy, sends-line}
 use borrow.Author.Needs.{needs}
-use Rattle.accepted.proofs.sends.send.Statement.{statement}
-use Rattle.accepted.proofs.sends.send.Tie as tie
+use Rattle.accepted.proofs.sends.send_line.Statement.{statement}
+use Rattle.accepted.proofs.sends.send_line.Tie as tie
 
 glass-of-requires : tie.Need-glass-of-requires
 glass-of-requires c κs = search needs
@@ -18,20 +18,16 @@ send-panel-requires c κs =
 is-empty-requires : tie.Need-is-empty-requires
 is-empty-requires c κs = search needs
 
-no-line-requires : tie.Need-no-line-requires
-no-line-requires c κs = search needs
-
 same-length : tie.Need-same-length
 same-length c = search needs
 
 returns : tie.Need-returns
 returns c =
-    let p = c .before .before .before .before .before in
+    let p = c .before .before .before .before in
     let g = p .before .before in
     let a = g .before .before .before .before in
     let k = g .glass-of .ensures in
-    done-for (a .args .k) _ _ _ k
-    (idles (given-for k (a .pre .0)) (a .args .k) (p .send-panel .ensures) (omega arith) (c .before .before .is-empty .ensures) _ (c .before .if1 .taken) (c .no-line .ensures))
+    sent-for (a .args .k) _ _ _ k (idles (given-for k (a .pre .0)) (a .args .k) (p .send-panel .ensures) (omega arith) (c .before .is-empty .ensures) _ (c .if1 .taken))
 
 cast-from : tie.Need-cast-from
 cast-from c = search needs
@@ -59,9 +55,6 @@ copy-line-requires c κs =
     let k = g .glass-of .ensures in
     may-copy (given-for k (a .pre .0)) (a .args .k) (p .send-panel .ensures) (omega arith) (c .before .before .before .before .before .before .is-empty .ensures) (c .before .before .before .before .before .if1 .left) (c .before .before .canvas-of .ensures) (panel-for k (a .pre .1))
 
-sent-line-requires : tie.Need-sent-line-requires
-sent-line-requires c κs = search needs
-
 same-length-2 : tie.Need-same-length-2
 same-length-2 c = search needs
 
@@ -70,22 +63,20 @@ same-length-3 c = search needs
 
 returns-2 : tie.Need-returns-2
 returns-2 c =
-    let p = c .before .before .before .before .before .before .before .before .before .before .before .before .before in
+    let p = c .before .before .before .before .before .before .before .before .before .before .before .before in
     let g = p .before .before in
     let a = g .before .before .before .before in
     let k = g .glass-of .ensures in
-    done-for (a .args .k) _ _ _ k
-    (sends-line (given-for k (a .pre .0)) (a .args .k) (p .send-panel .ensures) (omega arith) (c .before .before .before .before .before .before .before .before .before .before .is-empty .ensures) _ (c .before .before .before .before .before .before .before .before .before .if1 .left) (c .before .before .before .before .before .before .canvas-of .ensures)
-    (c .before .before .before .copy-line .ensures) (c .sent-line .ensures .0) (c .sent-line .ensures .1))
+    sent-for (a .args .k) _ _ _ k
+    (sends-line (given-for k (a .pre .0)) (a .args .k) (p .send-panel .ensures) (omega arith) (c .before .before .before .before .before .before .before .before .before .is-empty .ensures) _ (c .before .before .before .before .before .before .before .before .if1 .left) (c .before .before .before .before .before .canvas-of .ensures) (c .before .before .copy-line .ensures))
 
-pub send-spec : {M : Type 1} → statement M
-send-spec =
+pub send-line-spec : {M : Type 1} → statement M
+send-line-spec =
     tie.close
     (tie.spec
     glass-of-requires
     send-panel-requires
     is-empty-requires
-    no-line-requires
     same-length
     returns
     cast-from
@@ -95,7 +86,6 @@ send-spec =
     part-copy-line-start
     part-copy-line-end
     copy-line-requires
-    sent-line-requires
     same-length-2
     same-length-3
     returns-2)
