@@ -10,6 +10,10 @@ use model::Registers;
 use model::Sent;
 use model::glass::SMALL;
 use model::refusal;
+use record::glass::canvas_of;
+use record::glass::glass_of;
+use send::line::copy_line;
+use send::pending;
 ghost use mathlib.Core.Path.{_≡_};
 ghost use Prim.Native.Nat.{_<_};
 ghost use lib.ListN.{length};
@@ -55,11 +59,15 @@ pub fn drive(
     requires { ⌜ Idle base r (now panel) ⌝ }
     ensures { λ s. ⌜ answer (s .code) (sentNumbers s) (driven (now (rec .exit)) (now (memory .entry)) (device (now (registers .exit)) (now (panel .exit))) (now (image .exit))) ≡ driveDone base k (driven (now (rec .entry)) (now (memory .entry)) (device (now (registers .entry)) (now (panel .entry))) (now (image .entry))) ⌝ }
 {
-    let q = sends::send_line(rec, memory, image, h, k);
+    let glass = glass_of(rec.len());
+    let q = pending::send_panel(rec, glass, k);
     let sent = sends::answer(q);
     if rect::is_empty(q) {
         return sent;
     }
+    let from = h.graphics as usize;
+    let to = from + glass.screen;
+    copy_line(canvas_of(glass), &memory[from..to], image, q);
     store_registers(registers, line::write_line(r, panel, image, q));
     sent
 }
