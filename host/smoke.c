@@ -1,6 +1,7 @@
 /* A small host: links libcaption.a and shows that the calls of the header are there and do what it says. main goes through a life of the screen: open, a point and
    its line on a panel, every refusal of every call, a bitmap by both painters, a flush, sends until idle, four panels at paces of their own, text, cursor and modes,
-   lines that stop at the edge. Prints what it sees and ends with "ok"; the exit status is 0 only then. What it tries is a sample: the proofs and compare/ cover the rest. */
+   lines that stop at the edge, a glass controller by hand and driven. Prints what it sees and ends with "ok"; the exit status is 0 only then. What it tries is a
+   sample: the proofs and compare/ cover the rest. */
 #include "caption.h"
 #include <stdio.h>
 #include <string.h>
@@ -8,12 +9,17 @@
 /* the buffers that a host owns, and copies of them to see what a call changed */
 static uint8_t rec[CAPTION_RECORD_BYTES], memory[CAPTION_MEMORY_BYTES], panels[CAPTION_PANELS][CAPTION_PANEL_BYTES];
 static uint8_t rec_was[CAPTION_RECORD_BYTES], memory_was[CAPTION_MEMORY_BYTES], panels_were[CAPTION_PANELS][CAPTION_PANEL_BYTES];
+/* those of a glass controller, whose panel is panels[1], and of its line driver */
+static uint8_t registers[CAPTION_REGISTERS], image[CAPTION_PANEL_BYTES];
+static uint8_t registers_were[CAPTION_REGISTERS], image_was[CAPTION_PANEL_BYTES];
 static int failures;
 
 static void keep(void) {
     memcpy(rec_was, rec, sizeof rec);
     memcpy(memory_was, memory, sizeof memory);
     memcpy(panels_were, panels, sizeof panels);
+    memcpy(registers_were, registers, sizeof registers);
+    memcpy(image_was, image, sizeof image);
 }
 
 static void expect(const char *what, int right) {
@@ -26,16 +32,22 @@ static void expect(const char *what, int right) {
 /* code is n, and no byte of the buffers changed since keep() */
 static void refused(const char *what, uint32_t code, uint32_t n) {
     expect(what, code == n && !memcmp(rec_was, rec, sizeof rec) && !memcmp(memory_was, memory, sizeof memory) &&
-                     !memcmp(panels_were, panels, sizeof panels));
+                     !memcmp(panels_were, panels, sizeof panels) && !memcmp(registers_were, registers, sizeof registers) &&
+                     !memcmp(image_was, image, sizeof image));
 }
 
 /* buffers as the calls take them, pointer and length; LESS_..: a byte too few. A pointer is never null, also at length 0 */
 #define R rec, sizeof rec
 #define M memory, sizeof memory
 #define P(k) panels[k], sizeof panels[k]
+#define REGISTERS registers, sizeof registers
+#define IMAGE image, sizeof image
 #define OPEN(r, m, g, t, v, e) caption_open(r, m, g, t, v, 0, 0, 0, 0, 0, 0, 0, 0, e)
 #define LESS_RECORD rec, sizeof rec - 1
 #define LESS_MEMORY memory, sizeof memory - 1
+#define LESS_PANEL panels[1], sizeof panels[1] - 1
+#define LESS_REGISTERS registers, sizeof registers - 1
+#define LESS_IMAGE image, sizeof image - 1
 #define NOTHING (const uint8_t *)"", 0
 #define NO_FONTS NOTHING, NOTHING, NOTHING, NOTHING
 
@@ -49,8 +61,28 @@ static void bitmap_refusals(painter *paint) {
     refused("bitmap 5", paint(R, M, 65535, 0, 0, 9, 1, 4), 5);
 }
 
+static void controller_refusals(void) {
+    refused("write 1", caption_controller_write(LESS_REGISTERS, P(1), 8, 0), 1);
+    refused("write 1", caption_controller_write(REGISTERS, LESS_PANEL, 8, 0), 1);
+    refused("write 10, no such register", caption_controller_write(REGISTERS, P(1), 8, 0), 10);
+    refused("write 10, status", caption_controller_write(REGISTERS, P(1), CAPTION_REGISTER_STATUS, 0), 10);
+    refused("write 10, command", caption_controller_write(REGISTERS, P(1), CAPTION_REGISTER_COMMAND, 3), 10);
+    refused("write 10, enable", caption_controller_write(REGISTERS, P(1), CAPTION_REGISTER_ENABLE, 2), 10);
+    refused("write 10, data", caption_controller_write(REGISTERS, P(1), CAPTION_REGISTER_DATA, 0), 10);
+    refused("write 10, no byte to send", caption_controller_write(REGISTERS, P(1), CAPTION_REGISTER_COMMAND, CAPTION_COMMAND_LINE), 10);
+    refused("read 1", caption_controller_read(LESS_REGISTERS, P(1), 8).code, 1);
+    refused("read 1", caption_controller_read(REGISTERS, LESS_PANEL, 8).code, 1);
+    refused("read 10", caption_controller_read(REGISTERS, P(1), 8).code, 10);
+    refused("drive 1", caption_drive_line(LESS_RECORD, M, REGISTERS, P(1), IMAGE, 9).code, 1);
+    refused("drive 1", caption_drive_line(R, LESS_MEMORY, REGISTERS, P(1), IMAGE, 9).code, 1);
+    refused("drive 1", caption_drive_line(R, M, LESS_REGISTERS, P(1), IMAGE, 9).code, 1);
+    refused("drive 1", caption_drive_line(R, M, REGISTERS, LESS_PANEL, IMAGE, 9).code, 1);
+    refused("drive 1", caption_drive_line(R, M, REGISTERS, P(1), LESS_IMAGE, 9).code, 1);
+    refused("drive 9", caption_drive_line(R, M, REGISTERS, P(1), IMAGE, 4).code, 9);
+}
+
 /* Each refusal of each call but STATE and GLYPH, in the order of its tests. Where a call has several, what it is told is wrong for the later ones too (mode 9 with a
-   short memory), so that the order is seen. */
+   short memory), so that the order is seen. What a controller refuses while it is busy is seen by hand. */
 static void refusals(void) {
     keep();
     refused("open 1", OPEN(LESS_RECORD, M, 4096, 8192, 1, 0), 1);
@@ -101,6 +133,7 @@ static void refusals(void) {
     refused("send 1", caption_send(rec, 170, M, P(0), 9).code, 1);
     refused("send 9", caption_send(R, M, P(3), 4).code, 9);
     refused("send 9", caption_send(R, M, P(3), 255).code, 9);
+    controller_refusals();
 }
 
 /* STATE, by a row that no screen has: every call but open, which does not read the old record, refuses it, before it looks at the numbers that it is told. So does a
@@ -132,11 +165,31 @@ static void broken_record(void) {
     refused("clear cursor 2", caption_clear_cursor(R, M), 2);
     refused("dirty 2", caption_take_dirty_area(R).code, 2);
     refused("send 2", caption_send(R, M, P(0), 9).code, 2);
+    refused("drive 2", caption_drive_line(R, M, REGISTERS, P(1), IMAGE, 9).code, 2);
     rec[CAPTION_AT_ROW] = 0;
     rec[CAPTION_AT_PANEL_3] = 161;
     keep();
     refused("send 2, panel 3", caption_send(R, M, P(0), 0).code, 2);
     rec[CAPTION_AT_PANEL_3] = 0;
+}
+
+/* STATE, by a register that no controller has so; the last is busy with no byte to come. Every call of the controller, a reset too, and the driver's refuse it. The
+   host sets the registers to zeros. */
+static void broken_registers(void) {
+    static const uint8_t broken[][2] = {{CAPTION_REGISTER_COMMAND, 3},
+                                        {CAPTION_REGISTER_STATUS, 4},
+                                        {CAPTION_REGISTER_ENABLE, 2},
+                                        {CAPTION_REGISTER_RESET, 1},
+                                        {CAPTION_REGISTER_STATUS, CAPTION_STATUS_BUSY}};
+    for (int i = 0; i < 5; i++) {
+        registers[broken[i][0]] = broken[i][1];
+        keep();
+        refused("write 2", caption_controller_write(REGISTERS, P(1), 8, 0), 2);
+        refused("reset 2", caption_controller_write(REGISTERS, P(1), CAPTION_REGISTER_RESET, 0), 2);
+        refused("read 2", caption_controller_read(REGISTERS, P(1), 8).code, 2);
+        refused("drive 2", caption_drive_line(R, M, REGISTERS, P(1), IMAGE, 9).code, 2);
+        memset(registers, 0, sizeof registers);
+    }
 }
 
 /* Byte 0x81 copied at (-1, 0) over a whole byte: pixel 6 set, 0-5 cleared, 7 as it was. A bitmap that lies off the screen or has zero size changes nothing, and a
@@ -278,6 +331,106 @@ static void edges(void) {
     expect("line clamped", caption_draw_line(R, M, 200, 90, 210, 90, CAPTION_DRAW_OR) == 0 && memory[5695] == 1);
 }
 
+static uint32_t write_register(uint8_t register_number, uint8_t value) {
+    return caption_controller_write(REGISTERS, P(1), register_number, value);
+}
+
+static uint32_t read_register(uint8_t register_number) {
+    caption_value v = caption_controller_read(REGISTERS, P(1), register_number);
+    expect("read", v.code == 0);
+    return v.value;
+}
+
+/* Registers 1 to 3, then command 2; answers as the command does, and keeps what stood before it. */
+static uint32_t start_line(uint8_t line, uint8_t first, uint8_t count) {
+    expect("line", write_register(CAPTION_REGISTER_LINE, line) == 0);
+    expect("first byte", write_register(CAPTION_REGISTER_FIRST_BYTE, first) == 0);
+    expect("byte count", write_register(CAPTION_REGISTER_BYTE_COUNT, count) == 0);
+    keep();
+    return write_register(CAPTION_REGISTER_COMMAND, CAPTION_COMMAND_LINE);
+}
+
+static caption_sent drive(void) {
+    return caption_drive_line(R, M, REGISTERS, P(1), IMAGE, 1);
+}
+
+/* The panel's last three bytes by hand. While it is busy with them, registers 0 to 3 are not taken and no line is driven; data is taken only then. Enabled before the
+   last byte, the interrupt bit rises with it, and is read once; where it is not enabled, a line ends without it. A reset while busy clears the registers, and the
+   panel stays. */
+static void by_hand(void) {
+    static const uint8_t zeros[CAPTION_PANEL_BYTES] = {0};
+    expect("clear", write_register(CAPTION_REGISTER_COMMAND, CAPTION_COMMAND_CLEAR) == 0 && !memcmp(panels[1], zeros, sizeof zeros));
+    expect("start", start_line(79, 17, 3) == 0 && read_register(CAPTION_REGISTER_STATUS) == CAPTION_STATUS_BUSY);
+    keep();
+    for (uint8_t n = CAPTION_REGISTER_COMMAND; n <= CAPTION_REGISTER_BYTE_COUNT; n++)
+        refused("write 10, busy", write_register(n, 0), 10);
+    refused("drive 9", caption_drive_line(R, M, REGISTERS, P(1), IMAGE, 4).code, 9);
+    refused("drive 10", drive().code, 10);
+    expect("two bytes", write_register(CAPTION_REGISTER_DATA, 0x5a) == 0 && write_register(CAPTION_REGISTER_DATA, 0x6b) == 0);
+    expect("one to come", read_register(CAPTION_REGISTER_FIRST_BYTE) == 19 && read_register(CAPTION_REGISTER_BYTE_COUNT) == 1);
+    expect("still busy", write_register(CAPTION_REGISTER_ENABLE, 1) == 0 && read_register(CAPTION_REGISTER_STATUS) == CAPTION_STATUS_BUSY);
+    expect("the last byte", write_register(CAPTION_REGISTER_DATA, 0x7c) == 0 && read_register(CAPTION_REGISTER_DATA) == 0x7c);
+    uint32_t status = read_register(CAPTION_REGISTER_STATUS);
+    printf("by hand: bytes %02x %02x %02x, status %u\n", panels[1][1597], panels[1][1598], panels[1][1599], status);
+    expect("interrupt, once", status == CAPTION_STATUS_INTERRUPT && read_register(CAPTION_REGISTER_STATUS) == 0);
+    expect("these three", !memcmp(panels[1], zeros, 1597) && panels[1][1597] == 0x5a && panels[1][1598] == 0x6b && panels[1][1599] == 0x7c);
+    keep();
+    refused("write 10, no more data", write_register(CAPTION_REGISTER_DATA, 0), 10);
+    refused("write 10, line 80", start_line(80, 0, 1), 10);
+    refused("write 10, past the line", start_line(79, 18, 3), 10);
+    refused("write 10, 255 and 1", start_line(79, 255, 1), 10);
+    expect("not enabled", write_register(CAPTION_REGISTER_ENABLE, 0) == 0 && start_line(0, 0, 1) == 0);
+    expect("no interrupt", write_register(CAPTION_REGISTER_DATA, 0xff) == 0 && panels[1][0] == 0xff && read_register(CAPTION_REGISTER_STATUS) == 0);
+    expect("one byte of two", start_line(1, 0, 2) == 0 && write_register(CAPTION_REGISTER_DATA, 0xff) == 0);
+    expect("reset", write_register(CAPTION_REGISTER_RESET, 9) == 0 && !memcmp(registers, zeros, sizeof registers) && panels[1][20] == 0xff);
+    expect("clear again", write_register(CAPTION_REGISTER_COMMAND, CAPTION_COMMAND_CLEAR) == 0 && !memcmp(panels[1], zeros, sizeof zeros));
+}
+
+/* A line to panel 0 directly, and to panel 1 through its controller: the same answer, the same in their parts of the record, and the same bytes, the image's too. */
+static caption_sent to_both(void) {
+    caption_sent direct = caption_send(R, M, P(0), 0), driven = drive();
+    expect("same answer", !memcmp(&direct, &driven, sizeof direct));
+    expect("same part", !memcmp(rec + CAPTION_AT_OWED, rec + CAPTION_AT_PANEL_1, CAPTION_AT_PANEL_2 - CAPTION_AT_PANEL_1));
+    expect("same bytes", !memcmp(panels[1], panels[0], sizeof panels[0]) && !memcmp(image, panels[0], sizeof image));
+    return driven;
+}
+
+/* From an open on, panel 1 is driven and panel 0 sent to directly; both start as zeros, and so does the image. Both come level. A box of two lines is taken in hand;
+   then a point is drawn beside its second line, in the same byte: the line goes out without it, and with the pixel that the panel shows there. A line in three bytes
+   leaves the registers as three writes of data do. A byte by hand is not in the image: the next line in that byte makes it the image's. Idle writes no register. The
+   interrupt bit stays until it is read. */
+static void driven(void) {
+    int lines = 0;
+    memset(panels[0], 0, sizeof panels[0]);
+    expect("open", OPEN(R, M, 4096, 8192, 1, 0) == 0 && caption_draw_point(R, M, 7, 1, CAPTION_DRAW_OR) == 0);
+    expect("enable", write_register(CAPTION_REGISTER_ENABLE, 1) == 0);
+    while (to_both().sent)
+        lines++;
+    printf("driven and sent directly: %d lines each\n", lines);
+    expect("80, and level", lines == 80 && level(0) && level(1) && panels[1][20] == 0x01);
+    expect("box", caption_draw_box(R, M, 3, 0, 4, 1, 1, CAPTION_DRAW_OR) == 0 && to_both().line == 0 && panels[1][0] == 0x18);
+    expect("point", caption_draw_point(R, M, 0, 1, CAPTION_DRAW_OR) == 0 && memory[4116] == 0x99);
+    caption_sent s = to_both();
+    printf("driven %u %u %u: byte %02x, on the screen %02x\n", s.line, s.left, s.right, panels[1][20], memory[4116]);
+    expect("edge bits", s.line == 1 && s.left == 3 && s.right == 5 && panels[1][20] == 0x19);
+    expect("and the point", to_both().right == 1 && panels[1][20] == 0x99 && level(1));
+    expect("three bytes", caption_draw_line(R, M, 6, 40, 17, 40, CAPTION_DRAW_OR) == 0 && to_both().sent && panels[1][802] == 0xc0);
+    static const uint8_t left[] = {CAPTION_COMMAND_LINE, 40, 3, 0, 0xc0, CAPTION_STATUS_INTERRUPT, 1, 0};
+    expect("by three data writes", !memcmp(registers, left, sizeof registers));
+    expect("a byte by hand", start_line(40, 0, 1) == 0 && write_register(CAPTION_REGISTER_DATA, 0xf0) == 0);
+    expect("on the panel alone", panels[1][800] == 0xf0 && image[800] == 0x03);
+    expect("the image's again", caption_draw_point(R, M, 7, 40, CAPTION_DRAW_XOR) == 0 && to_both().sent && panels[1][800] == 0x02);
+    keep();
+    s = drive();
+    refused("idle", s.code, 0);
+    expect("four zeros", !s.sent && !s.line && !s.left && !s.right);
+    expect("the interrupt stays", read_register(CAPTION_REGISTER_STATUS) == CAPTION_STATUS_INTERRUPT);
+    expect("until it is read", read_register(CAPTION_REGISTER_STATUS) == 0);
+    expect("start", start_line(0, 0, 1) == 0);
+    keep();
+    refused("drive 10, with nothing owed", drive().code, 10);
+}
+
 int main(void) {
     /* open takes buffers with any bytes */
     memset(rec, 0xa5, sizeof rec);
@@ -293,6 +446,7 @@ int main(void) {
     expect("first line", s.sent == 1 && s.line == 0 && s.left == 0 && s.right == 160 && panels[0][0] == 0x10);
     refusals();
     broken_record();
+    broken_registers();
     bitmap(caption_paint_bitmap);
     bitmap(caption_paint_bitmap_by_bytes);
     both_painters();
@@ -315,6 +469,8 @@ int main(void) {
     expect("screen mode", caption_set_screen_mode(R, M, CAPTION_SCREEN_GRAPH) == 0 && memory[8192] == 0 && rec[CAPTION_AT_SCREEN_MODE] == 1);
     expect("cls", caption_cls(R, M) == 0 && rec[CAPTION_AT_SCREEN_MODE] == 1);
     edges();
+    by_hand();
+    driven();
     printf(failures ? "%d failures\n" : "ok\n", failures);
     return failures != 0;
 }

@@ -2,9 +2,11 @@
 
    A host owns these buffers and lends them to every call that takes them:
 
-       record   CAPTION_RECORD_BYTES   the state of one screen and of its panels; caption_open writes it
-       memory   CAPTION_MEMORY_BYTES   holds the screen, 1,600 bytes from the graphics base, and the text, 100 bytes from the text base
-       panels   CAPTION_PANEL_BYTES    up to CAPTION_PANELS of them, one for each glass: what it shows; only caption_send writes it
+       record      CAPTION_RECORD_BYTES   the state of one screen and of its panels; caption_open writes it
+       memory      CAPTION_MEMORY_BYTES   holds the screen, 1,600 bytes from the graphics base, and the text, 100 bytes from the text base
+       panels      CAPTION_PANEL_BYTES    up to CAPTION_PANELS of them, one for each glass: what it shows; caption_send writes it, or the calls of its controller
+       registers   CAPTION_REGISTERS      of a glass controller, a byte each; zeros at first
+       image       CAPTION_PANEL_BYTES    of a driven panel: what it shows, as its driver knows it; zeros at first
 
    A whole caption:
 
@@ -29,8 +31,19 @@
    Edges. What a horizontal line does beyond column 159 or row 79 is told to caption_open, once for the screen: with CAPTION_EDGE_CLAMP it is drawn in that column or
    row instead, as in the Rust original; with CAPTION_EDGE_STOP its pixels there are left out. Boxes and filled ellipses are made of such lines.
 
-   Nobody but these calls may write the record, the panels, or the screen's bytes in memory. Of a screen byte that the host writes itself nothing is owed, and the
-   sends are idle while the panels differ; caption_write_byte is the way to set one. No send reads the other bytes of memory: the host may put bitmaps there.
+   Controllers. A glass controller is a device of CAPTION_REGISTERS byte registers (enum caption_register) and a panel. A host writes and reads the registers with
+   caption_controller_write and caption_controller_read; caption_drive_line, the line driver, makes a send through them. Registers start as zeros. Damaged ones are
+   STATE for every call, a write to CAPTION_REGISTER_RESET too: the host sets them to zeros itself.
+   Driven panels. A number is either driven or sent to directly, from caption_open on: no caption_send goes to a driven panel. A driven number has registers, panel
+   and image, buffers of their own; panel and image start with the same bytes, zeros. Of a line or a clear that the host writes through the registers the image knows
+   nothing, and nothing is owed for it. Where panel and image differ, the panel's bits beside a driven line, in its first and last byte, become the image's.
+   Theorems (docs/THEOREM.md). The one about calls in any order has no register and driver calls in its lists. A theorem of their own says that driven sends
+   answer and leave what direct sends do: from one record and memory, equal panels and image, and a device that is not busy. So a driven panel comes level as
+   another does, with any calls between but register calls.
+
+   Nobody but these calls may write the record, the panels, the images, the registers (but for those zeros), or the screen's bytes in memory. Of a screen byte that
+   the host writes itself nothing is owed, and the sends are idle while the panels differ; caption_write_byte is the way to set one. No send reads the other bytes of
+   memory: the host may put bitmaps there.
 
    Refusals. Every call tests what it is lent and told, and answers CAPTION_DONE or the first refusal that is due, of those named at the call in that order. With
    a refusal no lent byte has changed and all other numbers of the result are 0. A number whose range is not named may be any of its type.
@@ -55,18 +68,20 @@
 #define CAPTION_PANELS 4
 #define CAPTION_BANDS 5
 #define CAPTION_BAND_LINES 16
+#define CAPTION_REGISTERS 8
 
 /* the code that every call answers. 8 is kept for an ellipse of over 512 steps, and never given: none within the radii takes so many */
 enum caption_code {
     CAPTION_DONE = 0,
-    CAPTION_LENT = 1,   /* the record has not 359 bytes, memory not 65,536, the panel not 1,600, or the extra list no multiple of 6 */
-    CAPTION_STATE = 2,  /* a field of the record is out of its range (enum caption_at) */
-    CAPTION_WINDOW = 3, /* graphics base above 63,935, text base above 65,435, or the 1,600 and the 100 bytes from there share a byte */
-    CAPTION_VALUE = 4,  /* a row above 4, a column above 19, or a mode, version, fill or edge flag that is not listed */
-    CAPTION_SOURCE = 5, /* a bitmap of nonzero size whose source runs past the end of memory */
-    CAPTION_RADIUS = 6, /* a radius above 127 */
-    CAPTION_GLYPH = 7,  /* a flush would paint a byte past the end of its font */
-    CAPTION_PANEL = 9   /* a panel's number above 3 */
+    CAPTION_LENT = 1,     /* the record has not 359 bytes, memory not 65,536, panel or image not 1,600, registers not 8, or the extra list no multiple of 6 */
+    CAPTION_STATE = 2,    /* a field of the record (enum caption_at) or a register (enum caption_register) is out of its range */
+    CAPTION_WINDOW = 3,   /* graphics base above 63,935, text base above 65,435, or the 1,600 and the 100 bytes from there share a byte */
+    CAPTION_VALUE = 4,    /* a row above 4, a column above 19, or a mode, version, fill or edge flag that is not listed */
+    CAPTION_SOURCE = 5,   /* a bitmap of nonzero size whose source runs past the end of memory */
+    CAPTION_RADIUS = 6,   /* a radius above 127 */
+    CAPTION_GLYPH = 7,    /* a flush would paint a byte past the end of its font */
+    CAPTION_PANEL = 9,    /* a panel's number above 3 */
+    CAPTION_REGISTER = 10 /* a register above 7, a write that the controller does not take, or a driver call while it is busy */
 };
 
 enum caption_version { CAPTION_V1 = 0, CAPTION_V2 = 1 };
@@ -100,6 +115,20 @@ enum caption_at {
     CAPTION_AT_PANEL_3 = 306,
     CAPTION_AT_EDGE = 358         /* enum caption_edge; caption_open alone changes it */
 };
+
+/* The registers of a glass controller. STATE is due where one is out of the range given, or where line, first byte and byte count do not fit while it is busy. */
+enum caption_register {
+    CAPTION_REGISTER_COMMAND = 0,    /* enum caption_command: the last one */
+    CAPTION_REGISTER_LINE = 1,       /* any; fits up to 79 */
+    CAPTION_REGISTER_FIRST_BYTE = 2, /* any; the byte of the line that data goes to next */
+    CAPTION_REGISTER_BYTE_COUNT = 3, /* any; data bytes to come. Fits from 1 on, with first byte plus byte count up to 20 */
+    CAPTION_REGISTER_DATA = 4,       /* any; the last data byte */
+    CAPTION_REGISTER_STATUS = 5,     /* 0-3, the two bits of enum caption_status */
+    CAPTION_REGISTER_ENABLE = 6,     /* interrupt enable: 0 or 1 */
+    CAPTION_REGISTER_RESET = 7       /* 0 */
+};
+enum caption_command { CAPTION_COMMAND_NONE = 0, CAPTION_COMMAND_CLEAR = 1, CAPTION_COMMAND_LINE = 2 };
+enum caption_status { CAPTION_STATUS_BUSY = 1, CAPTION_STATUS_INTERRUPT = 2 };
 
 typedef struct {
     uint32_t code, value;
@@ -247,6 +276,31 @@ caption_area caption_take_dirty_area(uint8_t *record, size_t record_len);
    Refusals: LENT, STATE, PANEL. */
 caption_sent caption_send(uint8_t *record, size_t record_len, const uint8_t *memory, size_t memory_len, uint8_t *panel, size_t panel_len,
                           uint8_t number);
+
+/* ---- the glass controller */
+
+/* The byte to that register, where it stays but for reset. Beside that,
+       command   LINE starts a line and sets busy, if line, first byte and byte count fit; CLEAR makes the panel zeros; NONE does nothing
+       data      goes to byte 20 * line + first byte of the panel; first byte is raised and byte count lowered by 1. When that reaches 0, busy clears, and the
+                 interrupt bit rises if it is enabled then
+       reset     any byte clears all eight registers, which aborts a line; the panel stays
+   Command, line, first byte and byte count are taken while not busy, data while busy, enable and reset always, status never. The interrupt bit stays until status is
+   read, or a reset.
+   Refusals: LENT, STATE, REGISTER (a register above 7, one that is not taken, a command or enable that is not listed, LINE where the three do not fit). */
+uint32_t caption_controller_write(uint8_t *registers, size_t registers_len, uint8_t *panel, size_t panel_len, uint8_t register_number,
+                                  uint8_t value);
+
+/* value is the byte of that register, busy or not. A read of status then clears the interrupt bit; any other changes nothing.
+   Refusals: LENT, STATE, REGISTER (a register above 7). */
+caption_value caption_controller_read(uint8_t *registers, size_t registers_len, const uint8_t *panel, size_t panel_len,
+                                      uint8_t register_number);
+
+/* A send to the panel of that number, through its controller. Answer and record are those of caption_send. Where it is idle, no register is written. Else the line's
+   pixels are copied from the screen to the image; registers 1 to 3 and command LINE are written, and as data the bytes of the image that hold these pixels, with its
+   other bits in the first and last of them. No status is read: a raised interrupt bit stays.
+   Refusals: LENT, STATE (record or registers), PANEL, REGISTER (busy, also where the send would be idle). */
+caption_sent caption_drive_line(uint8_t *record, size_t record_len, const uint8_t *memory, size_t memory_len, uint8_t *registers,
+                                size_t registers_len, uint8_t *panel, size_t panel_len, uint8_t *image, size_t image_len, uint8_t number);
 
 #ifdef __cplusplus
 }

@@ -6,7 +6,7 @@ use calls::{Answer, DeviceCall, DeviceLent};
 
 /// Give the core such a call on the lent bytes; `None` if it has no such call.
 #[rustfmt::skip]
-#[allow(unused_variables)]
+#[allow(unused_variables, unreachable_code)]
 pub fn answer(call: &DeviceCall, lent: DeviceLent) -> Option<Answer> {
     let (record, record_len) = (lent.record.as_mut_ptr(), lent.record.len());
     let (memory, memory_len) = (lent.memory.as_ptr(), lent.memory.len());

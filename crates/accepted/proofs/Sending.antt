@@ -14,8 +14,8 @@ use Rattle.model.specs.Geometry.{Geometry, height, screenBytes}
 use Rattle.model.specs.Glass.{geometry, canvas, glassOf}
 use Rattle.model.specs.Memory.{window}
 use Rattle.model.specs.Rects.{isEmpty}
-use Rattle.model.specs.Record.{decode, encode, panelOf, withPanel}
-use Rattle.model.specs.Sends.{takeOwed, sendPending, lineNumbers, sendNumbers, copyLine, sendPanel}
+use Rattle.model.specs.Record.{decode, panelOf}
+use Rattle.model.specs.Sends.{takeOwed, lineNumbers, sendNumbers, copyLine, sendPanel}
 use Rattle.model.specs.Calls.{send, lent, answered, sentNumbers, done}
 use Rattle.laws.specs.Sending.{SentOn, sent-proper}
 use Rattle.send.specs.Line.{LineOn}

@@ -12,7 +12,6 @@ use Rattle.model.specs.declared.Registers.{Registers}
 use Rattle.model.specs.declared.Register.{Register}
 use Rattle.model.specs.declared.glass.Glass.{Glass}
 use Rattle.model.specs.Geometry.{base, screenBytes, memoryBytes}
-use Rattle.model.specs.Glass.{geometry}
 use Rattle.model.specs.Refusals.{STATE, REGISTER, Test, test, refusal, ruled}
 use Rattle.model.specs.Calls.{lentTest, stateTest}
 use Rattle.model.specs.Controller.{registerBytes, registerOf, registersOf, bytesOfRegisters, registersFit, busy, takesWrite, registersRead, DeviceCall, write, read, device, Device, Answer, answer, deviceRefusals, deviceNumbers, deviceDone, deviceOutcome}

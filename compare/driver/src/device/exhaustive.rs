@@ -1,4 +1,4 @@
-//! Lists of device calls that go through whole ranges: registers alone.
+//! Lists of device calls that go through whole ranges.
 
 mod drives;
 mod states;
@@ -53,47 +53,35 @@ fn on(registers: [u8; REGISTERS], call: DeviceCall) -> Step {
     Step::Device(call, Lending::Other(Other::registers(registers)))
 }
 
-/// A byte at every place of the panel, the last of its line or not, with every enable and interrupt.
+/// Status while busy, and enable.
+const BUSY_STATES: [[u8; 2]; 4] = [[BUSY, 0], [BUSY, 1], [BUSY | INTERRUPT, 0], [BUSY | INTERRUPT, 1]];
+
+/// A byte at every place of the panel, the last of its line or not.
 fn data() -> impl Iterator<Item = Step> {
-    (0..HEIGHT as u8).flat_map(|line| {
-        (0..LINE as u8).flat_map(move |first| {
-            let ends = [1, 20 - first].map(|count| {
-                [0, 1].map(|enable| {
-                    [BUSY, BUSY | INTERRUPT].map(|status| {
-                        on(
-                            [2, line, first, count, 0, status, enable, 0],
-                            write(DATA, line ^ first << 3 ^ 0x55),
-                        )
-                    })
-                })
-            });
-            ends.into_iter().flatten().flatten()
+    let places = (0..HEIGHT as u8).flat_map(|line| (0..LINE as u8).map(move |first| (line, first)));
+    places.flat_map(|(line, first)| {
+        let call = write(DATA, line ^ first << 3 ^ 0x55);
+        [1, 20 - first].into_iter().flat_map(move |count| {
+            BUSY_STATES.map(|[status, enable]| on([2, line, first, count, 0, status, enable, 0], call))
         })
     })
 }
 
-/// Lengths of registers and panel, right and wrong, with registers that pass and such as don't.
+/// Registers that pass STATE, and such as don't.
+const PASSING: [[u8; REGISTERS]; 2] = [[0, 0, 0, 0, 0, INTERRUPT, 1, 0], [0, 0, 0, 0, 0, 4, 0, 0]];
+
+/// Lengths of registers and panel, right and wrong.
 fn lengths() -> impl Iterator<Item = Step> {
-    let lengths = (0..=24).flat_map(|registers| {
-        [0, 1, 8, PANEL - 1, PANEL, PANEL + 1, 2 * PANEL].map(|panel| Lengths {
-            registers,
-            panel,
-            ..Lengths::RIGHT
-        })
-    });
-    lengths.flat_map(|lengths| {
-        let calls = [
-            write(LINE_NUMBER, 7),
-            write(8, 7),
-            DeviceCall::Read { register: 5 },
-            DeviceCall::Read { register: 9 },
-        ];
-        let lents = [[0, 0, 0, 0, 0, 2, 1, 0], [0, 0, 0, 0, 0, 4, 0, 0]];
-        lents.into_iter().flat_map(move |registers| {
-            calls.map(|call| {
-                let other = Other { lengths, ..Other::registers(registers) };
-                Step::Device(call, Lending::Other(other))
-            })
+    let panels = [0, 1, 8, PANEL - 1, PANEL, PANEL + 1, 2 * PANEL];
+    let lengths = (0..=24).flat_map(move |registers| panels.map(|panel| (registers, panel)));
+    lengths.flat_map(|(registers, panel)| {
+        let lengths = Lengths { registers, panel, ..Lengths::RIGHT };
+        let writes = [LINE_NUMBER, 8].map(|register| write(register, 7));
+        let reads = [5, 9].map(|register| DeviceCall::Read { register });
+        let calls = writes.into_iter().chain(reads);
+        calls.flat_map(move |call| {
+            let others = PASSING.map(|registers| Other { lengths, ..Other::registers(registers) });
+            others.map(|other| Step::Device(call, Lending::Other(other)))
         })
     })
 }

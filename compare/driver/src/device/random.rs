@@ -26,7 +26,8 @@ const SCREEN: [(&str, u8); 14] = [
 
 /// The list of this seed.
 pub fn list(seed: u64) -> List {
-    let mut random = Random::new(seed ^ 0x0064_6576_6963_6500);
+    // Other numbers than the list of other calls has that is made from the same seed.
+    let mut random = Random::new(seed.rotate_left(16));
     let seed = if random.one_in(4) { 0 } else { random.number() };
     let registers = random.sound_registers();
     match random.below(8) {
@@ -217,7 +218,7 @@ impl Random {
         let mut other = Other::registers(self.any_registers());
         if self.one_in(6) {
             if self.one_in(2) {
-                // Most registers of wrong length hold what would pass else.
+                // Nothing else is wrong then.
                 other.registers = Some(self.sound_registers());
             }
             self.change_length(&mut other.lengths, 2);

@@ -42,7 +42,7 @@ impl Random {
 
     /// Registers that STATE lets pass; some hold a line that command 2 takes, some are busy with it.
     pub fn sound_registers(&mut self) -> [u8; REGISTERS] {
-        let mut registers = self.lined_registers();
+        let mut registers = self.registers_with_line();
         if self.one_in(3) {
             registers[LINE_NUMBER] = self.line_number();
             registers[FIRST_BYTE] = self.first_byte();
@@ -61,7 +61,8 @@ impl Random {
         if self.one_in(3) {
             return self.sound_registers();
         }
-        let mut registers = if self.one_in(2) { self.lined_registers() } else { self.busy_with_bad_fields() };
+        let mut registers =
+            if self.one_in(2) { self.registers_with_line() } else { self.busy_with_bad_fields() };
         if registers[STATUS] & BUSY == 0 || self.one_in(8) {
             self.pick(&BYTES)(self, &mut registers);
         }
@@ -76,13 +77,13 @@ impl Random {
 
     /// Not busy, with fields that command 2 refuses for one cause.
     pub fn with_bad_fields(&mut self) -> [u8; REGISTERS] {
-        let mut registers = self.lined_registers();
+        let mut registers = self.registers_with_line();
         self.pick(&FIELDS)(self, &mut registers);
         registers
     }
 
     /// Not busy, with fields that command 2 takes.
-    fn lined_registers(&mut self) -> [u8; REGISTERS] {
+    fn registers_with_line(&mut self) -> [u8; REGISTERS] {
         let [line, first, count] = self.line_fields();
         let status = self.pick(&[0, INTERRUPT]);
         [self.below(3) as u8, line, first, count, self.byte(), status, self.below(2) as u8, 0]
@@ -104,8 +105,8 @@ impl Random {
     /// Mostly one that there is.
     pub fn register_number(&mut self) -> u8 {
         match self.below(32) {
-            0 => self.pick(&[8, 9, 15, 16, 127, 128, 255]),
-            1 => self.byte(),
+            0..3 => self.pick(&[8, 9, 15, 16, 127, 128, 255]),
+            3 => self.byte(),
             _ => self.below(REGISTERS) as u8,
         }
     }

@@ -85,7 +85,7 @@ fn a_byte_too_few_or_too_many() {
     const FEWER_AT_THE_END: Way =
         Way { bytes: |left, right| [left / 8, (right / 8).max(left / 8 + 1)], ..RIGHT };
     const FEWER_AT_THE_START: Way =
-        Way { bytes: |left, right| [((left + 7) / 8).min((right - 1) / 8), (right - 1) / 8 + 1], ..RIGHT };
+        Way { bytes: |left, right| [left.div_ceil(8).min((right - 1) / 8), (right - 1) / 8 + 1], ..RIGHT };
     assert_both_found!(driven(&MORE_AT_THE_END), 5);
     assert_both_found!(driven(&FEWER_AT_THE_END), 5);
     assert_both_found!(driven(&FEWER_AT_THE_START), 5);

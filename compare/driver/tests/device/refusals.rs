@@ -6,12 +6,6 @@ use calls::register::*;
 use calls::{Answer, DeviceCall, DeviceLent, Refusal};
 use model::device::{Cause, causes};
 
-/// The call on registers that were made right first, and with these changed as it changes those.
-fn on_mended(call: &DeviceCall, mut lent: DeviceLent, mend: impl FnOnce(&mut [u8])) -> Answer {
-    mend(lent.registers);
-    model::device::answer(call, again(&mut lent))
-}
-
 /// Whether this is the only cause of a refusal.
 fn only(call: &DeviceCall, lent: &DeviceLent, cause: Cause) -> bool {
     causes(call, lent).each().eq([cause])
@@ -23,7 +17,7 @@ fn data_taken_while_not_busy() {
         let takes = only(call, &lent, Cause::DataNotBusy) && lent.registers[LINE_NUMBER] < 80;
         let ends = takes && lent.registers[FIRST_BYTE] as usize + lent.registers[BYTE_COUNT] as usize <= 20;
         if ends && lent.registers[BYTE_COUNT] > 0 {
-            return on_mended(call, lent, |registers| registers[STATUS] |= BUSY);
+            lent.registers[STATUS] |= BUSY;
         }
         model::device::answer(call, lent)
     }

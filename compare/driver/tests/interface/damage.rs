@@ -13,7 +13,7 @@ const NAMES: Text = |texts| &mut texts.names;
 /// A text, what stands there, what is put in its first place, and what the complaint names.
 type Damage = (Text, &'static str, &'static str, &'static str);
 
-const DAMAGES: [Damage; 51] = [
+const DAMAGES: [Damage; 59] = [
     // A parameter left out, or one too many.
     (SOURCES, "x : u8 , ", "", "caption_draw_"),
     (HEADER, "uint8_t x , ", "", "caption_draw_point"),
@@ -22,10 +22,13 @@ const DAMAGES: [Damage; 51] = [
     (TABLE, "keys0-7", "keys0-6", "caption_open"),
     (TABLE, "record, memory, const text", "record, memory", "caption_print"),
     (DECLARATIONS, "x : u8 , ", "", "caption_draw_point"),
-    (SOURCES, ", number : u8", "", "caption_send"),
-    (HEADER, ", uint8_t number", "", "caption_send"),
+    (SOURCES, "panel : & mut [ u8 ] , number : u8", "panel : & mut [ u8 ]", "caption_send"),
+    (HEADER, "size_t panel_len , uint8_t number", "size_t panel_len", "caption_send"),
     (TABLE, "| record, const memory, panel | number |", "| record, const memory, panel | |", "caption_send"),
-    (DECLARATIONS, "number : u8 , ", "", "caption_send"),
+    (DECLARATIONS, "panel_len : usize , number : u8 , ", "panel_len : usize , ", "caption_send"),
+    (HEADER, "size_t image_len , uint8_t number", "size_t image_len", "caption_drive_line"),
+    (DECLARATIONS, "image : Out , image_len : usize , ", "", "caption_drive_line"),
+    (DECLARATIONS, "register_number : u8 , value : u8", "register_number : u8", "caption_controller_write"),
     (SOURCES, "keys7 : u32 , edge : u8", "keys7 : u32", "caption_open"),
     (HEADER, "uint32_t keys7 , uint8_t edge", "uint32_t keys7", "caption_open"),
     (TABLE, "keys0-7 (u32), edge", "keys0-7 (u32)", "caption_open"),
@@ -42,9 +45,11 @@ const DAMAGES: [Damage; 51] = [
     (TABLE, "y (i32)", "y", "caption_check_point"),
     (TABLE, "address (u16)", "address (u64)", "caption_paint_bitmap"),
     (DECLARATIONS, "x : i32", "x : u32", "caption_check_point"),
-    (SOURCES, "number : u8", "number : u32", "caption_send"),
-    (HEADER, "uint8_t number", "uint32_t number", "caption_send"),
-    (DECLARATIONS, "number : u8", "number : u32", "caption_send"),
+    (SOURCES, "panel : & mut [ u8 ] , number : u8", "panel : & mut [ u8 ] , number : u32", "caption_send"),
+    (HEADER, "panel_len , uint8_t number", "panel_len , uint32_t number", "caption_send"),
+    (DECLARATIONS, "panel_len : usize , number : u8", "panel_len : usize , number : u32", "caption_send"),
+    (HEADER, "uint8_t value", "uint32_t value", "caption_controller_write"),
+    (DECLARATIONS, "value : u8", "value : u32", "caption_controller_write"),
     (SOURCES, "keys7 : u32 , edge : u8", "keys7 : u32 , edge : u32", "caption_open"),
     (HEADER, "uint8_t edge", "uint32_t edge", "caption_open"),
     (TABLE, "keys0-7 (u32), edge", "keys0-7 (u32), edge (u32)", "caption_open"),
@@ -52,6 +57,12 @@ const DAMAGES: [Damage; 51] = [
     // Two parameters in each other's place.
     (HEADER, "uint32_t keys7 , uint8_t edge", "uint8_t edge , uint32_t keys7", "caption_open"),
     (HEADER, "uint8_t x , uint8_t y", "uint8_t y , uint8_t x", "caption_draw_point"),
+    (
+        DECLARATIONS,
+        "register_number : u8 , value : u8",
+        "value : u8 , register_number : u8",
+        "caption_controller_write",
+    ),
     (TABLE, "| x, y, mode |", "| y, x, mode |", "caption_draw_point"),
     (DECLARATIONS, "x : u8 , y : u8", "y : u8 , x : u8", "caption_draw_point"),
     // A slice that may be written, or may not.
@@ -59,6 +70,7 @@ const DAMAGES: [Damage; 51] = [
     (HEADER, "const uint8_t * record", "uint8_t * record", "caption_check_point"),
     (TABLE, "const text", "text", "caption_print"),
     (DECLARATIONS, "type In = * const u8", "type In = * mut u8", "caption_check_point"),
+    (DECLARATIONS, "panel : In", "panel : Out", "caption_controller_read"),
     // Another name, one missing, one twice.
     (SOURCES, "fn caption_reset", "fn caption_restart", "caption_restart"),
     (HEADER, "caption_reset (", "caption_restart (", "caption_reset"),
@@ -66,6 +78,7 @@ const DAMAGES: [Damage; 51] = [
     (TABLE, "caption_reset |", "caption_restart |", "caption_restart"),
     (DECLARATIONS, "fn caption_reset", "fn caption_restart", "caption_reset"),
     (NAMES, "reset\n", "", "caption_reset"),
+    (NAMES, "drive_line\n", "", "caption_drive_line"),
     // A function that is not exported by its name.
     (SOURCES, "# [ no_mangle ]", "", "no_mangle"),
     // Another result.

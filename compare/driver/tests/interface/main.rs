@@ -10,7 +10,6 @@ mod rust_like;
 mod table;
 mod tokens;
 
-use calls::Call;
 use function::Function;
 use std::fs;
 use std::path::{Path, PathBuf};
@@ -75,7 +74,7 @@ impl Texts {
                 rust_like::declared(&self.declarations).map(|it| function::differences(&exported, &it)),
             ),
             ("compare/core/calls.txt", Ok(name_differences(&exported, self.names.lines()))),
-            ("Call::NAMES", Ok(name_differences(&exported, Call::NAMES.into_iter()))),
+            ("Call::NAMES with DeviceCall::NAMES", Ok(name_differences(&exported, calls::names()))),
         ];
         let complaints = found.into_iter().flat_map(|(place, found)| {
             let found = found.unwrap_or_else(|error| vec![error]);

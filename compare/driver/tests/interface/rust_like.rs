@@ -44,7 +44,8 @@ pub fn declared(text: &str) -> Result<Vec<Function>, String> {
     Ok(functions)
 }
 
-/// Header, table and declarations have longer names for some parameters than the sources.
+/// Header, table and declarations have longer names for some parameters than the sources. `register` is a word
+/// of C that names no parameter.
 fn with_full_name(parameter: Parameter) -> Parameter {
     let name = match (parameter.name.as_str(), parameter.kind) {
         ("rec", _) => "record",
@@ -53,6 +54,7 @@ fn with_full_name(parameter: Parameter) -> Parameter {
         ("extra", _) => "extra_font",
         ("graphics", _) => "graphics_base",
         ("text", Kind::U16) => "text_base",
+        ("register", _) => "register_number",
         (name, _) => name,
     };
     Parameter::new(name, parameter.kind)

@@ -8,7 +8,8 @@ use crate::side::OnBytes;
 use crate::{limits, plain};
 use calls::layout::PANEL;
 use calls::register::*;
-use calls::{Buffers, Call, DeviceCall, DeviceLent};
+use calls::{Answer, Buffers, Call, DeviceCall, DeviceLent};
+use driver::core_side::DeviceAnswering;
 use std::cell::RefCell;
 use std::hint::black_box;
 
@@ -92,29 +93,29 @@ fn driven(name: &str, rect: [u16; 4], core: Library) -> Row {
 
 /// A call on registers that the host stores before each turn.
 fn against_plain(name: &str, registers: [u8; REGISTERS], call: DeviceCall, core: Option<Library>) -> Row {
-    let plain_device = Device::new();
-    let work = move |buffers: &mut Buffers| {
-        let mut device = plain_device.borrow_mut();
-        device.registers = black_box(registers);
-        by_plain(black_box(&call), device.lend(buffers));
-    };
-    let device = Device::new();
-    Row::new(name, OnBytes { buffers: opened(), work }).with_core(core, opened(), move |core, buffers| {
+    let asked = move |device: &RefCell<Device>, answering: DeviceAnswering, buffers: &mut Buffers| {
         let mut device = device.borrow_mut();
         device.registers = black_box(registers);
-        black_box(core.device_answer(black_box(&call), device.lend(buffers)));
-    })
+        black_box(answering(black_box(&call), device.lend(buffers)));
+    };
+    let [beside_plain, beside_core] = [Device::new(), Device::new()];
+    // A call by its address, as the core's is.
+    let plain: DeviceAnswering = black_box(by_plain);
+    let work = move |buffers: &mut Buffers| asked(&beside_plain, plain, buffers);
+    Row::new(name, OnBytes { buffers: opened(), work })
+        .with_core(core, opened(), move |core, buffers| asked(&beside_core, core.device, buffers))
 }
 
-#[inline]
-fn by_plain(call: &DeviceCall, lent: DeviceLent) {
+fn by_plain(call: &DeviceCall, lent: DeviceLent) -> Option<Answer> {
     match *call {
         DeviceCall::Write { register, value } => {
-            black_box(plain::write(lent.registers, lent.panel, register, value));
+            let code = plain::write(lent.registers, lent.panel, register, value);
+            Some(Answer { code, numbers: [0; 4] })
         }
         DeviceCall::Read { register } => {
-            black_box(plain::read(lent.registers, lent.panel, register));
+            let [code, value] = plain::read(lent.registers, lent.panel, register);
+            Some(Answer { code, numbers: [value, 0, 0, 0] })
         }
-        DeviceCall::Drive { .. } => unreachable!("plain Rust drives no line"),
+        DeviceCall::Drive { .. } => None,
     }
 }

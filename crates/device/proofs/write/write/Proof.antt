@@ -71,7 +71,7 @@ returns-6 c = written _ _ _ _ _ (c .enum-told6 .given .1) refl refl
 
 returns-7 : tie.Need-returns-7
 unfolding registersAfter panelAfter
-returns-7 c = written _ _ _ _ _ (c .before .enum-told7 .given .1) (c .clear-registers .ensures) refl
+returns-7 c = written _ _ _ _ _ (c .before .enum-told7 .given .1) (rw (c .clear-registers .ensures) refl) refl
 
 returns-8 : tie.Need-returns-8
 unfolding registersAfter panelAfter

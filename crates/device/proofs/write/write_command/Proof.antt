@@ -1,3 +1,4 @@
+use Rattle.model.specs.Geometry.{base}
 use Rattle.device.specs.Writing.{clears, starts, nothing}
 use borrow.Author.Needs.{needs}
 use Rattle.device.proofs.write.write_command.Statement.{statement}
@@ -19,7 +20,9 @@ status-of-requires : tie.Need-status-of-requires
 status-of-requires c κs = search needs
 
 returns-2 : tie.Need-returns-2
-returns-2 c = search starts
+returns-2 c =
+    let a = c .before .before .before .before .before .args in
+    starts base (a .r) (a .value) (a .panel .now) (c .before .before .before .if1 .left) (c .before .before .if2 .taken) (c .before .has-interrupt .ensures) (c .status-of .ensures)
 
 returns-3 : tie.Need-returns-3
 returns-3 c = search nothing

@@ -1,4 +1,5 @@
 use native.Mathlib.Omega.{arith}
+use Rattle.model.specs.Geometry.{base}
 use Rattle.device.specs.Writing.{in-panel, ends, goes-on}
 use borrow.Author.Needs.{needs}
 use Rattle.device.proofs.write.write_data.Statement.{statement}
@@ -17,7 +18,7 @@ add-at : tie.Need-add-at
 add-at c = search needs
 
 slice-write-panel : tie.Need-slice-write-panel
-slice-write-panel c = in-panel _ _ _ _ (c .before .before .before .before .pre) .1
+slice-write-panel c = omega (arith, in-panel _ _ _ _ (c .before .before .before .before .pre) .1)
 
 add-s : tie.Need-add-s
 add-s c = record { fits = omega (arith, in-panel _ _ _ _ (c .before .before .before .before .before .pre) .0) }
@@ -38,13 +39,17 @@ same-length : tie.Need-same-length
 same-length c = search needs
 
 returns : tie.Need-returns
-returns c = ends _ _ _ _ (c .before .before .before .if1 .taken) (c .before .before .has-interrupt .ensures) (c .status-of .ensures)
+returns c =
+    let a = c .before .before .before .before .before .before .before .before .before .before .before .args in
+    ends base (a .r) (a .value) (a .panel .now) (c .before .before .before .if1 .taken) (c .before .before .has-interrupt .ensures) (c .status-of .ensures)
 
 same-length-2 : tie.Need-same-length-2
 same-length-2 c = search needs
 
 returns-2 : tie.Need-returns-2
-returns-2 c = goes-on _ _ _ _ (c .if1 .left)
+returns-2 c =
+    let a = c .before .before .before .before .before .before .before .before .args in
+    goes-on base (a .r) (a .value) (a .panel .now) (c .if1 .left)
 
 pub write-data-spec : {M : Type 1} → statement M
 write-data-spec =
