@@ -5,6 +5,7 @@ use model::Rect;
 use model::Sent;
 use record::glass::canvas_of;
 use record::glass::glass_of;
+use record::panels::panel_at;
 use send::line;
 use send::pending;
 ghost use mathlib.Core.Path.{_≡_};
@@ -54,7 +55,7 @@ pub fn send_line(rec: &mut [u8], memory: &[u8], panel: &mut [u8], h: Head, k: us
     ensures { λ q. ⌜ LineSent (glassOf (length (now (rec .entry)))) k (now (rec .entry)) (now (memory .entry)) (now (panel .entry)) q (now (rec .exit)) (now (panel .exit)) ⌝ }
 {
     let glass = glass_of(rec.len());
-    let q = pending::send_panel(rec, glass, k);
+    let q = pending::send_panel(rec, glass, k, panel_at(glass, k));
     if rect::is_empty(q) {
         return q;
     }

@@ -12,6 +12,7 @@ use model::glass::SMALL;
 use model::refusal;
 use record::glass::canvas_of;
 use record::glass::glass_of;
+use record::panels::panel_at;
 use send::line::copy_line;
 use send::pending;
 ghost use mathlib.Core.Path.{_≡_};
@@ -60,7 +61,7 @@ pub fn drive(
     ensures { λ s. ⌜ answer (s .code) (sentNumbers s) (driven (now (rec .exit)) (now (memory .entry)) (device (now (registers .exit)) (now (panel .exit))) (now (image .exit))) ≡ driveDone base k (driven (now (rec .entry)) (now (memory .entry)) (device (now (registers .entry)) (now (panel .entry))) (now (image .entry))) ⌝ }
 {
     let glass = glass_of(rec.len());
-    let q = pending::send_panel(rec, glass, k);
+    let q = pending::send_panel(rec, glass, k, panel_at(glass, k));
     let sent = sends::answer(q);
     if rect::is_empty(q) {
         return sent;

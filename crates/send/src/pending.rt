@@ -9,6 +9,7 @@ ghost use mathlib.Core.Path.{_≡_};
 ghost use Prim.Native.Nat.{_+_, _*_, _<_, _≤_, min};
 ghost use lib.ListN.{length};
 ghost use Rattle.model.specs.Glass.{geometry};
+ghost use Rattle.model.specs.Record.{at, panel};
 ghost use Rattle.model.specs.Sends.{nextLine};
 ghost use Rattle.laws.specs.Panels.{Known};
 ghost use Rattle.laws.specs.Sending.{InHand, SentOn};
@@ -50,17 +51,16 @@ fn count_line(sent: u32) -> u32
     if sent < 4294967295 { sent + 1 } else { sent }
 }
 
-// One line of panel k counts as sent: the rectangle whose top line it is, empty where there is none.
-pub fn send_panel(rec: &mut [u8], glass: Glass, k: usize) -> Rect
-    requires { ⌜ Known glass (now rec) ⌝ }
-    requires { ⌜ k < glass .panels ⌝ }
+// One line of panel k, whose part begins at byte `start`, counts as sent: the rectangle whose top line it is, empty where there is none.
+pub fn send_panel(rec: &mut [u8], glass: Glass, k: usize, start: usize) -> Rect
+    requires { ⌜ Known glass (now rec) × (k < glass .panels) ⌝ }
+    requires { ⌜ start ≡ at (geometry glass) (panel k) ⌝ }
     ensures { λ r. ⌜ SentOn glass k (now (rec .entry)) r (now (rec .exit)) ⌝ }
 {
-    let at = panels::panel_at(glass, k);
-    let in_hand = at + 8 * glass.bands;
-    let counted = panels::sent_at(glass, at);
+    let in_hand = start + 8 * glass.bands;
+    let counted = panels::sent_at(glass, start);
     let sent = slices::load_four(rec, counted);
-    let hand = take_hand(rec, glass, at);
+    let hand = take_hand(rec, glass, start);
     if rect::is_empty(hand) {
         return hand;
     }

@@ -9,11 +9,17 @@ use Rattle.accepted.proofs.sends.send_line.Tie as tie
 glass-of-requires : tie.Need-glass-of-requires
 glass-of-requires c κs = search needs
 
-send-panel-requires : tie.Need-send-panel-requires
-send-panel-requires c κs =
+panel-at-requires : tie.Need-panel-at-requires
+panel-at-requires c κs =
     let g = c .before in
     let a = g .before .before .before .before in
-    (given-for (g .glass-of .ensures) (a .pre .0) .known, panel-for (g .glass-of .ensures) (a .pre .1) .1)
+    (given-for (g .glass-of .ensures) (a .pre .0) .known .suits, panel-for (g .glass-of .ensures) (a .pre .1) .1)
+
+send-panel-requires : tie.Need-send-panel-requires
+send-panel-requires c κs =
+    let g = c .before .before in
+    let a = g .before .before .before .before in
+    ((given-for (g .glass-of .ensures) (a .pre .0) .known, panel-for (g .glass-of .ensures) (a .pre .1) .1), c .panel-at .ensures)
 
 is-empty-requires : tie.Need-is-empty-requires
 is-empty-requires c κs = search needs
@@ -24,7 +30,7 @@ same-length c = search needs
 returns : tie.Need-returns
 returns c =
     let p = c .before .before .before .before in
-    let g = p .before .before in
+    let g = p .before .before .before in
     let a = g .before .before .before .before in
     let k = g .glass-of .ensures in
     sent-for (a .args .k) _ _ _ k (idles (given-for k (a .pre .0)) (a .args .k) (p .send-panel .ensures) (omega arith) (c .before .is-empty .ensures) _ (c .if1 .taken))
@@ -45,12 +51,12 @@ part-copy-line-start : tie.Need-part-copy-line-start
 part-copy-line-start c = search needs
 
 part-copy-line-end : tie.Need-part-copy-line-end
-part-copy-line-end c = let g = c .before .before .before .before .before .before .before .before .before in screen-room (given-for (g .glass-of .ensures) (g .before .before .before .before .pre .0))
+part-copy-line-end c = let g = c .before .before .before .before .before .before .before .before .before .before in screen-room (given-for (g .glass-of .ensures) (g .before .before .before .before .pre .0))
 
 copy-line-requires : tie.Need-copy-line-requires
 copy-line-requires c κs =
     let p = c .before .before .before .before .before .before .before .before .before in
-    let g = p .before .before in
+    let g = p .before .before .before in
     let a = g .before .before .before .before in
     let k = g .glass-of .ensures in
     may-copy (given-for k (a .pre .0)) (a .args .k) (p .send-panel .ensures) (omega arith) (c .before .before .before .before .before .before .is-empty .ensures) (c .before .before .before .before .before .if1 .left) (c .before .before .canvas-of .ensures) (panel-for k (a .pre .1))
@@ -64,7 +70,7 @@ same-length-3 c = search needs
 returns-2 : tie.Need-returns-2
 returns-2 c =
     let p = c .before .before .before .before .before .before .before .before .before .before .before .before in
-    let g = p .before .before in
+    let g = p .before .before .before in
     let a = g .before .before .before .before in
     let k = g .glass-of .ensures in
     sent-for (a .args .k) _ _ _ k
@@ -75,6 +81,7 @@ send-line-spec =
     tie.close
     (tie.spec
     glass-of-requires
+    panel-at-requires
     send-panel-requires
     is-empty-requires
     same-length

@@ -1,5 +1,6 @@
 -- The send is idle, and nothing is written; or its line lies on the glass, goes to the image, and its writes are made.
 use mathlib.Core.Path.{refl, _∙_}
+use native.Mathlib.Omega.{arith}
 use Rattle.record.proofs.Drawing.{screen-room}
 use Rattle.accepted.proofs.Sending.{given-for, panel-for, sent-for, idles, may-copy, sends-line}
 use Rattle.driver.proofs.Driving.{drives-idle, on-glass, drives-line}
@@ -10,11 +11,17 @@ use Rattle.driver.proofs.drive.drive.Tie as tie
 glass-of-requires : tie.Need-glass-of-requires
 glass-of-requires c κs = search needs
 
-send-panel-requires : tie.Need-send-panel-requires
-send-panel-requires c κs =
+panel-at-requires : tie.Need-panel-at-requires
+panel-at-requires c κs =
     let g = c .before in
     let e = g .before .before .before .before .before .before in
-    (given-for (g .glass-of .ensures) (e .pre .0) .known, panel-for (g .glass-of .ensures) (e .pre .1 .0) .1)
+    (given-for (g .glass-of .ensures) (e .pre .0) .known .suits, panel-for (g .glass-of .ensures) (e .pre .1 .0) .1)
+
+send-panel-requires : tie.Need-send-panel-requires
+send-panel-requires c κs =
+    let g = c .before .before in
+    let e = g .before .before .before .before .before .before in
+    ((given-for (g .glass-of .ensures) (e .pre .0) .known, panel-for (g .glass-of .ensures) (e .pre .1 .0) .1), c .panel-at .ensures)
 
 answer-requires : tie.Need-answer-requires
 answer-requires c κs = search needs
@@ -28,7 +35,7 @@ same-length c = search needs
 returns : tie.Need-returns
 returns c =
     let p = c .before .before .before .before .before in
-    let g = p .before .before in
+    let g = p .before .before .before in
     let e = g .before .before .before .before .before .before in
     let k = g .glass-of .ensures in
     let empty = c .before .is-empty .ensures in
@@ -39,7 +46,10 @@ cast-from : tie.Need-cast-from
 cast-from c = search needs
 
 add-to : tie.Need-add-to
-add-to c = search needs
+add-to c =
+    let g = c .before .before .before .before .before .before .before .before .before .before in
+    let e = g .before .before .before .before .before .before in
+    record { fits = omega (arith, screen-room (given-for (g .glass-of .ensures) (e .pre .0)), e .pre .0 .memory) }
 
 canvas-of-requires : tie.Need-canvas-of-requires
 canvas-of-requires c κs = search needs
@@ -51,12 +61,12 @@ part-copy-line-start : tie.Need-part-copy-line-start
 part-copy-line-start c = search needs
 
 part-copy-line-end : tie.Need-part-copy-line-end
-part-copy-line-end c = let g = c .before .before .before .before .before .before .before .before .before .before in screen-room (given-for (g .glass-of .ensures) (g .before .before .before .before .before .before .pre .0))
+part-copy-line-end c = let g = c .before .before .before .before .before .before .before .before .before .before .before in screen-room (given-for (g .glass-of .ensures) (g .before .before .before .before .before .before .pre .0))
 
 copy-line-requires : tie.Need-copy-line-requires
 copy-line-requires c κs =
     let p = c .before .before .before .before .before .before .before .before .before .before in
-    let g = p .before .before in
+    let g = p .before .before .before in
     let e = g .before .before .before .before .before .before in
     let k = g .glass-of .ensures in
     may-copy (given-for k (e .pre .0)) (e .args .k) (p .send-panel .ensures) refl (c .before .before .before .before .before .before .is-empty .ensures) (c .before .before .before .before .before .if1 .left) (c .before .before .canvas-of .ensures) (panel-for k (e .pre .1 .0))
@@ -64,7 +74,7 @@ copy-line-requires c κs =
 write-line-requires : tie.Need-write-line-requires
 write-line-requires c κs =
     let p = c .before .before .before .before .before .before .before .before .before .before .before .before .before .before .before .before in
-    let g = p .before .before in
+    let g = p .before .before .before in
     let e = g .before .before .before .before .before .before in
     let k = g .glass-of .ensures in
     let empty = c .before .before .before .before .before .before .before .before .before .before .before .before .is-empty .ensures in
@@ -73,7 +83,7 @@ write-line-requires c κs =
     (e .pre .1 .1 .1, (on-glass sent (e .pre .0) (e .pre .1 .0 .1) empty some, c .before .before .before .before .image .given ∙ e .pre .1 .0 .0))
 
 store-registers-requires : tie.Need-store-registers-requires
-store-registers-requires c κs = c .before .before .before .before .before .before .before .before .before .before .before .before .before .before .before .before .before .before .before .before .before .before .before .before .before .before .before .pre .1 .1 .0 .0
+store-registers-requires c κs = c .before .before .before .before .before .before .before .before .before .before .before .before .before .before .before .before .before .before .before .before .before .before .before .before .before .before .before .before .pre .1 .1 .0 .0
 
 same-length-2 : tie.Need-same-length-2
 same-length-2 c = c .before .before .before .before .before .before .before .before .before .before .before .before .before .before .before .before .before .before .before .before .before .rec .given
@@ -90,7 +100,7 @@ same-length-5 c = search needs
 returns-2 : tie.Need-returns-2
 returns-2 c =
     let p = c .before .before .before .before .before .before .before .before .before .before .before .before .before .before .before .before .before .before .before .before .before .before in
-    let g = p .before .before in
+    let g = p .before .before .before in
     let e = g .before .before .before .before .before .before in
     let k = g .glass-of .ensures in
     let empty = c .before .before .before .before .before .before .before .before .before .before .before .before .before .before .before .before .before .before .is-empty .ensures in
@@ -103,6 +113,7 @@ drive-spec =
     tie.close
     (tie.spec
     glass-of-requires
+    panel-at-requires
     send-panel-requires
     answer-requires
     is-empty-requires
