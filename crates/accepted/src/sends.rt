@@ -47,8 +47,8 @@ pub fn answer(q: Rect) -> Sent
     }
 }
 
-// A line of panel k counts as sent and is copied to the panel: the rectangle whose top line it is, empty where there is none. Two calls end in it, so it asks for the
-// glass itself, whose numbers are constants here.
+// A line of panel k counts as sent and is copied to the panel: the rectangle whose top line it is, empty where there is none. It asks for the glass itself, whose
+// numbers are constants here.
 pub fn send_line(rec: &mut [u8], memory: &[u8], panel: &mut [u8], h: Head, k: usize) -> Rect
     requires { ⌜ GivenBy (now rec) h (now memory) ⌝ }
     requires { ⌜ (length (now panel) ≡ screenBytes (glassOf (length (now rec)))) × (k < glassOf (length (now rec)) .panels) ⌝ }

@@ -60,6 +60,7 @@ pub fn drive(
     requires { ⌜ Idle base r (now panel) ⌝ }
     ensures { λ s. ⌜ answer (s .code) (sentNumbers s) (driven (now (rec .exit)) (now (memory .entry)) (device (now (registers .exit)) (now (panel .exit))) (now (image .exit))) ≡ driveDone base k (driven (now (rec .entry)) (now (memory .entry)) (device (now (registers .entry)) (now (panel .entry))) (now (image .entry))) ⌝ }
 {
+    // a send, written out as `sends::send_line` is, so that each of the two has it inline
     let glass = glass_of(rec.len());
     let q = pending::send_panel(rec, glass, k, panel_at(glass, k));
     let sent = sends::answer(q);

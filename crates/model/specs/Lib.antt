@@ -1,4 +1,4 @@
--- Document 01 as definitions, in its order. Geometry, Bits, Pixels, Rects, Memory and Bytes are its terms, Characters is the bytes of a text; Glass and Flags are forms that its code takes; the other files are its sections.
+-- Document 01 as definitions, in its order; Controller and Driver are the glass controller and the line driver of document 02. Geometry, Bits, Pixels, Rects, Memory and Bytes are its terms, Characters is the bytes of a text; Glass and Flags are forms that its code takes; the other files are its sections.
 pub mod Geometry
 pub mod Bits
 pub mod Pixels

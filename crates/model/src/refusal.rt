@@ -3,7 +3,7 @@
 // A lent record, memory, panel, image or set of registers has the wrong length, or the extra list is no multiple of 6.
 pub const LENT: u32 = 1;
 
-// A record field breaks the record's table, or the bases break WINDOW.
+// A record field breaks the record's table, the bases break WINDOW, or the controller's registers are damaged.
 pub const STATE: u32 = 2;
 
 // Open: a base too high, or windows that share a byte.
