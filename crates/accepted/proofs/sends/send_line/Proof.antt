@@ -13,13 +13,13 @@ panel-at-requires : tie.Need-panel-at-requires
 panel-at-requires c κs =
     let g = c .before in
     let a = g .before .before .before .before in
-    (given-for (g .glass-of .ensures) (a .pre .0) .known .suits, panel-for (g .glass-of .ensures) (a .pre .1) .1)
+    (given-for (g .glass-of .ensures) (a .pre .0) .known .suits, omega (arith, panel-for (g .glass-of .ensures) (a .pre .1) .1))
 
 send-panel-requires : tie.Need-send-panel-requires
 send-panel-requires c κs =
     let g = c .before .before in
     let a = g .before .before .before .before in
-    ((given-for (g .glass-of .ensures) (a .pre .0) .known, panel-for (g .glass-of .ensures) (a .pre .1) .1), c .panel-at .ensures)
+    ((given-for (g .glass-of .ensures) (a .pre .0) .known, omega (arith, panel-for (g .glass-of .ensures) (a .pre .1) .1)), c .panel-at .ensures)
 
 is-empty-requires : tie.Need-is-empty-requires
 is-empty-requires c κs = search needs
