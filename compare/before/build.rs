@@ -1,5 +1,5 @@
 //! Links a copy of an earlier landing's static library, all its symbols renamed so that it can stand beside
-//! that of today, and copies core's source to call it by the new names.
+//! that of today, and copies core's source and caption-sys's declarations to call it by the new names.
 
 use calls::layout::{BANDS, PANELS, RECORD, RECT};
 use std::path::{Path, PathBuf};
@@ -7,6 +7,9 @@ use std::process::Command;
 use std::{env, fs};
 
 const PREFIX: &str = "before_";
+/// Where core's source takes the declarations from, and where its copy does. A library that lacks calls leaves
+/// some of them unused.
+const DECLARATIONS: [&str; 2] = ["use caption_sys as ffi;", "#[allow(dead_code)]\nmod ffi;"];
 
 fn main() {
     let library = library();
@@ -101,15 +104,21 @@ fn say_calls(symbols: &[String], whole_record: bool, out: &Path) {
 }
 
 fn copy_source(out: &Path) {
-    let [answer, device, ffi] = ["lib.rs", "device.rs", "ffi.rs"].map(|name| {
-        let path = format!("../core/src/{name}");
+    let paths = ["../core/src/lib.rs", "../core/src/device.rs", "../../host/caption-sys/src/calls.rs"];
+    let [answer, device, ffi] = paths.map(|path| {
         println!("cargo:rerun-if-changed={path}");
-        fs::read_to_string(path).unwrap()
+        fs::read_to_string(path).unwrap_or_else(|error| panic!("{path}: {error}"))
     });
     fs::create_dir_all(out.join("library")).unwrap();
-    fs::write(out.join("library/mod.rs"), answer).unwrap();
+    fs::write(out.join("library/mod.rs"), with_own_declarations(&answer)).unwrap();
     fs::write(out.join("library/device.rs"), device).unwrap();
     fs::write(out.join("library/ffi.rs"), with_new_names(&ffi)).unwrap();
+}
+
+fn with_own_declarations(source: &str) -> String {
+    let [from, to] = DECLARATIONS;
+    assert!(source.contains(from), "core's source has no {from}");
+    source.replace(from, to)
 }
 
 /// The declarations of the C interface, each for the renamed symbol.

@@ -1,16 +1,20 @@
-/// The numbers of document 01's table of refusals, and of the change requests.
+use caption_sys::numbers::code;
+
+/// The refusals of document 01's table, and of the change requests.
 #[derive(Debug, Clone, Copy, PartialEq, Eq)]
+#[repr(u32)]
 pub enum Refusal {
-    Lent = 1,
-    State = 2,
-    Window = 3,
-    Value = 4,
-    Source = 5,
-    Radius = 6,
-    Glyph = 7,
+    Lent = code::LENT,
+    State = code::STATE,
+    Window = code::WINDOW,
+    Value = code::VALUE,
+    Source = code::SOURCE,
+    Radius = code::RADIUS,
+    Glyph = code::GLYPH,
+    /// It is in the definition of ellipses, and no call answers it.
     Endless = 8,
-    Panel = 9,
-    Register = 10,
+    Panel = code::PANEL,
+    Register = code::REGISTER,
 }
 
 /// What a call answers: its code, then the other numbers of its result, zero where it has none.
@@ -23,7 +27,7 @@ pub struct Answer {
 
 impl Answer {
     pub fn done(numbers: [u32; 4]) -> Self {
-        Self { code: 0, numbers }
+        Self { code: code::DONE, numbers }
     }
 
     pub fn refused(refusal: Refusal) -> Self {
@@ -31,6 +35,6 @@ impl Answer {
     }
 
     pub fn accepted(&self) -> bool {
-        self.code == 0
+        self.code == code::DONE
     }
 }

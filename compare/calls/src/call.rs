@@ -1,3 +1,4 @@
+use caption_sys::layout::{EXTRA_ENTRY, double_word, word};
 use fonts::made;
 
 /// One exported call with the numbers that it is told. The edge flag that open is told is 0 clamp, 1 stop.
@@ -76,10 +77,8 @@ impl FontsLent {
 
     /// The whole entries of the extra list: code and offset.
     pub fn extra_entries(&self) -> impl Iterator<Item = (u16, usize)> {
-        self.extra_list.chunks_exact(6).map(|entry| {
-            let offset = u32::from_le_bytes([entry[2], entry[3], entry[4], entry[5]]);
-            (u16::from_le_bytes([entry[0], entry[1]]), offset as usize)
-        })
+        let entries = self.extra_list.chunks_exact(EXTRA_ENTRY);
+        entries.map(|entry| (word(entry, 0), double_word(entry, 2) as usize))
     }
 }
 

@@ -1,22 +1,24 @@
-//! The registers of the glass controller by their numbers, and what they hold.
+//! The registers of the glass controller by their places among the bytes that are lent, and what they hold: the
+//! numbers of caption-sys.
 
-/// So many bytes are lent.
-pub const REGISTERS: usize = 8;
+pub use caption_sys::layout::REGISTERS;
 
-pub const COMMAND: usize = 0;
-pub const LINE_NUMBER: usize = 1;
-pub const FIRST_BYTE: usize = 2;
-pub const BYTE_COUNT: usize = 3;
-pub const DATA: usize = 4;
-pub const STATUS: usize = 5;
-pub const ENABLE: usize = 6;
-pub const RESET: usize = 7;
+use caption_sys::numbers::{command, register, status};
+
+pub const COMMAND: usize = register::COMMAND as usize;
+pub const LINE_NUMBER: usize = register::LINE as usize;
+pub const FIRST_BYTE: usize = register::FIRST_BYTE as usize;
+pub const BYTE_COUNT: usize = register::BYTE_COUNT as usize;
+pub const DATA: usize = register::DATA as usize;
+pub const STATUS: usize = register::STATUS as usize;
+pub const ENABLE: usize = register::ENABLE as usize;
+pub const RESET: usize = register::RESET as usize;
 
 /// The commands.
-pub const NOTHING: u8 = 0;
-pub const CLEAR: u8 = 1;
-pub const START: u8 = 2;
+pub const NOTHING: u8 = command::NONE;
+pub const CLEAR: u8 = command::CLEAR;
+pub const START: u8 = command::LINE;
 
 /// The bits of status.
-pub const BUSY: u8 = 1;
-pub const INTERRUPT: u8 = 2;
+pub const BUSY: u8 = status::BUSY;
+pub const INTERRUPT: u8 = status::INTERRUPT;

@@ -1,11 +1,11 @@
 //! The core, by its static library. calls.txt says which calls it has; the others answer `None`.
 
 mod device;
-mod ffi;
 
 pub use device::answer as device_answer;
 
 use calls::{Answer, Call, Lent};
+use caption_sys as ffi;
 
 /// Whether the core has the call of this name.
 pub fn has(name: &str) -> bool {

@@ -45,7 +45,7 @@ fn lengths_right(call: &Call, lent: &Lent) -> bool {
         | Call::SetPrintMode { .. }
         | Call::TakeDirtyArea => record,
         Call::Send { .. } => record && memory && lent.panel.len() == PANEL,
-        Call::Flush { fonts } => record && memory && fonts.extra_list.len() % 6 == 0,
+        Call::Flush { fonts } => record && memory && fonts.extra_list.len() % EXTRA_ENTRY == 0,
         _ => record && memory,
     }
 }
@@ -189,9 +189,9 @@ fn check_point(record: &Record, memory: &mut [u8], x: i32, y: i32) -> bool {
         && get_bit(record.screen(memory), x as usize, y as usize)
 }
 
-/// Ignored at 0xe000 and above and at key addresses. On the screen it marks the byte's pixels.
+/// Ignored in fixed memory, at 0xe000 and above, and at key addresses. On the screen it marks the byte's pixels.
 fn write_byte(record: &mut Record, memory: &mut [u8], address: usize, byte: u8) {
-    if address >= 0xe000 || record.is_key(address) {
+    if address >= FIXED_MEMORY || record.is_key(address) {
         return;
     }
     memory[address] = byte;

@@ -77,8 +77,8 @@ fn an_empty_glyph_in_the_gap() {
 #[test]
 fn a_gap_pair_not_looked_up_in_the_extra_list() {
     fn without_gap_entries(fonts: &FontsLent) -> FontsLent {
-        let kept = |entry: &&[u8]| entry.len() < 6 || !is_gap([entry[1], entry[0]]);
-        let extra_list = fonts.extra_list.chunks(6).filter(kept).collect::<Vec<_>>().concat();
+        let kept = |entry: &&[u8]| entry.len() < EXTRA_ENTRY || !is_gap([entry[1], entry[0]]);
+        let extra_list = fonts.extra_list.chunks(EXTRA_ENTRY).filter(kept).collect::<Vec<_>>().concat();
         FontsLent { extra_list, ..fonts.clone() }
     }
     assert_found(

@@ -1,6 +1,7 @@
-//! The header include/caption.h, the table of docs/CALLS.md, the Rust declarations core/src/ffi.rs
-//! and the names of core/calls.txt are held to the exported functions of crates/caption: their
-//! names, the number, names and kinds of their parameters, and the numbers that they answer.
+//! The header include/caption.h, the table of docs/CALLS.md, the Rust declarations of
+//! host/caption-sys and the names of core/calls.txt are held to the exported functions of
+//! crates/caption: their names, the number, names and kinds of their parameters, and the numbers that
+//! they answer.
 
 mod damage;
 mod edits;
@@ -52,7 +53,7 @@ impl Texts {
             sources: sources(),
             header: text("include/caption.h"),
             table: text("docs/CALLS.md"),
-            declarations: text("compare/core/src/ffi.rs"),
+            declarations: text("host/caption-sys/src/calls.rs"),
             names: text("compare/core/calls.txt"),
         }
     }
@@ -70,7 +71,7 @@ impl Texts {
             ),
             ("docs/CALLS.md", table::rows(&self.table).map(|it| table::differences(&exported, &it))),
             (
-                "compare/core/src/ffi.rs",
+                "host/caption-sys/src/calls.rs",
                 rust_like::declared(&self.declarations).map(|it| function::differences(&exported, &it)),
             ),
             ("compare/core/calls.txt", Ok(name_differences(&exported, self.names.lines()))),
