@@ -13,10 +13,10 @@ const X86_64: [u8; 2] = [62, 0];
 
 fn main() {
     println!("cargo::rerun-if-changed=build.rs");
-    println!("cargo::rerun-if-env-changed=CAPTION_LIBRARY");
     if env::var_os("CARGO_FEATURE_LINK").is_none() {
         return;
     }
+    println!("cargo::rerun-if-env-changed=CAPTION_LIBRARY");
     let linked =
         test_target().and_then(|()| library()).and_then(|library| test_archive(&library).map(|()| library));
     match linked {

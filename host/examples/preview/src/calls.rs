@@ -3,36 +3,66 @@
 use crate::script::Call;
 use caption::{Fonts, LoadError, Refusal, Screen, Sent};
 
+/// What a call answered, and why where it was not done.
+pub struct Answer {
+    pub text: String,
+    pub reason: Option<String>,
+}
+
+impl Answer {
+    pub fn done() -> Self {
+        Self::of("(done)".to_string())
+    }
+
+    fn of(text: String) -> Self {
+        Self { text, reason: None }
+    }
+
+    pub fn unreadable(line: usize) -> Self {
+        Self { text: format!("(bad {line})"), reason: Some("this line is no form".to_string()) }
+    }
+}
+
+impl From<Refusal> for Answer {
+    fn from(refusal: Refusal) -> Self {
+        Self { text: format!("(refused {})", refusal.number()), reason: Some(refusal.to_string()) }
+    }
+}
+
+impl From<LoadError> for Answer {
+    fn from(error: LoadError) -> Self {
+        match error {
+            LoadError::Fixed { address } => {
+                Self { text: format!("(fixed {address})"), reason: Some(error.to_string()) }
+            }
+            LoadError::Refused(refusal) => refusal.into(),
+        }
+    }
+}
+
 /// A send to a panel: what it answers, and whether a line was sent.
-pub fn send(screen: &mut Screen, number: u8) -> (String, bool) {
+pub fn send(screen: &mut Screen, number: u8) -> (Answer, bool) {
     match screen.send(number) {
-        Ok(Sent::Line { y, left, right }) => (format!("(sent {y} {left} {right})"), true),
-        Ok(Sent::Idle) => ("(idle)".to_string(), false),
-        Err(refusal) => (refused(refusal), false),
+        Ok(Sent::Line { y, left, right }) => (Answer::of(format!("(sent {y} {left} {right})")), true),
+        Ok(Sent::Idle) => (Answer::of("(idle)".to_string()), false),
+        Err(refusal) => (refusal.into(), false),
     }
 }
 
 /// Any other call, and what it answers.
-pub fn answer(screen: &mut Screen, font: &[u8], call: &Call) -> String {
+pub fn answer(screen: &mut Screen, font: &[u8], call: &Call) -> Answer {
     match call {
-        Call::Dirty => match screen.take_dirty_area() {
-            Ok(area) => format!("(area {} {} {} {})", area.left, area.top, area.right, area.bottom),
-            Err(refusal) => refused(refusal),
-        },
-        Call::Load { address, bytes } => match screen.load(*address, bytes) {
-            Ok(()) => "(done)".to_string(),
-            Err(LoadError::Fixed { address }) => format!("(fixed {address})"),
-            Err(LoadError::Refused(refusal)) => refused(refusal),
-        },
-        call => match drawn(screen, call).unwrap_or_else(|| written(screen, font, call)) {
-            Ok(()) => "(done)".to_string(),
-            Err(refusal) => refused(refusal),
-        },
+        Call::Dirty => screen.take_dirty_area().map_or_else(Answer::from, |area| {
+            Answer::of(format!("(area {} {} {} {})", area.left, area.top, area.right, area.bottom))
+        }),
+        Call::Load { address, bytes } => {
+            screen.load(*address, bytes).map_or_else(Answer::from, |()| Answer::done())
+        }
+        call => {
+            let done = drawn(screen, call).unwrap_or_else(|| written(screen, font, call));
+            done.map_or_else(Answer::from, |()| Answer::done())
+        }
     }
-}
-
-fn refused(refusal: Refusal) -> String {
-    format!("(refused {})", refusal.number())
 }
 
 /// A drawing; none for another call.

@@ -48,10 +48,10 @@ impl Shared {
     fn step(&mut self, step: &Step) -> String {
         let panels = step.panels.each_ref().map(|seen| self.seen(seen));
         format!(
-            "{{call: {}, answer: {}, to: {}, screen: {}, panels: {}}}",
+            "{{call: {}, answer: {}, reason: {}, screen: {}, panels: {}}}",
             string(&step.call),
-            string(&step.answer),
-            step.sent_to.map_or("null".to_string(), |number| number.to_string()),
+            string(&step.answer.text),
+            string(step.answer.reason.as_deref().unwrap_or_default()),
             self.picture(&step.screen),
             list(panels),
         )

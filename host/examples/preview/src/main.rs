@@ -115,6 +115,13 @@ fn chosen<'a>(steps: &'a [Step], arguments: &Arguments) -> Result<Vec<(usize, &'
 
 fn show(run: &Run, steps: &[(usize, &Step)], arguments: &Arguments) -> io::Result<()> {
     let terminal = Terminal { colour: has_colour(arguments.colour), columns: columns(arguments.columns) };
+    if terminal.columns < look::WIDTH {
+        eprintln!(
+            "preview: a picture takes {} columns, the terminal has {}; --html FILE makes a page",
+            look::WIDTH,
+            terminal.columns
+        );
+    }
     let mut out = BufWriter::new(io::stdout().lock());
     terminal.legend(&mut out)?;
     for (number, step) in run.steps.iter().enumerate() {

@@ -1,5 +1,6 @@
 //! A script run step by step, with what there is to see after each call.
 
+use crate::calls::Answer;
 use crate::script::{Form, form};
 use crate::{calls, font};
 use caption::{Controller, Owed, Panel, Rect, Refusal, Screen, Setup};
@@ -11,7 +12,7 @@ pub const MOST_STEPS: usize = 2_000;
 /// What there is to see after one call.
 pub struct Step {
     pub call: String,
-    pub answer: String,
+    pub answer: Answer,
     /// The panel of a send.
     pub sent_to: Option<u8>,
     pub screen: Vec<u8>,
@@ -46,7 +47,7 @@ pub fn run(script: &str, driven: [bool; 4]) -> Result<Run, String> {
     let screen = Screen::open_with(&Setup::new(), panels).map_err(|refusal| refusal.to_string())?;
     let mut runner =
         Runner { screen: Box::new(screen), font: font::ascii16(), steps: vec![], unreadable: vec![] };
-    runner.see("(open)", "(done)", None)?;
+    runner.see("(open)", Answer::done(), None)?;
     for (place, line) in lines(script).enumerate() {
         runner.line(place + 1, line)?;
     }
@@ -71,12 +72,12 @@ impl Runner {
         match form(line) {
             None => {
                 self.unreadable.push(number);
-                self.see(line, &format!("(bad {number})"), None)
+                self.see(line, Answer::unreadable(number), None)
             }
             Some(Form::Send { number, times }) => self.sends(number, times),
             Some(Form::Call(call)) => {
                 let answer = calls::answer(&mut self.screen, &self.font, &call);
-                self.see(line, &answer, None)
+                self.see(line, answer, None)
             }
         }
     }
@@ -84,7 +85,7 @@ impl Runner {
     fn sends(&mut self, number: u8, times: u8) -> Result<(), String> {
         for _ in 0..times {
             let (answer, line) = calls::send(&mut self.screen, number);
-            self.see(&format!("(send {number})"), &answer, Some(number))?;
+            self.see(&format!("(send {number})"), answer, Some(number))?;
             if !line {
                 break;
             }
@@ -92,14 +93,14 @@ impl Runner {
         Ok(())
     }
 
-    fn see(&mut self, call: &str, answer: &str, sent_to: Option<u8>) -> Result<(), String> {
+    fn see(&mut self, call: &str, answer: Answer, sent_to: Option<u8>) -> Result<(), String> {
         if self.steps.len() == MOST_STEPS {
             return Err(format!("the script has more than {MOST_STEPS} steps"));
         }
         let seen = |number| seen(&self.screen, number, &self.steps).map_err(|refusal| refusal.to_string());
         let panels = [seen(0)?, seen(1)?, seen(2)?, seen(3)?];
         let screen = self.screen.screen().bytes().to_vec();
-        self.steps.push(Step { call: call.to_string(), answer: answer.to_string(), sent_to, screen, panels });
+        self.steps.push(Step { call: call.to_string(), answer, sent_to, screen, panels });
         Ok(())
     }
 }

@@ -16,7 +16,7 @@ pub struct Terminal {
 impl Terminal {
     /// The call, its answer, and of each panel what is left.
     pub fn line(&self, out: &mut impl Write, number: usize, step: &Step, panels: &[usize]) -> io::Result<()> {
-        write!(out, "{number:4}  {:<32}  {:<18}", step.call, step.answer)?;
+        write!(out, "{number:4}  {:<32}  {:<18}", step.call, step.answer.text)?;
         for panel in panels {
             let seen = &step.panels[*panel];
             write!(
@@ -25,7 +25,8 @@ impl Terminal {
                 seen.lines_left, seen.lines_sent, seen.pixels_differing
             )?;
         }
-        writeln!(out)
+        writeln!(out)?;
+        step.answer.reason.iter().try_for_each(|reason| writeln!(out, "      {reason}"))
     }
 
     /// Screen and panels side by side, as many as there is room for.
