@@ -2,7 +2,7 @@
 //! repository, where `rt staticlib caption` makes it if it is missing or older than the core's sources.
 
 use std::path::{Path, PathBuf};
-use std::process::{Command, exit};
+use std::process::Command;
 use std::time::SystemTime;
 use std::{env, fs};
 
@@ -26,10 +26,7 @@ fn main() {
             println!("cargo::rustc-link-search=native={}", folder.display());
             println!("cargo::rustc-link-lib=static:-bundle=caption");
         }
-        Err(message) => {
-            println!("cargo::error={message}");
-            exit(1);
-        }
+        Err(message) => message.lines().for_each(|line| println!("cargo::error={line}")),
     }
 }
 
@@ -81,8 +78,10 @@ fn made(repository: &Path) -> Result<PathBuf, String> {
         Ok(output) => {
             let said =
                 [output.stdout, output.stderr].map(|bytes| String::from_utf8_lossy(&bytes).into_owned());
-            eprintln!("{}", said.join("\n"));
-            Err("`rt staticlib caption` fails: what it says stands below".to_string())
+            Err(format!(
+                "`rt staticlib caption` fails, run it by hand to see all:\n{}",
+                last_lines(&said.concat())
+            ))
         }
         Err(error) if library.is_file() => {
             println!(
@@ -95,6 +94,12 @@ fn made(repository: &Path) -> Result<PathBuf, String> {
              ({error}). Put the Rattle toolchain on PATH, or let CAPTION_LIBRARY name the folder of a libcaption.a"
         )),
     }
+}
+
+/// What a program said at the end.
+fn last_lines(text: &str) -> String {
+    let lines: Vec<&str> = text.lines().collect();
+    lines[lines.len().saturating_sub(10)..].join("\n")
 }
 
 fn changed(path: &Path) -> Option<SystemTime> {
