@@ -17,8 +17,7 @@ fn main() {
         return;
     }
     println!("cargo::rerun-if-env-changed=CAPTION_LIBRARY");
-    let linked =
-        test_target().and_then(|()| library()).and_then(|library| test_archive(&library).map(|()| library));
+    let linked = test_target().and_then(|()| library()).and_then(|library| test_archive(&library).map(|()| library));
     match linked {
         Ok(library) => {
             let folder = library.parent().expect("the library lies in a folder");
@@ -31,15 +30,12 @@ fn main() {
 }
 
 fn test_target() -> Result<(), String> {
-    let asked =
-        ["ARCH", "OS", "POINTER_WIDTH"].map(|name| env::var(format!("CARGO_CFG_TARGET_{name}")).unwrap());
+    let asked = ["ARCH", "OS", "POINTER_WIDTH"].map(|name| env::var(format!("CARGO_CFG_TARGET_{name}")).unwrap());
     if asked.each_ref().map(String::as_str) == [TARGET.0, TARGET.1, TARGET.2] {
         return Ok(());
     }
     let target = env::var("TARGET").unwrap();
-    Err(format!(
-        "the target is {target}, and libcaption.a is for x86-64 Linux: `rt staticlib caption` makes no other"
-    ))
+    Err(format!("the target is {target}, and libcaption.a is for x86-64 Linux: `rt staticlib caption` makes no other"))
 }
 
 /// The library that is linked.
@@ -68,20 +64,15 @@ fn made(repository: &Path) -> Result<PathBuf, String> {
     let sources = [repository.join("crates"), repository.join("crates.txt")];
     sources.iter().for_each(|source| println!("cargo::rerun-if-changed={}", source.display()));
     let newest = sources.iter().filter_map(|source| newest(source)).max();
-    let is_new =
-        |library: &Path| changed(library).is_some_and(|made| newest.is_none_or(|source| source <= made));
+    let is_new = |library: &Path| changed(library).is_some_and(|made| newest.is_none_or(|source| source <= made));
     if is_new(&library) {
         return Ok(library);
     }
     match Command::new("rt").args(["staticlib", "caption"]).current_dir(repository).output() {
         Ok(output) if output.status.success() && library.is_file() => Ok(library),
         Ok(output) => {
-            let said =
-                [output.stdout, output.stderr].map(|bytes| String::from_utf8_lossy(&bytes).into_owned());
-            Err(format!(
-                "`rt staticlib caption` fails, run it by hand to see all:\n{}",
-                last_lines(&said.concat())
-            ))
+            let said = [output.stdout, output.stderr].map(|bytes| String::from_utf8_lossy(&bytes).into_owned());
+            Err(format!("`rt staticlib caption` fails, run it by hand to see all:\n{}", last_lines(&said.concat())))
         }
         Err(error) if library.is_file() => {
             println!(

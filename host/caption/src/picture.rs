@@ -1,4 +1,4 @@
-use crate::Glass;
+use crate::{Glass, Refusal};
 
 /// The pixels of a screen or of a panel, as they are.
 ///
@@ -21,6 +21,20 @@ impl<'a> Picture<'a> {
     /// Of bytes that are as many as a panel of this glass has.
     pub(crate) const fn new(glass: Glass, bytes: &'a [u8]) -> Self {
         Self { glass, bytes }
+    }
+
+    /// The picture in these bytes, as a host has them of its own panel. They are as many as a panel of this glass has.
+    ///
+    /// ```
+    /// use caption::{Glass, Picture, Refusal};
+    ///
+    /// let bytes = [0x80; 1_600];
+    /// assert!(Picture::of(Glass::Small, &bytes)?.pixel(8, 79));
+    /// assert_eq!(Picture::of(Glass::Small, &bytes[1..]), Err(Refusal::Lent));
+    /// # Ok::<(), Refusal>(())
+    /// ```
+    pub const fn of(glass: Glass, bytes: &'a [u8]) -> Result<Self, Refusal> {
+        if bytes.len() == glass.panel_bytes() { Ok(Self { glass, bytes }) } else { Err(Refusal::Lent) }
     }
 
     /// The glass that it is for.

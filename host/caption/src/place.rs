@@ -26,7 +26,7 @@ pub trait Place: Sealed {
     type Registers: Bytes;
 }
 
-/// In the value itself: a screen is some 80 kB then, which a host boxes or keeps in a static.
+/// In the value itself: a screen is some 80 kB then. It is made on the stack and moved from there, as into a box.
 ///
 /// ```
 /// use caption::{Owned, Screen, Setup};

@@ -50,19 +50,11 @@ fn both_programs_show_the_same_lines() {
     let library = env::var_os("CAPTION_LIBRARY").map_or(repository().join("target/staticlib"), PathBuf::from);
     let mut compile = Command::new("cc");
     compile.args(["-std=c99", "-Wall", "-Wextra", "-Werror", "-I"]).arg(repository().join("include"));
-    output(
-        compile
-            .arg(repository().join("host/cue.c"))
-            .arg(library.join("libcaption.a"))
-            .arg("-o")
-            .arg(&program),
-    );
+    output(compile.arg(repository().join("host/cue.c")).arg(library.join("libcaption.a")).arg("-o").arg(&program));
     let in_c = output(&mut Command::new(program));
     let mut cargo = Command::new(env!("CARGO"));
     let in_rust = output(
-        cargo
-            .args(["run", "--quiet", "--offline", "--example", "cue"])
-            .current_dir(repository().join("host/caption")),
+        cargo.args(["run", "--quiet", "--offline", "--example", "cue"]).current_dir(repository().join("host/caption")),
     );
     assert_eq!(in_c.lines().count(), 80);
     assert_eq!(in_c, in_rust);

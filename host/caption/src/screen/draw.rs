@@ -46,15 +46,7 @@ impl<P: Place> Screen<P> {
     /// assert!(screen.check_point(149, 40)?);
     /// # Ok::<(), caption::Refusal>(())
     /// ```
-    pub fn draw_box(
-        &mut self,
-        x1: u8,
-        y1: u8,
-        x2: u8,
-        y2: u8,
-        fill: Fill,
-        mode: DrawMode,
-    ) -> Result<(), Refusal> {
+    pub fn draw_box(&mut self, x1: u8, y1: u8, x2: u8, y2: u8, fill: Fill, mode: DrawMode) -> Result<(), Refusal> {
         let (record, memory) = self.lend();
         done(calls::draw_box(record, memory, x1, y1, x2, y2, fill as u8, mode as u8))
     }
@@ -85,15 +77,7 @@ impl<P: Place> Screen<P> {
     /// assert!(screen.check_point(110, 40)?);
     /// # Ok::<(), caption::Refusal>(())
     /// ```
-    pub fn draw_ellipse(
-        &mut self,
-        x: u8,
-        y: u8,
-        rx: u8,
-        ry: u8,
-        fill: Fill,
-        mode: DrawMode,
-    ) -> Result<(), Refusal> {
+    pub fn draw_ellipse(&mut self, x: u8, y: u8, rx: u8, ry: u8, fill: Fill, mode: DrawMode) -> Result<(), Refusal> {
         let (record, memory) = self.lend();
         done(calls::draw_ellipse(record, memory, x, y, rx, ry, fill as u8, mode as u8))
     }

@@ -2,9 +2,7 @@
 
 use super::Screen;
 use crate::place::Bytes;
-use crate::{
-    Caller, Cursor, Edge, Glass, Owed, Picture, Place, PrintMode, Rect, Refusal, ScreenMode, Version,
-};
+use crate::{Caller, Cursor, Edge, Glass, Owed, Picture, Place, PrintMode, Rect, Refusal, ScreenMode, Version};
 use caption_sys::layout;
 
 /// A panel's number as a place in the record.
@@ -168,9 +166,7 @@ impl<P: Place> Screen<P> {
     /// ```
     pub fn is_inverse(&self, row: u8, column: u8) -> bool {
         let cell = usize::from(row) * layout::COLUMNS + usize::from(column);
-        row < self.glass.rows()
-            && column < self.glass.columns()
-            && self.record.bytes()[layout::FLAGS + cell] != 0
+        row < self.glass.rows() && column < self.glass.columns() && self.record.bytes()[layout::FLAGS + cell] != 0
     }
 
     /// The address of the screen's first byte in memory.

@@ -111,9 +111,7 @@ pub fn read(words: impl IntoIterator<Item = String>) -> Result<Arguments, String
 }
 
 fn with_value(arguments: &mut Arguments, option: &str, value: Option<String>) -> Result<(), String> {
-    if !["--panel", "--driven", "--step", "--colour", "--columns", "--html", "--png", "--pbm"]
-        .contains(&option)
-    {
+    if !["--panel", "--driven", "--step", "--colour", "--columns", "--html", "--png", "--pbm"].contains(&option) {
         return Err(format!("there is no option {option}"));
     }
     let value = value.ok_or_else(|| format!("{option} needs a value"))?;

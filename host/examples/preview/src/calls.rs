@@ -55,9 +55,7 @@ pub fn answer(screen: &mut Screen, font: &[u8], call: &Call) -> Answer {
         Call::Dirty => screen.take_dirty_area().map_or_else(Answer::from, |area| {
             Answer::of(format!("(area {} {} {} {})", area.left, area.top, area.right, area.bottom))
         }),
-        Call::Load { address, bytes } => {
-            screen.load(*address, bytes).map_or_else(Answer::from, |()| Answer::done())
-        }
+        Call::Load { address, bytes } => screen.load(*address, bytes).map_or_else(Answer::from, |()| Answer::done()),
         call => {
             let done = drawn(screen, call).unwrap_or_else(|| written(screen, font, call));
             done.map_or_else(Answer::from, |()| Answer::done())

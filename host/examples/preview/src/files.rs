@@ -3,6 +3,7 @@
 use crate::look::{HEIGHT, Pixel, View, WIDTH, Why};
 use crate::png::png;
 use crate::run::Step;
+use caption::Picture;
 use std::fs;
 use std::io;
 use std::path::Path;
@@ -30,17 +31,17 @@ const PALETTE: [[u8; 3]; 11] = [
 pub fn write_pbm(folder: &Path, steps: &[(usize, &Step)], panels: &[usize]) -> io::Result<usize> {
     fs::create_dir_all(folder)?;
     for (number, step) in steps {
-        fs::write(folder.join(format!("step-{number:03}-screen.pbm")), pbm(&step.screen))?;
+        fs::write(folder.join(format!("step-{number:03}-screen.pbm")), pbm(step.screen()))?;
         for panel in panels {
             let name = format!("step-{number:03}-panel-{panel}.pbm");
-            fs::write(folder.join(name), pbm(&step.panels[*panel].picture))?;
+            fs::write(folder.join(name), pbm(step.panels[*panel].picture()))?;
         }
     }
     Ok(steps.len() * (1 + panels.len()))
 }
 
-fn pbm(picture: &[u8]) -> Vec<u8> {
-    [format!("P4\n{WIDTH} {HEIGHT}\n").as_bytes(), picture].concat()
+fn pbm(picture: Picture) -> Vec<u8> {
+    picture.pbm().collect()
 }
 
 /// step-NNN-panel-K.png: the screen, and beside it the panel.

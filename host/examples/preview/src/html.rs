@@ -1,7 +1,7 @@
 //! One page with all steps: page.html with the steps as data in it.
 
 use crate::run::{Seen, Step};
-use caption::{Glass, Rect};
+use caption::{Picture, Rect};
 use std::collections::HashMap;
 use std::fmt::Display;
 
@@ -52,7 +52,7 @@ impl Shared {
             string(&step.call),
             string(&step.answer.text),
             string(step.answer.reason.as_deref().unwrap_or_default()),
-            self.picture(&step.screen),
+            self.picture(step.screen()),
             list(panels),
         )
     }
@@ -60,7 +60,7 @@ impl Shared {
     fn seen(&mut self, seen: &Seen) -> String {
         format!(
             "{{picture: {}, left: {}, sent: {}, pixels: {}, lines: {}, hand: {}, handFor: {}, owed: {}, owedFor: {}}}",
-            self.picture(&seen.picture),
+            self.picture(seen.picture()),
             seen.lines_left,
             seen.lines_sent,
             seen.pixels_differing,
@@ -73,8 +73,8 @@ impl Shared {
     }
 
     /// The place of a picture, which is a list of places of lines.
-    fn picture(&mut self, bytes: &[u8]) -> usize {
-        let lines = bytes.chunks(Glass::Small.line_bytes());
+    fn picture(&mut self, picture: Picture) -> usize {
+        let lines = (0..picture.glass().height()).map(|y| picture.line(y));
         let text = list(lines.map(|line| self.lines.place(hexadecimal(line))));
         self.pictures.place(text)
     }

@@ -52,8 +52,9 @@ impl View {
 
     pub fn pixel(self, step: &Step, x: usize, y: usize) -> Pixel {
         let (Self::Screen { panel } | Self::Panel { panel } | Self::Difference { panel }) = self;
+        let (x, y) = (x as u16, y as u16);
         let seen = &step.panels[panel];
-        let (on_screen, on_panel) = (bit(&step.screen, x, y), bit(&seen.picture, x, y));
+        let (on_screen, on_panel) = (step.screen().pixel(x, y), seen.picture().pixel(x, y));
         let why = if on_screen != on_panel { Why::Differs } else { why(seen, x, y) };
         let set = match self {
             Self::Screen { .. } => on_screen,
@@ -64,17 +65,13 @@ impl View {
     }
 }
 
-fn bit(picture: &[u8], x: usize, y: usize) -> bool {
-    picture[y * WIDTH / 8 + x / 8] & 0x80 >> (x % 8) != 0
-}
-
 /// Of a pixel that is alike on both.
-fn why(seen: &Seen, x: usize, y: usize) -> Why {
-    let place = (x as u16, y as u16);
-    if seen.in_hand.contains(place.0, place.1) {
+fn why(seen: &Seen, x: u16, y: u16) -> Why {
+    let band = usize::from(y) / BAND;
+    if seen.in_hand.contains(x, y) {
         Why::InHand
-    } else if seen.owed[y / BAND].contains(place.0, place.1) {
-        Why::Owed { odd: y / BAND % 2 == 1 }
+    } else if seen.owed[band].contains(x, y) {
+        Why::Owed { odd: band % 2 == 1 }
     } else {
         Why::Plain
     }

@@ -69,9 +69,7 @@ fn preview() -> Result<u8, Failure> {
 /// A reader that has seen enough, as `head`, is no fault.
 fn finish(written: io::Result<()>, status: u8) -> Result<u8, Failure> {
     match written {
-        Err(error) if error.kind() != ErrorKind::BrokenPipe => {
-            Err(Failure(format!("the output: {error}"), 1))
-        }
+        Err(error) if error.kind() != ErrorKind::BrokenPipe => Err(Failure(format!("the output: {error}"), 1)),
         _ => Ok(status),
     }
 }
@@ -151,9 +149,7 @@ fn has_colour(asked: Colour) -> bool {
         Colour::Always => true,
         Colour::Never => false,
         Colour::Auto => {
-            io::stdout().is_terminal()
-                && !set("NO_COLOR")
-                && env::var_os("TERM").is_some_and(|term| term != "dumb")
+            io::stdout().is_terminal() && !set("NO_COLOR") && env::var_os("TERM").is_some_and(|term| term != "dumb")
         }
     }
 }
@@ -164,8 +160,7 @@ fn columns(told: Option<usize>) -> usize {
 }
 
 fn terminal_columns() -> Option<usize> {
-    let size =
-        Command::new("stty").arg("size").stdin(Stdio::inherit()).stderr(Stdio::null()).output().ok()?;
+    let size = Command::new("stty").arg("size").stdin(Stdio::inherit()).stderr(Stdio::null()).output().ok()?;
     String::from_utf8(size.stdout).ok()?.split_whitespace().nth(1)?.parse().ok()
 }
 
@@ -177,13 +172,13 @@ fn write_files(name: &str, run: &Run, steps: &[(usize, &Step)], arguments: &Argu
         say(path, &format!("{} steps, {} kB", run.steps.len(), page.len() / 1_000));
     }
     if let Some(folder) = &arguments.png {
-        let written = files::write_png(folder, steps, panels)
-            .map_err(|error| format!("{}: {error}", folder.display()))?;
+        let written =
+            files::write_png(folder, steps, panels).map_err(|error| format!("{}: {error}", folder.display()))?;
         say(folder, &format!("{written} pictures"));
     }
     if let Some(folder) = &arguments.pbm {
-        let written = files::write_pbm(folder, steps, panels)
-            .map_err(|error| format!("{}: {error}", folder.display()))?;
+        let written =
+            files::write_pbm(folder, steps, panels).map_err(|error| format!("{}: {error}", folder.display()))?;
         say(folder, &format!("{written} pictures"));
     }
     Ok(())

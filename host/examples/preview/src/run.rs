@@ -3,7 +3,7 @@
 use crate::calls::Answer;
 use crate::script::{Form, form};
 use crate::{calls, font};
-use caption::{Controller, Owed, Panel, Rect, Refusal, Screen, Setup};
+use caption::{Controller, Glass, Owed, Panel, Picture, Rect, Refusal, Screen, Setup};
 use std::collections::BTreeSet;
 
 /// So many are kept at most.
@@ -15,13 +15,19 @@ pub struct Step {
     pub answer: Answer,
     /// The panel of a send.
     pub sent_to: Option<u8>,
-    pub screen: Vec<u8>,
+    screen: Vec<u8>,
     pub panels: [Seen; 4],
+}
+
+impl Step {
+    pub fn screen(&self) -> Picture<'_> {
+        picture(&self.screen)
+    }
 }
 
 /// One panel.
 pub struct Seen {
-    pub picture: Vec<u8>,
+    picture: Vec<u8>,
     pub owed: Owed,
     pub in_hand: Rect,
     pub lines_left: u32,
@@ -32,6 +38,17 @@ pub struct Seen {
     pub owed_for: Vec<Vec<usize>>,
     /// The same for what is in hand.
     pub in_hand_for: Vec<usize>,
+}
+
+impl Seen {
+    pub fn picture(&self) -> Picture<'_> {
+        picture(&self.picture)
+    }
+}
+
+/// Of bytes that were a picture's.
+fn picture(bytes: &[u8]) -> Picture<'_> {
+    Picture::of(Glass::Small, bytes).expect("as many bytes as a picture has")
 }
 
 /// A script's steps, the open first.
@@ -45,8 +62,7 @@ pub struct Run {
 pub fn run(script: &str, driven: [bool; 4]) -> Result<Run, String> {
     let panels = driven.map(|driven| if driven { Panel::driven(Controller::new()) } else { Panel::direct() });
     let screen = Screen::open_with(&Setup::new(), panels).map_err(|refusal| refusal.to_string())?;
-    let mut runner =
-        Runner { screen: Box::new(screen), font: font::ascii16(), steps: vec![], unreadable: vec![] };
+    let mut runner = Runner { screen: Box::new(screen), font: font::ascii16(), steps: vec![], unreadable: vec![] };
     runner.see("(open)", Answer::done(), None)?;
     for (place, line) in lines(script).enumerate() {
         runner.line(place + 1, line)?;

@@ -66,13 +66,9 @@ fn drawing(words: &[&str]) -> Option<Call> {
             let [x1, y1, x2, y2] = [byte(x1)?, byte(y1)?, byte(x2)?, byte(y2)?];
             Call::Box { x1, y1, x2, y2, fill: fill(filled)?, mode: draw_mode(mode)? }
         }
-        ["circle", "(", x, y, ")", r, filled, mode] => Call::Circle {
-            x: byte(x)?,
-            y: byte(y)?,
-            r: byte(r)?,
-            fill: fill(filled)?,
-            mode: draw_mode(mode)?,
-        },
+        ["circle", "(", x, y, ")", r, filled, mode] => {
+            Call::Circle { x: byte(x)?, y: byte(y)?, r: byte(r)?, fill: fill(filled)?, mode: draw_mode(mode)? }
+        }
         ["ellipse", "(", x, y, ")", "(", rx, ry, ")", filled, mode] => {
             let [x, y, rx, ry] = [byte(x)?, byte(y)?, byte(rx)?, byte(ry)?];
             Call::Ellipse { x, y, rx, ry, fill: fill(filled)?, mode: draw_mode(mode)? }

@@ -137,12 +137,7 @@ fn rectangles(out: &mut impl Write, panel: usize, seen: &Seen) -> io::Result<()>
     }
     for (band, r) in seen.owed.iter().enumerate().filter(|(_, r)| !r.is_empty()) {
         let [from, to] = [r.left, r.right - 1];
-        write!(
-            out,
-            "panel {panel}, owed in row {band}: lines {} to {}, columns {from} to {to}",
-            r.top,
-            r.bottom - 1
-        )?;
+        write!(out, "panel {panel}, owed in row {band}: lines {} to {}, columns {from} to {to}", r.top, r.bottom - 1)?;
         writeln!(out, ", marked by {}", steps(&seen.owed_for[band]))?;
     }
     Ok(())

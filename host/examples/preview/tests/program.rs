@@ -5,11 +5,7 @@ use std::process::{Command, Output, Stdio};
 use std::{env, fs};
 
 fn preview(arguments: &[&str]) -> Output {
-    Command::new(env!("CARGO_BIN_EXE_preview"))
-        .args(arguments)
-        .stdin(Stdio::null())
-        .output()
-        .expect("the program")
+    Command::new(env!("CARGO_BIN_EXE_preview")).args(arguments).stdin(Stdio::null()).output().expect("the program")
 }
 
 fn printed(output: &Output) -> String {
@@ -67,10 +63,7 @@ fn the_built_in_cue_ends_level() {
     let output = preview(&[]);
     assert_eq!(output.status.code(), Some(0));
     let last = steps(&output).pop().expect("a step");
-    assert!(
-        last.contains("(idle)") && last.contains("panel 0: 0 left") && last.ends_with(" 0 differ"),
-        "{last}"
-    );
+    assert!(last.contains("(idle)") && last.contains("panel 0: 0 left") && last.ends_with(" 0 differ"), "{last}");
 }
 
 #[test]
@@ -86,10 +79,7 @@ fn pictures_stand_side_by_side_where_there_is_room() {
     assert!(wide.lines().any(|line| line.starts_with("screen") && line.ends_with("panel 0")));
     assert!(wide.contains("\x1b[38;5;"));
     let narrow = printed(&preview(&["--step", "4", "--columns", "160", "--colour", "never"]));
-    assert!(
-        narrow.lines().any(|line| line == "screen")
-            && narrow.lines().any(|line| line == "differs on panel 0")
-    );
+    assert!(narrow.lines().any(|line| line == "screen") && narrow.lines().any(|line| line == "differs on panel 0"));
     assert!(!narrow.contains('\x1b') && narrow.contains('█'));
 }
 
@@ -105,16 +95,10 @@ fn files_have_the_pictures() {
     let folder = folder("files");
     let (pbm, png, html) = (folder.join("pbm"), folder.join("png"), folder.join("page.html"));
     let [pbm_word, png_word, html_word] = [&pbm, &png, &html].map(|path| path.to_str().unwrap());
-    let output = preview(&[
-        "--step", "4", "--panel", "all", "--pbm", pbm_word, "--png", png_word, "--html", html_word,
-    ]);
+    let output = preview(&["--step", "4", "--panel", "all", "--pbm", pbm_word, "--png", png_word, "--html", html_word]);
     assert_eq!((output.status.code(), output.stdout.len()), (Some(0), 0));
     let screen = fs::read(pbm.join("step-004-screen.pbm")).expect("the screen");
-    assert!(
-        screen.starts_with(b"P4\n160 80\n")
-            && screen.len() == 1_610
-            && screen[10..].iter().any(|byte| *byte != 0)
-    );
+    assert!(screen.starts_with(b"P4\n160 80\n") && screen.len() == 1_610 && screen[10..].iter().any(|byte| *byte != 0));
     assert_eq!(fs::read_dir(&pbm).unwrap().count(), 5);
     let picture = fs::read(png.join("step-004-panel-3.png")).expect("a picture");
     assert!(picture.starts_with(b"\x89PNG\r\n\x1a\n") && picture.ends_with(b"IEND\xae\x42\x60\x82"));
@@ -173,10 +157,7 @@ fn files_that_cannot_be_written_are_told_of() {
     for option in ["--html", "--png", "--pbm"] {
         let output = preview(&["--step", "0", option, "/proc/no/such"]);
         assert_eq!(output.status.code(), Some(1), "{option}");
-        assert!(
-            String::from_utf8(output.stderr).unwrap().starts_with("preview: /proc/no/such: "),
-            "{option}"
-        );
+        assert!(String::from_utf8(output.stderr).unwrap().starts_with("preview: /proc/no/such: "), "{option}");
     }
 }
 
