@@ -22,6 +22,49 @@
 //! with its number. A [`Screen`] owns these bytes or borrows them, shows them, and has them written by the calls alone; each
 //! [`Panel`] has its number from the open on, and is either driven through a [`Controller`] or sent to directly.
 //!
+//! So these do not compile:
+//!
+//! ```compile_fail,E0594
+//! let screen = caption::Screen::open(&caption::Setup::new())?;
+//! screen.memory()[0x1000] = 0xff; // only calls write memory: `write_byte`, `load`
+//! # Ok::<(), caption::Refusal>(())
+//! ```
+//!
+//! ```compile_fail,E0499
+//! use caption::Panel;
+//!
+//! let mut buffer = [0; 1_600];
+//! let panels = [Panel::direct_in(&mut buffer), Panel::direct_in(&mut buffer)]; // one buffer, two numbers
+//! drop(panels);
+//! ```
+//!
+//! ```compile_fail,E0382
+//! use caption::{Controller, Panel};
+//!
+//! let controller = Controller::new();
+//! let panels = [Panel::driven(controller), Panel::driven(controller)]; // one controller, two numbers
+//! ```
+//!
+//! ```compile_fail,E0596
+//! use caption::{Command, Controller, Panel, Screen, Setup};
+//!
+//! let panels = [Panel::driven(Controller::new()), Panel::absent(), Panel::absent(), Panel::absent()];
+//! let screen = Screen::open_with(&Setup::new(), panels)?;
+//! screen.controller(0)?.command(Command::Clear)?; // behind the driver's back
+//! # Ok::<(), caption::Refusal>(())
+//! ```
+//!
+//! ```compile_fail,E0506
+//! use caption::{Panel, Screen, Setup};
+//!
+//! let (mut record, mut memory) = ([0; 359], [0; 65_536]);
+//! let panels = [Panel::absent(), Panel::absent(), Panel::absent(), Panel::absent()];
+//! let mut screen = Screen::open_in(&Setup::new(), &mut record, &mut memory, panels)?;
+//! memory[0x1000] = 0xff; // lent to the screen
+//! screen.cls()?;
+//! # Ok::<(), caption::Refusal>(())
+//! ```
+//!
 //! No heap and no `std` is needed. All `unsafe` code stands in one module of this crate, `calls`.
 #![no_std]
 #![deny(unsafe_code)]
