@@ -140,6 +140,7 @@ fn show(run: &Run, steps: &[(usize, &Step)], arguments: &Arguments) -> io::Resul
 
 /// For the Enter key; false where the input has ended.
 fn wait() -> io::Result<bool> {
+    eprint!("Enter goes on, Ctrl-D ends: ");
     Ok(io::stdin().read_line(&mut String::new())? > 0)
 }
 
