@@ -22,7 +22,8 @@ What is shown:
   --colour WHEN   always, never, or auto (default): where the output is a terminal that has it and
                   NO_COLOR is not set. Without colour a third picture has the pixels that differ
   --columns N     how wide the terminal is (default: as it says, else 323). Screen and panel stand
-                  side by side from 323 columns on, below each other with fewer; each takes 160
+                  side by side from 323 columns on, below each other from 160 on; with fewer, words
+                  alone
 
 Files, instead of what is shown:
   --html FILE     one page with all steps on a slider; it needs no server and nothing from outside

@@ -114,10 +114,9 @@ fn chosen<'a>(steps: &'a [Step], arguments: &Arguments) -> Result<Vec<(usize, &'
 fn show(run: &Run, steps: &[(usize, &Step)], arguments: &Arguments) -> io::Result<()> {
     let terminal = Terminal { colour: has_colour(arguments.colour), columns: columns(arguments.columns) };
     if terminal.columns < look::WIDTH {
+        let [needed, there] = [look::WIDTH, terminal.columns];
         eprintln!(
-            "preview: a picture takes {} columns, the terminal has {}; --html FILE makes a page",
-            look::WIDTH,
-            terminal.columns
+            "preview: a picture takes {needed} columns, and there are {there}: none is shown. --html FILE makes a page"
         );
     }
     let mut out = BufWriter::new(io::stdout().lock());

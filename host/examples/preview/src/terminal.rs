@@ -29,9 +29,11 @@ impl Terminal {
         step.answer.reason.iter().try_for_each(|reason| writeln!(out, "      {reason}"))
     }
 
-    /// Screen and panels side by side, as many as there is room for.
+    /// Screen and panels side by side, as many as there is room for, then the rectangles in words. Where there is room for
+    /// none, the words alone.
     pub fn pictures(&self, out: &mut impl Write, step: &Step, panels: &[usize]) -> io::Result<()> {
-        let views: Vec<View> = panels.iter().flat_map(|panel| self.views(*panel)).collect();
+        let shown = if self.columns < WIDTH { &[][..] } else { panels };
+        let views: Vec<View> = shown.iter().flat_map(|panel| self.views(*panel)).collect();
         for row in views.chunks(self.in_a_row()) {
             self.titles(out, row)?;
             for y in (0..HEIGHT).step_by(2) {

@@ -81,6 +81,8 @@ fn pictures_stand_side_by_side_where_there_is_room() {
     let narrow = printed(&preview(&["--step", "4", "--columns", "160", "--colour", "never"]));
     assert!(narrow.lines().any(|line| line == "screen") && narrow.lines().any(|line| line == "differs on panel 0"));
     assert!(!narrow.contains('\x1b') && narrow.contains('█'));
+    let words = printed(&preview(&["--step", "4", "--columns", "159", "--colour", "never"]));
+    assert!(!words.contains('█') && words.contains("owed in row 1: lines 16 to 31"));
 }
 
 #[test]
