@@ -76,6 +76,7 @@ impl<P: Place> Screen<P> {
     pub fn reset_controller(&mut self, number: u8) -> Result<(), Refusal> {
         self.controller_mut(number)?.reset()
     }
+
     /// Sets damaged registers to zeros: see [`Controller::repair`].
     ///
     /// ```
