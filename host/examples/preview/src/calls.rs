@@ -1,7 +1,7 @@
 //! The calls of a script on a screen.
 
 use crate::script::Call;
-use caption::{Fonts, LoadError, Refusal, Screen, Sent};
+use caption::{Fonts, LoadError, Rect, Refusal, Screen, Sent};
 
 /// What a call answered, and why where it was not done.
 pub struct Answer {
@@ -40,6 +40,12 @@ impl From<LoadError> for Answer {
     }
 }
 
+impl<E: Into<Answer>> From<Result<(), E>> for Answer {
+    fn from(done: Result<(), E>) -> Self {
+        done.map_or_else(E::into, |()| Self::done())
+    }
+}
+
 /// A send to a panel: what it answers, and whether a line was sent.
 pub fn send(screen: &mut Screen, number: u8) -> (Answer, bool) {
     match screen.send(number) {
@@ -49,23 +55,9 @@ pub fn send(screen: &mut Screen, number: u8) -> (Answer, bool) {
     }
 }
 
-/// Any other call, and what it answers.
-pub fn answer(screen: &mut Screen, font: &[u8], call: &Call) -> Answer {
-    match call {
-        Call::Dirty => screen.take_dirty_area().map_or_else(Answer::from, |area| {
-            Answer::of(format!("(area {} {} {} {})", area.left, area.top, area.right, area.bottom))
-        }),
-        Call::Load { address, bytes } => screen.load(*address, bytes).map_or_else(Answer::from, |()| Answer::done()),
-        call => {
-            let done = drawn(screen, call).unwrap_or_else(|| written(screen, font, call));
-            done.map_or_else(Answer::from, |()| Answer::done())
-        }
-    }
-}
-
-/// A drawing; none for another call.
-fn drawn(screen: &mut Screen, call: &Call) -> Option<Result<(), Refusal>> {
-    Some(match *call {
+/// Any other call, and what it answers. Pairs have no font here, and their hexadecimal digits neither.
+pub fn answer(screen: &mut Screen, ascii16: &[u8], call: &Call) -> Answer {
+    let done = match *call {
         Call::Point { x, y, mode } => screen.draw_point(x, y, mode),
         Call::Line { x1, y1, x2, y2, mode } => screen.draw_line(x1, y1, x2, y2, mode),
         Call::Box { x1, y1, x2, y2, fill, mode } => screen.draw_box(x1, y1, x2, y2, fill, mode),
@@ -74,24 +66,27 @@ fn drawn(screen: &mut Screen, call: &Call) -> Option<Result<(), Refusal>> {
         Call::Paint { address, x, y, width, height, mode } => {
             screen.paint_bitmap_by_bytes(address, x.into(), y.into(), width, height, mode)
         }
-        _ => return None,
-    })
-}
-
-fn written(screen: &mut Screen, font: &[u8], call: &Call) -> Result<(), Refusal> {
-    match *call {
         Call::Poke { address, byte } => screen.write_byte(address, byte),
+        Call::Load { address, ref bytes } => return screen.load(address, bytes).into(),
         Call::Print { ref text } => screen.print(text.as_bytes()),
         Call::Newline => screen.newline(),
         Call::Cls => screen.cls(),
-        // Pairs have no font here; their hexadecimal digits neither.
-        Call::Flush => screen.flush(&Fonts { ascii16: font, ..Fonts::default() }),
+        Call::Flush => screen.flush(&Fonts { ascii16, ..Fonts::default() }),
         Call::Row { row } => screen.set_row(row),
         Call::Column { column } => screen.set_column(column),
         Call::Screen { mode } => screen.set_screen_mode(mode),
         Call::Style { mode } => screen.set_print_mode(mode),
         Call::Blink => screen.blink_cursor(),
         Call::ClearCursor => screen.clear_cursor(),
-        _ => screen.reset(),
+        Call::Dirty => return dirty(screen),
+        Call::Reset => screen.reset(),
+    };
+    done.into()
+}
+
+fn dirty(screen: &mut Screen) -> Answer {
+    match screen.take_dirty_area() {
+        Ok(Rect { left, top, right, bottom }) => Answer::of(format!("(area {left} {top} {right} {bottom})")),
+        Err(refusal) => refusal.into(),
     }
 }
