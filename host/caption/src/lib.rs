@@ -55,9 +55,10 @@
 //! ```
 //!
 //! ```compile_fail,E0506
-//! use caption::{Panel, Screen, Setup};
+//! use caption::{Glass, Panel, Screen, Setup};
 //!
-//! let (mut record, mut memory) = ([0; 359], [0; 65_536]);
+//! const GLASS: Glass = Glass::Small;
+//! let (mut record, mut memory) = ([0; GLASS.record_bytes()], [0; GLASS.memory_bytes()]);
 //! let panels = [Panel::absent(), Panel::absent(), Panel::absent(), Panel::absent()];
 //! let mut screen = Screen::open_in(&Setup::new(), &mut record, &mut memory, panels)?;
 //! memory[0x1000] = 0xff; // lent to the screen

@@ -77,9 +77,11 @@ impl<'a> Panel<Borrowed<'a>> {
     /// Sent to directly, in a buffer of the host, which may hold anything.
     ///
     /// ```
-    /// use caption::{Panel, Screen, Setup};
+    /// use caption::{Glass, Panel, Screen, Setup};
     ///
-    /// let (mut record, mut memory, mut buffer) = (vec![0; 359], vec![0; 65_536], vec![0xff; 1_600]);
+    /// const GLASS: Glass = Glass::Small;
+    /// let (mut record, mut memory) = (vec![0; GLASS.record_bytes()], vec![0; GLASS.memory_bytes()]);
+    /// let mut buffer = vec![0xff; GLASS.panel_bytes()];
     /// let panels = [Panel::direct_in(&mut buffer), Panel::absent(), Panel::absent(), Panel::absent()];
     /// let mut screen = Screen::open_in(&Setup::new(), &mut record, &mut memory, panels)?;
     /// assert_eq!(screen.sends(0).count(), 80);
@@ -94,9 +96,10 @@ impl<'a> Panel<Borrowed<'a>> {
     /// becomes a copy of the panel.
     ///
     /// ```
-    /// use caption::{Controller, Panel, Screen, Setup};
+    /// use caption::{Controller, Glass, Panel, Screen, Setup};
     ///
-    /// let (mut record, mut memory) = (vec![0; 359], vec![0; 65_536]);
+    /// const GLASS: Glass = Glass::Small;
+    /// let (mut record, mut memory) = (vec![0; GLASS.record_bytes()], vec![0; GLASS.memory_bytes()]);
     /// let (mut registers, mut panel, mut image) = ([0; 8], [0; 1_600], [0; 1_600]);
     /// let controller = Controller::in_buffers(&mut registers, &mut panel)?;
     /// let panels =

@@ -1,3 +1,4 @@
+use caption_sys::layout;
 use caption_sys::numbers::code;
 use core::error::Error;
 use core::fmt;
@@ -89,10 +90,7 @@ impl Refusal {
 impl fmt::Display for Refusal {
     fn fmt(&self, f: &mut fmt::Formatter<'_>) -> fmt::Result {
         f.write_str(match self {
-            Self::Lent => {
-                "a buffer is missing or has another length than it must have: record 359 bytes, memory 65,536, panel and \
-                 image 1,600, registers 8, the extra list a multiple of 6"
-            }
+            Self::Lent => return write_lengths(f),
             Self::State => "a field of the record or a register is out of its range",
             Self::Window => {
                 "the graphics base is above 63,935, the text base above 65,435, or the 1,600 and the 100 bytes from there \
@@ -109,6 +107,17 @@ impl fmt::Display for Refusal {
             Self::Unlisted(number) => return write!(f, "refused with number {number}, which is not listed"),
         })
     }
+}
+
+/// LENT's condition, with the lengths that there must be.
+fn write_lengths(f: &mut fmt::Formatter<'_>) -> fmt::Result {
+    let [record, memory, panel, registers, entry] =
+        [layout::RECORD, layout::MEMORY, layout::PANEL, layout::REGISTERS, layout::EXTRA_ENTRY];
+    write!(
+        f,
+        "a buffer is missing or has another length than it must have: record {record} bytes, memory {memory}, panel and \
+         image {panel}, registers {registers}, the extra list a multiple of {entry}"
+    )
 }
 
 impl Error for Refusal {}

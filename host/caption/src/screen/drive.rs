@@ -80,9 +80,10 @@ impl<P: Place> Screen<P> {
     /// Sets damaged registers to zeros: see [`Controller::repair`].
     ///
     /// ```
-    /// use caption::{Controller, Panel, Refusal, Screen, Setup};
+    /// use caption::{Controller, Glass, Panel, Refusal, Screen, Setup};
     ///
-    /// let (mut record, mut memory) = (vec![0; 359], vec![0; 65_536]);
+    /// const GLASS: Glass = Glass::Small;
+    /// let (mut record, mut memory) = (vec![0; GLASS.record_bytes()], vec![0; GLASS.memory_bytes()]);
     /// let (mut registers, mut panel, mut image) = ([0xff; 8], [0; 1_600], [0; 1_600]);
     /// let controller = Controller::in_buffers(&mut registers, &mut panel)?;
     /// let driven = Panel::driven_in(controller, &mut image)?;

@@ -130,7 +130,8 @@ impl<P: Place> Screen<P> {
     /// The bytes of the record: docs/CALLS.md has its table.
     ///
     /// ```
-    /// assert_eq!(caption::Screen::open(&caption::Setup::new())?.record().len(), 359);
+    /// let screen = caption::Screen::open(&caption::Setup::new())?;
+    /// assert_eq!(screen.record().len(), screen.glass().record_bytes());
     /// # Ok::<(), caption::Refusal>(())
     /// ```
     pub fn record(&self) -> &[u8] {

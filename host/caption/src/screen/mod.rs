@@ -70,9 +70,11 @@ impl<'a> Screen<Borrowed<'a>> {
     /// One in buffers of the host: record and memory are as long as the [`Glass`] says, and so are the panels.
     ///
     /// ```
-    /// use caption::{Panel, Refusal, Screen, Setup};
+    /// use caption::{Glass, Panel, Refusal, Screen, Setup};
     ///
-    /// let (mut record, mut memory, mut buffer) = (vec![0; 359], vec![0; 65_536], vec![0; 1_600]);
+    /// const GLASS: Glass = Glass::Small;
+    /// let (mut record, mut memory) = (vec![0; GLASS.record_bytes()], vec![0; GLASS.memory_bytes()]);
+    /// let mut buffer = vec![0; GLASS.panel_bytes()];
     /// let panels = [Panel::direct_in(&mut buffer), Panel::absent(), Panel::absent(), Panel::absent()];
     /// let screen = Screen::open_in(&Setup::new(), &mut record, &mut memory, panels)?;
     /// # Ok::<(), Refusal>(())

@@ -2,6 +2,7 @@
 #![allow(dead_code)] // no file uses all of it
 
 use caption::{Borrowed, Controller, Edge, Fonts, Keys, Panel, Picture, Place, Rect, Refusal, Screen, Setup, Version};
+use caption_sys::layout;
 
 /// A stand-in for the 128 characters of ascii16: no two are equal, and none is symmetric.
 pub fn ascii16() -> Vec<u8> {
@@ -56,7 +57,13 @@ impl Buffers {
     pub fn new() -> Self {
         let panels = [0xa5, 0x5a, 0x3c, 0xc3].map(|byte| vec![byte; 1_600]);
         let registers = NUMBERS.map(|_| vec![0; 8]);
-        Self { record: vec![0x99; 359], memory: vec![0x66; 65_536], images: panels.clone(), panels, registers }
+        Self {
+            record: vec![0x99; layout::RECORD],
+            memory: vec![0x66; layout::MEMORY],
+            images: panels.clone(),
+            panels,
+            registers,
+        }
     }
 
     /// A screen in these buffers.
