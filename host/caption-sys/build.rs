@@ -6,8 +6,8 @@ use std::process::Command;
 use std::time::SystemTime;
 use std::{env, fs};
 
-/// What `rt staticlib` compiles for.
-const TARGET: (&str, &str, &str) = ("x86_64", "linux", "64");
+/// What `rt staticlib` compiles for: machine, system, bits of a pointer.
+const TARGET: [&str; 3] = ["x86_64", "linux", "64"];
 /// The number of that machine in the head of an object file.
 const X86_64: [u8; 2] = [62, 0];
 
@@ -31,7 +31,7 @@ fn main() {
 
 fn test_target() -> Result<(), String> {
     let asked = ["ARCH", "OS", "POINTER_WIDTH"].map(|name| env::var(format!("CARGO_CFG_TARGET_{name}")).unwrap());
-    if asked.each_ref().map(String::as_str) == [TARGET.0, TARGET.1, TARGET.2] {
+    if asked == TARGET {
         return Ok(());
     }
     let target = env::var("TARGET").unwrap();
@@ -40,7 +40,7 @@ fn test_target() -> Result<(), String> {
 
 /// The library that is linked.
 fn library() -> Result<PathBuf, String> {
-    match env::var_os("CAPTION_LIBRARY") {
+    match env::var_os("CAPTION_LIBRARY").filter(|folder| !folder.is_empty()) {
         Some(folder) => named(Path::new(&folder)),
         None => made(&Path::new(env!("CARGO_MANIFEST_DIR")).join("../..")),
     }
@@ -64,8 +64,7 @@ fn made(repository: &Path) -> Result<PathBuf, String> {
     let sources = [repository.join("crates"), repository.join("crates.txt")];
     sources.iter().for_each(|source| println!("cargo::rerun-if-changed={}", source.display()));
     let newest = sources.iter().filter_map(|source| newest(source)).max();
-    let is_new = |library: &Path| changed(library).is_some_and(|made| newest.is_none_or(|source| source <= made));
-    if is_new(&library) {
+    if changed(&library).is_some_and(|made| newest.is_none_or(|source| source <= made)) {
         return Ok(library);
     }
     match Command::new("rt").args(["staticlib", "caption"]).current_dir(repository).output() {

@@ -100,24 +100,12 @@ fn opened<P: Place>(
         return Err(Refusal::Lent);
     }
     let [k0, k1, k2, k3, k4, k5, k6, k7] = keys.words;
-    let (lent_record, lent_memory) = (record.bytes_mut(), memory.bytes_mut());
-    let (version, edge) = (version as u8, edge as u8);
-    done(calls::open(
-        lent_record,
-        lent_memory,
-        graphics_base,
-        text_base,
-        version,
-        k0,
-        k1,
-        k2,
-        k3,
-        k4,
-        k5,
-        k6,
-        k7,
-        edge,
-    ))?;
+    #[rustfmt::skip]
+    let code = calls::open(
+        record.bytes_mut(), memory.bytes_mut(),
+        graphics_base, text_base, version as u8, k0, k1, k2, k3, k4, k5, k6, k7, edge as u8,
+    );
+    done(code)?;
     Ok(Screen { glass, caller, record, memory, panels })
 }
 

@@ -1,5 +1,6 @@
 //! One page with all steps: page.html with the steps as data in it.
 
+use crate::look::{BAND, HEIGHT, WIDTH};
 use crate::run::{Seen, Step};
 use caption::{Picture, Rect};
 use std::collections::HashMap;
@@ -13,7 +14,8 @@ pub fn page(name: &str, steps: &[Step], panel: usize) -> String {
     let mut shared = Shared::default();
     let steps: Vec<String> = steps.iter().map(|step| shared.step(step)).collect();
     let data = format!(
-        "const data = {{name: {}, panel: {panel}, lines: {},\npictures: {},\nsteps: {}}};",
+        "const data = {{name: {}, panel: {panel}, width: {WIDTH}, height: {HEIGHT}, band: {BAND},\nlines: {},\npictures: \
+         {},\nsteps: {}}};",
         string(name),
         list(shared.lines.texts.iter().map(|text| string(text))),
         list(&shared.pictures.texts),

@@ -5,7 +5,7 @@ use caption::Glass;
 
 pub const WIDTH: usize = Glass::Small.width() as usize;
 pub const HEIGHT: usize = Glass::Small.height() as usize;
-const BAND: usize = HEIGHT / Glass::Small.bands();
+pub const BAND: usize = HEIGHT / Glass::Small.bands();
 
 #[derive(Debug, Clone, Copy, PartialEq, Eq)]
 pub enum Why {

@@ -17,7 +17,7 @@ use std::env;
 use std::fs::{self, File};
 use std::io::{self, BufWriter, ErrorKind, IsTerminal, Read, Write};
 use std::path::Path;
-use std::process::{Command, ExitCode, Stdio};
+use std::process::{Command, ExitCode};
 use terminal::Terminal;
 
 const CUE: &str = include_str!("../cue.script");
@@ -98,7 +98,6 @@ fn read_some(from: impl Read) -> io::Result<Vec<u8>> {
 
 /// The steps whose pictures are wanted, with their numbers.
 fn chosen<'a>(steps: &'a [Step], arguments: &Arguments) -> Result<Vec<(usize, &'a Step)>, String> {
-    let numbered = || steps.iter().enumerate();
     if let Some(number) = arguments.step {
         let last = steps.len() - 1;
         let step = steps.get(number).ok_or_else(|| format!("--step {number}: the last step is {last}"))?;
@@ -108,7 +107,7 @@ fn chosen<'a>(steps: &'a [Step], arguments: &Arguments) -> Result<Vec<(usize, &'
         let next = steps.get(number + 1).and_then(|step| step.sent_to);
         next.is_some() && next == steps[number].sent_to
     };
-    Ok(numbered().filter(|(number, _)| arguments.every || !goes_on(*number)).collect())
+    Ok(steps.iter().enumerate().filter(|(number, _)| arguments.every || !goes_on(*number)).collect())
 }
 
 fn show(run: &Run, steps: &[(usize, &Step)], arguments: &Arguments) -> io::Result<()> {
@@ -156,11 +155,11 @@ fn has_colour(asked: Colour) -> bool {
 
 /// How wide the terminal is: as told, as it says, or wide enough for two pictures.
 fn columns(told: Option<usize>) -> usize {
-    told.or_else(|| io::stdout().is_terminal().then(terminal_columns).flatten()).unwrap_or(323)
+    told.or_else(|| io::stdout().is_terminal().then(terminal_columns).flatten()).unwrap_or(terminal::TWO_PICTURES)
 }
 
 fn terminal_columns() -> Option<usize> {
-    let size = Command::new("stty").arg("size").stdin(Stdio::inherit()).stderr(Stdio::null()).output().ok()?;
+    let size = Command::new("stty").arg("size").stdin(File::open("/dev/tty").ok()?).output().ok()?;
     String::from_utf8(size.stdout).ok()?.split_whitespace().nth(1)?.parse().ok()
 }
 
@@ -168,23 +167,22 @@ fn write_files(name: &str, run: &Run, steps: &[(usize, &Step)], arguments: &Argu
     let panels = &arguments.panels;
     if let Some(path) = &arguments.html {
         let page = html::page(name, &run.steps, panels[0]);
-        fs::write(path, &page).map_err(|error| format!("{}: {error}", path.display()))?;
-        say(path, &format!("{} steps, {} kB", run.steps.len(), page.len() / 1_000));
+        let size = format!("{} steps, {} kB", run.steps.len(), page.len() / 1_000);
+        said(path, fs::write(path, &page).map(|()| size))?;
     }
+    let pictures = |count| format!("{count} pictures");
     if let Some(folder) = &arguments.png {
-        let written =
-            files::write_png(folder, steps, panels).map_err(|error| format!("{}: {error}", folder.display()))?;
-        say(folder, &format!("{written} pictures"));
+        said(folder, files::write_png(folder, steps, panels).map(pictures))?;
     }
     if let Some(folder) = &arguments.pbm {
-        let written =
-            files::write_pbm(folder, steps, panels).map_err(|error| format!("{}: {error}", folder.display()))?;
-        say(folder, &format!("{written} pictures"));
+        said(folder, files::write_pbm(folder, steps, panels).map(pictures))?;
     }
     Ok(())
 }
 
-/// On standard error: the output is in the file.
-fn say(path: &Path, what: &str) {
+/// What was written goes to standard error, as the output is in the file; a fault is told by the caller.
+fn said(path: &Path, written: io::Result<String>) -> Result<(), String> {
+    let what = written.map_err(|error| format!("{}: {error}", path.display()))?;
     eprintln!("{}: {what}", path.display());
+    Ok(())
 }

@@ -6,6 +6,8 @@ use std::io::{self, Write};
 
 /// Columns between two pictures.
 const GAP: usize = 3;
+/// Columns of a screen and a panel side by side.
+pub const TWO_PICTURES: usize = 2 * WIDTH + GAP;
 
 /// How the terminal is.
 pub struct Terminal {
@@ -16,7 +18,7 @@ pub struct Terminal {
 impl Terminal {
     /// The call, its answer, and of each panel what is left.
     pub fn line(&self, out: &mut impl Write, number: usize, step: &Step, panels: &[usize]) -> io::Result<()> {
-        write!(out, "{number:4}  {:<32}  {:<18}", step.call, step.answer.text)?;
+        write!(out, "{number:4}  {:<32}  {:<18}", printable(&step.call), step.answer.text)?;
         for panel in panels {
             let seen = &step.panels[*panel];
             write!(
@@ -131,18 +133,21 @@ fn block(two: [bool; 2]) -> &'static str {
 
 /// The rectangles in words, with the steps that they are owed for.
 fn rectangles(out: &mut impl Write, panel: usize, seen: &Seen) -> io::Result<()> {
-    if !seen.in_hand.is_empty() {
-        let r = seen.in_hand;
-        let [from, to] = [r.left, r.right - 1];
-        write!(out, "panel {panel}, in hand: lines {} to {}, columns {from} to {to}", r.top, r.bottom - 1)?;
-        writeln!(out, ", marked by {}", steps(&seen.in_hand_for))?;
-    }
-    for (band, r) in seen.owed.iter().enumerate().filter(|(_, r)| !r.is_empty()) {
-        let [from, to] = [r.left, r.right - 1];
-        write!(out, "panel {panel}, owed in row {band}: lines {} to {}, columns {from} to {to}", r.top, r.bottom - 1)?;
-        writeln!(out, ", marked by {}", steps(&seen.owed_for[band]))?;
+    let owed = seen.owed.iter().zip(&seen.owed_for).enumerate();
+    let owed = owed.map(|(band, (rect, steps))| (format!("owed in row {band}"), rect, steps));
+    for (name, rect, for_steps) in [("in hand".to_string(), &seen.in_hand, &seen.in_hand_for)].into_iter().chain(owed) {
+        if !rect.is_empty() {
+            let [bottom, right] = [rect.bottom - 1, rect.right - 1];
+            write!(out, "panel {panel}, {name}: lines {} to {bottom}, columns {} to {right}", rect.top, rect.left)?;
+            writeln!(out, ", marked by {}", steps(for_steps))?;
+        }
     }
     Ok(())
+}
+
+/// A script's line may hold what a terminal would take for a command.
+fn printable(line: &str) -> String {
+    line.chars().map(|character| if character.is_control() { '\u{fffd}' } else { character }).collect()
 }
 
 fn steps(steps: &[usize]) -> String {

@@ -155,6 +155,14 @@ fn scripts_that_cannot_be_run_are_told_of() {
 }
 
 #[test]
+fn what_a_terminal_would_obey_is_not_printed() {
+    let path = folder("commands").join("script");
+    fs::write(&path, "\x1b[31m\x07red\n").expect("a script");
+    let output = preview(&[path.to_str().unwrap(), "--columns", "100"]);
+    assert!(!printed(&output).contains(['\x1b', '\x07']) && printed(&output).contains("red"));
+}
+
+#[test]
 fn files_that_cannot_be_written_are_told_of() {
     for option in ["--html", "--png", "--pbm"] {
         let output = preview(&["--step", "0", option, "/proc/no/such"]);
