@@ -41,7 +41,6 @@ pub mod PaintedMemory
 pub mod Ellipses
 pub mod EllipseWalks
 pub mod EllipseMarks
-pub mod EdgeFlag
 pub mod NoWriteOutside
 pub mod Counts
 pub mod Glyphs

@@ -6,7 +6,7 @@ use native.Mathlib.Omega.{arith}
 use lib.ListN.{length}
 use Rattle.model.specs.declared.glass.Glass.{Glass}
 use Rattle.model.specs.Glass.{geometry, Suits}
-use Rattle.model.specs.Record.{headBytes, panel, edge, offset, at, recordBytes, pendingBytes}
+use Rattle.model.specs.Record.{headBytes, panel, lastParts, offset, at, recordBytes, pendingBytes}
 use Rattle.laws.specs.Record.{Passing, later, panel-from, has-panel, part-in}
 
 -- a record that passes, for the glass that is told
@@ -22,7 +22,7 @@ pub is-others-at : (v : Glass) (k : ℕ) → Suits v → k < v .panels → (k �
 is-others-at v zero z h n = absurd (n refl)
 is-others-at v (suc k) z h n =
     let g = geometry v in
-    cc (later g k .1, panel-from g (suc k) 1 (g .panels - 1) (edge ∷ []) (omega arith) (omega arith) .1)
+    cc (later g k .1, panel-from g (suc k) 1 (g .panels - 1) lastParts (omega arith) (omega arith) .1)
 
 -- a panel's part ends within the record, which is short
 pub panel-room : (v : Glass) (k : ℕ) → Suits v → k < v .panels → at (geometry v) (panel k) + pendingBytes (geometry v) ≤ recordBytes (geometry v)

@@ -13,7 +13,7 @@ use Rattle.model.specs.Memory.{window, withWindow}
 use Rattle.model.specs.Rects.{none, fits}
 use Rattle.model.specs.Bytes.{four, rectAt, rectsAt, rectBytes, rectsBytes, wordsBytes, fourBytes, Bytes, Words}
 use Rattle.model.specs.Flags.{flagsIn, bytesOfFlags, flagBytes}
-use Rattle.model.specs.Record.{RecordPart, head, panel, keys, flags, edge, tag, samePart, has, total, offset, panelsFrom, layout, size, at, partIn, recordBytes, pendingBytes, Pending, State, decode, encode, listing, headOf, pendingOf, bytesOfHead, bytesOfPending, partBytes, panelOf, nothingPending, windows, windowTests, headTests, headFits, partFits, valid, edgeByte, withHead, withPanel, withKeyWords, withFlags, withEdge, WellPending, WellFormed}
+use Rattle.model.specs.Record.{RecordPart, head, panel, keys, flags, edge, tag, samePart, has, total, offset, panelsFrom, lastParts, layout, size, at, partIn, recordBytes, pendingBytes, Pending, State, decode, encode, listing, headOf, pendingOf, bytesOfHead, bytesOfPending, partBytes, panelOf, nothingPending, windows, windowTests, headTests, headFits, partFits, valid, edgeByte, withHead, withPanel, withKeyWords, withFlags, withEdge, WellPending, WellFormed}
 use Rattle.model.specs.Glass.{IsGlass}
 use Rattle.laws.specs.Tests.{tests, by-test, by-lt, by-eq, clash, or-right, all-true}
 use Rattle.laws.specs.Rects.{passes-fits}
@@ -36,11 +36,22 @@ panel-from g i k (suc n) ps l u =
     (λ e. let z : i - k ≡ suc (i - suc k) = omega (arith, tests) in
     let r = panel-from g i (suc k) n ps (omega (arith, tests)) (omega arith) in rw (e, z) (r .0, omega (arith, r .1)))
 
--- and no other
-from-has : (i k n : ℕ) → has (panel i) (panelsFrom k n ++ (edge ∷ [])) ≡ true → i < k + n
+-- and no other, where there is none in ps
+from-has : (i k n : ℕ) (ps : List RecordPart) → has (panel i) ps ≡ false → has (panel i) (panelsFrom k n ++ ps) ≡ true → i < k + n
 unfolding has
-from-has i k zero h = clash false (rw (ne-eqb (tag (panel i)) (tag edge) (λ e. omega arith)) at h) refl
-from-has i k (suc n) h = by-test (samePart (panel i) (panel k)) (λ e. omega (arith, tests)) (λ e. omega (arith, from-has i (suc k) n (rw e at h)))
+from-has i k zero ps f h = clash (has (panel i) ps) h f
+from-has i k (suc n) ps f h = by-test (samePart (panel i) (panel k)) (λ e. omega (arith, tests)) (λ e. omega (arith, from-has i (suc k) n ps f (rw e at h)))
+
+-- the parts of ps stand behind them
+has-behind : (q : RecordPart) (k n : ℕ) (ps : List RecordPart) → has q ps ≡ true → has q (panelsFrom k n ++ ps) ≡ true
+unfolding has
+has-behind q k zero ps h = h
+has-behind q k (suc n) ps h = or-right (samePart q (panel k)) (has-behind q (suc k) n ps h)
+
+-- no panel is among the last parts
+no-panel-last : (i : ℕ) → has (panel i) lastParts ≡ false
+unfolding has
+no-panel-last i = rw (ne-eqb (tag (panel i)) (tag edge) (λ e. omega arith)) refl
 
 module _ (g : Geometry) where
   pub has-head : has head (layout g) ≡ true
@@ -57,14 +68,10 @@ module _ (g : Geometry) where
 
   pub has-edge : has edge (layout g) ≡ true
   unfolding has
-  has-edge = edge-from 1 (g .panels - 1)
-    where
-      edge-from : (k n : ℕ) → has edge (panelsFrom k n ++ (edge ∷ [])) ≡ true
-      edge-from k zero = refl
-      edge-from k (suc n) = or-right (samePart edge (panel k)) (edge-from (suc k) n)
+  has-edge = has-behind edge 1 (g .panels - 1) lastParts refl
 
   -- the panels after the first stand after the flags
-  pub later : (k : ℕ) → let rest = panelsFrom 1 (g .panels - 1) ++ (edge ∷ []) in
+  pub later : (k : ℕ) → let rest = panelsFrom 1 (g .panels - 1) ++ lastParts in
       (has (panel (suc k)) (layout g) ≡ has (panel (suc k)) rest) × (at g (panel (suc k)) ≡ at g flags + flagBytes (cells g) + offset (size g) (panel (suc k)) rest)
   unfolding has offset
   later k =
@@ -74,11 +81,11 @@ module _ (g : Geometry) where
   pub has-panel : (k : ℕ) → k < g .panels → has (panel k) (layout g) ≡ true
   unfolding has
   has-panel zero h = refl
-  has-panel (suc k) h = later k .0 ∙ panel-from g (suc k) 1 (g .panels - 1) (edge ∷ []) (omega arith) (omega arith) .0
+  has-panel (suc k) h = later k .0 ∙ panel-from g (suc k) 1 (g .panels - 1) lastParts (omega arith) (omega arith) .0
 
   pub panel-has : (k : ℕ) → 1 ≤ g .panels → has (panel k) (layout g) ≡ true → k < g .panels
   panel-has zero l h = l
-  panel-has (suc k) l h = let r = from-has (suc k) 1 (g .panels - 1) (sym (later k .0) ∙ h) in omega arith
+  panel-has (suc k) l h = let r = from-has (suc k) 1 (g .panels - 1) lastParts (no-panel-last (suc k)) (sym (later k .0) ∙ h) in omega arith
 
 -- ---- the bytes of a part in a record
 

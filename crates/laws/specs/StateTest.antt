@@ -17,7 +17,7 @@ use Rattle.model.specs.Memory.{window}
 use Rattle.model.specs.Rects.{fits}
 use Rattle.model.specs.Bytes.{rectAt, rectsAt}
 use Rattle.model.specs.Flags.{flagBytes, flagsFit}
-use Rattle.model.specs.Record.{panelsFrom, panel, flags, edge, recordBytes, edgeFits, decode, all, at, partIn, headOf, pendingOf, windows, headFits, bandsFit, pendingFits, partFits, valid}
+use Rattle.model.specs.Record.{RecordPart, panelsFrom, lastParts, panel, flags, edge, recordBytes, edgeFits, decode, all, at, partIn, headOf, pendingOf, windows, headFits, bandsFit, pendingFits, partFits, valid}
 use Rattle.model.specs.Lines.{edgeOf}
 use Rattle.laws.specs.Record.{has-flags, has-edge, part-in, length-part}
 use Rattle.laws.specs.Windows.{head-part, pending-part, edge-part}
@@ -36,17 +36,25 @@ unfoldable pub panelsFit : Geometry → List ℕ → ℕ → ℕ → Bool
 panelsFit g r k zero = true
 panelsFit g r k (suc n) = pendingFits g (pendingOf g r (at g (panel k))) && panelsFit g r (suc k) n
 
-panels-all : (g : Geometry) (r : List ℕ) (k n : ℕ)
-    → (panelsFit g r k n && edgeFits (getD r (at g edge) 0)) ≡ all (λ p. partFits g p (partIn g p r)) (panelsFrom k n ++ (edge ∷ []))
+-- what a part of the record is tested for
+abbrev fitsIn : Geometry → List ℕ → RecordPart → Bool
+fitsIn g r p = partFits g p (partIn g p r)
+
+panels-all : (g : Geometry) (r : List ℕ) (k n : ℕ) (ps : List RecordPart) → (panelsFit g r k n && all (fitsIn g r) ps) ≡ all (fitsIn g r) (panelsFrom k n ++ ps)
 unfolding panelsFit all partFits
-panels-all g r k zero = cc (and-last (edgeFits (getD r (at g edge) 0)), edge-part g r)
-panels-all g r k (suc n) =
+panels-all g r k zero ps = refl
+panels-all g r k (suc n) ps =
     let first = pendingFits g (pendingOf g r (at g (panel k))) in
-    cc (and-assoc first (panelsFit g r (suc k) n) (edgeFits (getD r (at g edge) 0)), pending-part g r k, panels-all g r (suc k) n)
+    cc (and-assoc first (panelsFit g r (suc k) n) (all (fitsIn g r) ps), pending-part g r k, panels-all g r (suc k) n ps)
+
+-- the parts behind them: the edge flag
+last-fits : (g : Geometry) (r : List ℕ) → edgeFits (getD r (at g edge) 0) ≡ all (fitsIn g r) lastParts
+unfolding all partFits
+last-fits g r = cc (and-last (edgeFits (getD r (at g edge) 0)), edge-part g r)
 
 -- ---- the whole
 
--- the flags' test stands before those of the other panels, and the edge flag's behind them
+-- the flags' test stands before those of the other panels, and that of the last parts behind them
 flags-first : (a b c d e : Bool) → (((a && e) && (b && d)) && c) ≡ (a && (b && (c && (d && e))))
 flags-first false b c d e = refl
 flags-first true false c d true = refl
@@ -66,7 +74,7 @@ valid-is g r {a} {b} {c} {e} l fa fb fc fe =
     let some : g .panels ≡ suc n = omega (arith, l .one) in
     let first = pendingFits g (pendingOf g r (at g (panel 0))) in
     let two : b ≡ (first && panelsFit g r 1 n) = cc in
-    cc (flags-first a first c (panelsFit g r 1 n) e, head-part g r, pending-part g r 0, panels-all g r 1 n)
+    cc (flags-first a first c (panelsFit g r 1 n) e, head-part g r, pending-part g r 0, last-fits g r, panels-all g r 1 n lastParts)
 
 -- ---- as the code goes, with the glass by value
 

@@ -12,16 +12,14 @@ use Rattle.model.specs.declared.Area.{Area}
 use Rattle.model.specs.declared.Sent.{Sent}
 use Rattle.model.specs.Geometry.{Geometry, height, rows, columns, screenBytes, memoryBytes}
 use Rattle.model.specs.Rects.{Rect, none}
-use Rattle.model.specs.Memory.{window, screenOf, withScreen}
+use Rattle.model.specs.Memory.{screenOf, withScreen}
 use Rattle.model.specs.Record.{decode, encode, valid, windows, edgeFits, recordBytes, panelOf, withHead, withPanel}
-use Rattle.model.specs.Refusals.{LENT, STATE, WINDOW, VALUE, SOURCE, RADIUS, GLYPH, ENDLESS, PANEL, Test, test, refusal, ruled}
+use Rattle.model.specs.Refusals.{LENT, STATE, WINDOW, VALUE, GLYPH, PANEL, Test, test, refusal, ruled}
 use Rattle.model.specs.Marks.{Drawing, whole, drawnOn, marked, withDirty}
 use Rattle.model.specs.Open.{clearMemory, openState, resetState}
-use Rattle.model.specs.Points.{drawMode, point, isSet}
-use Rattle.model.specs.Lines.{edgeOf, line}
-use Rattle.model.specs.Boxes.{box}
-use Rattle.model.specs.Ellipses.{ellipse, circle, radiiFit, stepsFit}
-use Rattle.model.specs.Bitmaps.{paintMode, sourceBytes, sourceFits, bitmap}
+use Rattle.model.specs.Points.{isSet}
+use Rattle.model.specs.Lines.{edgeOf}
+use Rattle.model.specs.Shapes.{Shape, shapeTests, drawingOf}
 use Rattle.model.specs.Text.{withRow, withColumn, withPrintMode, withCursor, clearedState, clearedMemory}
 use Rattle.model.specs.Print.{Page, newlineOn, isInverse, printOn, pageOf, stateWithPage, memoryWithPage}
 use Rattle.model.specs.Cursor.{blinkHead, blinkDrawing}
@@ -35,19 +33,8 @@ pub data Call : Type 0 where
   -- graphics base, text base, version, key words, edge flag
   opening : ℕ → ℕ → ℕ → List ℕ → ℕ → Call
   reset : Call
-  -- x, y, mode
-  drawPoint : ℕ → ℕ → ℕ → Call
-  -- x1, y1, x2, y2, mode
-  drawLine : ℕ → ℕ → ℕ → ℕ → ℕ → Call
-  -- x1, y1, x2, y2, fill, mode
-  drawBox : ℕ → ℕ → ℕ → ℕ → ℕ → ℕ → Call
-  -- x, y, radius, fill, mode
-  drawCircle : ℕ → ℕ → ℕ → ℕ → ℕ → Call
-  -- x, y, the two radii, fill, mode
-  drawEllipse : ℕ → ℕ → ℕ → ℕ → ℕ → ℕ → Call
+  draw : Shape → Call
   checkPoint : ℤ → ℤ → Call
-  -- address, x, y, width, height, mode
-  paintBitmap : ℕ → ℤ → ℤ → ℕ → ℕ → ℕ → Call
   -- the text's bytes
   print : List ℕ → Call
   newline : Call
@@ -108,13 +95,8 @@ pub data Lending : Type 0 where
 abbrev pub takes : Call → Lending
 takes (opening graphics text version keys edge) = to-open
 takes reset = with-memory
-takes (drawPoint x y mode) = with-memory
-takes (drawLine x1 y1 x2 y2 mode) = with-memory
-takes (drawBox x1 y1 x2 y2 fill mode) = with-memory
-takes (drawCircle x y r fill mode) = with-memory
-takes (drawEllipse x y rx ry fill mode) = with-memory
+takes (draw s) = with-memory
 takes (checkPoint x y) = with-memory
-takes (paintBitmap a x y w n mode) = with-memory
 takes (print bs) = with-memory
 takes newline = with-memory
 takes cls = with-memory
@@ -166,30 +148,11 @@ stateTests g with-memory l = stateTest g (l .rec) ∷ []
 stateTests g (with-fonts f) l = stateTest g (l .rec) ∷ []
 stateTests g (with-panel k) l = stateTest g (l .rec) ∷ []
 
--- the fill flag and the draw mode are listed
-abbrev pub fillFits : ℕ → ℕ → Bool
-fillFits fill mode = leb fill 1 && leb mode 3
-
--- the fill flag, 0 or 1
-abbrev pub filled : ℕ → Bool
-filled n = eqb n 1
-
--- RADIUS and ENDLESS come after the two early returns of an ellipse
-abbrev pub ellipseTests : ℕ → ℕ → ℕ → ℕ → List Test
-ellipseTests rx ry fill mode =
-    test VALUE (fillFits fill mode) ∷ test RADIUS (radiiFit rx ry (filled fill) (drawMode mode)) ∷
-    test ENDLESS (stepsFit rx ry (filled fill) (drawMode mode)) ∷ []
-
 abbrev pub ownTests : Geometry → Call → Lent → List Test
 ownTests g (opening graphics text version keys edge) l = test WINDOW (windows g graphics text) ∷ test VALUE (leb version 1 && edgeFits edge) ∷ []
 ownTests g reset l = []
-ownTests g (drawPoint x y mode) l = test VALUE (leb mode 3) ∷ []
-ownTests g (drawLine x1 y1 x2 y2 mode) l = test VALUE (leb mode 3) ∷ []
-ownTests g (drawBox x1 y1 x2 y2 fill mode) l = test VALUE (fillFits fill mode) ∷ []
-ownTests g (drawCircle x y r fill mode) l = ellipseTests r r fill mode
-ownTests g (drawEllipse x y rx ry fill mode) l = ellipseTests rx ry fill mode
+ownTests g (draw s) l = shapeTests s
 ownTests g (checkPoint x y) l = []
-ownTests g (paintBitmap a x y w n mode) l = test VALUE (leb mode 4) ∷ test SOURCE (sourceFits a w n) ∷ []
 ownTests g (print bs) l = []
 ownTests g newline l = []
 ownTests g cls l = []
@@ -206,20 +169,19 @@ ownTests g clearCursor l = []
 ownTests g takeDirtyArea l = []
 ownTests g (send k) l = test PANEL (ltb k (g .panels)) ∷ []
 
+-- what each call tests first
+abbrev pub entryTests : Geometry → Lending → Lent → List Test
+entryTests g t l = lentTest g (l .rec) (lengthsFit g t l) ∷ stateTests g t l
+
 unfoldable pub refusals : Geometry → Call → Lent → List Test
-refusals g c l = lentTest g (l .rec) (lengthsFit g (takes c) l) ∷ (stateTests g (takes c) l ++ ownTests g c l)
+refusals g c l = entryTests g (takes c) l ++ ownTests g c l
 
 -- how many numbers stand beside the code in a call's result
 abbrev pub numbers : Call → ℕ
 numbers (opening graphics text version keys edge) = 0
 numbers reset = 0
-numbers (drawPoint x y mode) = 0
-numbers (drawLine x1 y1 x2 y2 mode) = 0
-numbers (drawBox x1 y1 x2 y2 fill mode) = 0
-numbers (drawCircle x y r fill mode) = 0
-numbers (drawEllipse x y rx ry fill mode) = 0
+numbers (draw s) = 0
 numbers (checkPoint x y) = 1
-numbers (paintBitmap a x y w n mode) = 0
 numbers (print bs) = 0
 numbers newline = 0
 numbers cls = 0
@@ -288,15 +250,9 @@ done g (opening graphics text version keys edge) l =
 done g reset l =
     let s = decode g (l .rec) in
     answered 0 [] (lent (encode g (resetState g s)) (clearMemory (s .keys)) (l .panel))
-done g (drawPoint x y mode) l = answered 0 [] (drawing g (point (g .stride) (height g) x y (drawMode mode)) l)
-done g (drawLine x1 y1 x2 y2 mode) l = answered 0 [] (drawing g (line (g .stride) (height g) (edgeIn g l) x1 y1 x2 y2 (drawMode mode)) l)
-done g (drawBox x1 y1 x2 y2 fill mode) l = answered 0 [] (drawing g (box (g .stride) (height g) (edgeIn g l) x1 y1 x2 y2 (filled fill) (drawMode mode)) l)
-done g (drawCircle x y r fill mode) l = answered 0 [] (drawing g (circle (g .stride) (height g) (edgeIn g l) x y r (filled fill) (drawMode mode)) l)
-done g (drawEllipse x y rx ry fill mode) l = answered 0 [] (drawing g (ellipse (g .stride) (height g) (edgeIn g l) x y rx ry (filled fill) (drawMode mode)) l)
+done g (draw s) l = answered 0 [] (drawing g (drawingOf g (edgeIn g l) (l .memory) s) l)
 done g (checkPoint x y) l =
     answered 0 (flag (isSet (g .stride) (height g) (screenOf g (decode g (l .rec) .head .graphics) (l .memory)) x y) ∷ []) l
-done g (paintBitmap a x y w n mode) l =
-    answered 0 [] (drawing g (bitmap (g .stride) (height g) (window a (sourceBytes w n) (l .memory)) x y w n (paintMode mode)) l)
 done g (print bs) l =
     let s = decode g (l .rec) in
     answered 0 [] (withPage g (printOn (rows g) (columns g) (isInverse (s .head .print)) bs (pageOf g s (l .memory))) l)

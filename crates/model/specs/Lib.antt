@@ -16,6 +16,7 @@ pub mod Lines
 pub mod Boxes
 pub mod Ellipses
 pub mod Bitmaps
+pub mod Shapes
 pub mod Text
 pub mod Print
 pub mod Cursor

@@ -13,15 +13,10 @@ use Rattle.model.specs.Bytes.{Bytes, Words}
 use Rattle.model.specs.Refusals.{refusal}
 use Rattle.model.specs.Marks.{Drawing, whole, owing, owes}
 use Rattle.model.specs.Open.{openPending}
-use Rattle.model.specs.Points.{drawMode, point}
-use Rattle.model.specs.Lines.{line}
-use Rattle.model.specs.Boxes.{box}
-use Rattle.model.specs.Ellipses.{ellipse, circle}
-use Rattle.model.specs.Bitmaps.{paintMode, sourceBytes, bitmap}
-use Rattle.model.specs.Memory.{window}
+use Rattle.model.specs.Shapes.{TypedShape, drawingOf}
 use Rattle.model.specs.Poke.{pokeMark}
 use Rattle.model.specs.Sends.{sendPending}
-use Rattle.model.specs.Calls.{Call, opening, reset, drawPoint, drawLine, drawBox, drawCircle, drawEllipse, checkPoint, paintBitmap, writeByte, flush, getRow, getColumn, setRow, setColumn, setPrintMode, takeDirtyArea, send, Lent, lent, Lending, to-open, record-only, with-memory, with-fonts, with-panel, takes, filled, edgeIn, refusals, outcome, print, newline, cls, setScreenMode, blinkCursor, clearCursor}
+use Rattle.model.specs.Calls.{Call, opening, reset, draw, checkPoint, writeByte, flush, getRow, getColumn, setRow, setColumn, setPrintMode, takeDirtyArea, send, Lent, lent, Lending, to-open, record-only, with-memory, with-fonts, with-panel, takes, edgeIn, refusals, outcome, print, newline, cls, setScreenMode, blinkCursor, clearCursor}
 use Rattle.model.specs.Print.{Page, newlineOn, isInverse, printOn, pageOf, screenScrolls, scrollMark}
 use Rattle.model.specs.Cursor.{blinkDrawing}
 use lib.ListN.{length, getD, set}
@@ -35,13 +30,8 @@ accepted g c l = refusal (refusals g c l) ≡ 0
 abbrev pub Typed : Call → Type 0
 Typed (opening graphics text version keys edge) = (length keys ≡ 8) × Words keys
 Typed reset = Unit {0}
-Typed (drawPoint x y mode) = (x < 256) × (y < 256) × (mode < 256)
-Typed (drawLine x1 y1 x2 y2 mode) = (x1 < 256) × (y1 < 256) × (x2 < 256) × (y2 < 256) × (mode < 256)
-Typed (drawBox x1 y1 x2 y2 fill mode) = (x1 < 256) × (y1 < 256) × (x2 < 256) × (y2 < 256) × (fill < 256) × (mode < 256)
-Typed (drawCircle x y r fill mode) = (x < 256) × (y < 256) × (r < 256) × (fill < 256) × (mode < 256)
-Typed (drawEllipse x y rx ry fill mode) = (x < 256) × (y < 256) × (rx < 256) × (ry < 256) × (fill < 256) × (mode < 256)
+Typed (draw s) = TypedShape s
 Typed (checkPoint x y) = Unit {0}
-Typed (paintBitmap a x y w n mode) = (a < 65536) × (w < 256) × (n < 256) × (mode < 256)
 Typed (print bs) = Bytes bs
 Typed newline = Unit {0}
 Typed cls = Unit {0}
@@ -112,13 +102,14 @@ run g b (i ∷ is) = run g (after g b i) is
 
 -- ---- owed, in hand and lines sent of a panel, reckoned from the list
 
--- what an accepted call does to them
+-- what an accepted call does to those of the panels
 pub data Effect : Type 0 where
   nothing : Effect
   marks : Rect → Effect
   -- with the edge flag
   opens : ℕ → Effect
-  sends : Effect
+  -- to the panel of that number
+  sends : ℕ → Effect
 
 -- a drawing adds what it owes
 abbrev pub draws : Geometry → Drawing → Effect
@@ -134,53 +125,48 @@ blinks g l =
     let h = decode g (l .rec) .head in
     cond (eqb (h .screen) 0) (draws g (blinkDrawing g (edgeIn g l) h (l .memory))) nothing
 
--- what each call does to those of panel k where it is accepted, in the state that the calls before it leave
-unfoldable pub effect : Geometry → ℕ → Call → Lent → Effect
-effect g k (opening graphics text version keys edge) l = opens edge
-effect g k reset l = marks (whole (g .stride) (height g))
-effect g k (drawPoint x y mode) l = draws g (point (g .stride) (height g) x y (drawMode mode))
-effect g k (drawLine x1 y1 x2 y2 mode) l = draws g (line (g .stride) (height g) (edgeIn g l) x1 y1 x2 y2 (drawMode mode))
-effect g k (drawBox x1 y1 x2 y2 fill mode) l = draws g (box (g .stride) (height g) (edgeIn g l) x1 y1 x2 y2 (filled fill) (drawMode mode))
-effect g k (drawCircle x y r fill mode) l = draws g (circle (g .stride) (height g) (edgeIn g l) x y r (filled fill) (drawMode mode))
-effect g k (drawEllipse x y rx ry fill mode) l = draws g (ellipse (g .stride) (height g) (edgeIn g l) x y rx ry (filled fill) (drawMode mode))
-effect g k (checkPoint x y) l = nothing
-effect g k (paintBitmap a x y w n mode) l =
-    draws g (bitmap (g .stride) (height g) (window a (sourceBytes w n) (l .memory)) x y w n (paintMode mode))
-effect g k (print bs) l =
+-- what each call does where it is accepted, in the state that the calls before it leave
+unfoldable pub effect : Geometry → Call → Lent → Effect
+effect g (opening graphics text version keys edge) l = opens edge
+effect g reset l = marks (whole (g .stride) (height g))
+effect g (draw s) l = draws g (drawingOf g (edgeIn g l) (l .memory) s)
+effect g (checkPoint x y) l = nothing
+effect g (print bs) l =
     let s = decode g (l .rec) in prints g (printOn (rows g) (columns g) (isInverse (s .head .print)) bs (pageOf g s (l .memory))) l
-effect g k newline l = prints g (newlineOn (rows g) (columns g) (pageOf g (decode g (l .rec)) (l .memory))) l
-effect g k cls l = marks (whole (g .stride) (height g))
-effect g k (writeByte a v) l = let s = decode g (l .rec) in marks (pokeMark g (s .keys) (s .head .graphics) a)
-effect g k (flush f) l = marks (whole (g .stride) (height g))
-effect g k getRow l = nothing
-effect g k getColumn l = nothing
-effect g k (setRow n) l = nothing
-effect g k (setColumn n) l = nothing
-effect g k (setScreenMode n) l = marks (whole (g .stride) (height g))
-effect g k (setPrintMode n) l = nothing
-effect g k blinkCursor l = blinks g l
-effect g k clearCursor l = cond (eqb (decode g (l .rec) .head .cursor) 0) nothing (blinks g l)
-effect g k takeDirtyArea l = nothing
-effect g k (send j) l = cond (eqb j k) sends nothing
+effect g newline l = prints g (newlineOn (rows g) (columns g) (pageOf g (decode g (l .rec)) (l .memory))) l
+effect g cls l = marks (whole (g .stride) (height g))
+effect g (writeByte a v) l = let s = decode g (l .rec) in marks (pokeMark g (s .keys) (s .head .graphics) a)
+effect g (flush f) l = marks (whole (g .stride) (height g))
+effect g getRow l = nothing
+effect g getColumn l = nothing
+effect g (setRow n) l = nothing
+effect g (setColumn n) l = nothing
+effect g (setScreenMode n) l = marks (whole (g .stride) (height g))
+effect g (setPrintMode n) l = nothing
+effect g blinkCursor l = blinks g l
+effect g clearCursor l = cond (eqb (decode g (l .rec) .head .cursor) 0) nothing (blinks g l)
+effect g takeDirtyArea l = nothing
+effect g (send j) l = sends j
 
-unfoldable pub affected : Geometry → Pending → Effect → Pending
-affected g p nothing = p
-affected g p (marks m) = owing g m p
-affected g p (opens edge) = openPending g
-affected g p sends = sendPending p
+-- a send reaches the panel that it names alone
+unfoldable pub affected : Geometry → ℕ → Pending → Effect → Pending
+affected g k p nothing = p
+affected g k p (marks m) = owing g m p
+affected g k p (opens edge) = openPending g
+affected g k p (sends j) = cond (eqb j k) (sendPending p) p
 
 -- a refused call does nothing to them
 unfoldable pub effectAt : ℕ → Effect → Effect
 effectAt zero e = e
 effectAt (suc k) e = nothing
 
-unfoldable pub itemEffect : (g : Geometry) → ℕ → Buffers → Item g → Effect
-itemEffect g k b (here c t) = let l = lentTo (takes c) b in effectAt (refusal (refusals g c l)) (effect g k c l)
-itemEffect g k b (elsewhere c l r) = nothing
+unfoldable pub itemEffect : (g : Geometry) → Buffers → Item g → Effect
+itemEffect g b (here c t) = let l = lentTo (takes c) b in effectAt (refusal (refusals g c l)) (effect g c l)
+itemEffect g b (elsewhere c l r) = nothing
 
 unfoldable pub reckoned : (g : Geometry) → ℕ → Pending → Buffers → List (Item g) → Pending
 reckoned g k p b [] = p
-reckoned g k p b (i ∷ is) = reckoned g k (affected g p (itemEffect g k b i)) (after g b i) is
+reckoned g k p b (i ∷ is) = reckoned g k (affected g k p (itemEffect g b i)) (after g b i) is
 
 -- ---- the edge flag, from the list: open alone changes it
 
@@ -188,11 +174,11 @@ unfoldable pub edgeAfter : Effect → ℕ → ℕ
 edgeAfter nothing n = n
 edgeAfter (marks m) n = n
 edgeAfter (opens edge) n = edge
-edgeAfter sends n = n
+edgeAfter (sends j) n = n
 
-unfoldable pub lastEdge : (g : Geometry) → ℕ → ℕ → Buffers → List (Item g) → ℕ
-lastEdge g k n b [] = n
-lastEdge g k n b (i ∷ is) = lastEdge g k (edgeAfter (itemEffect g k b i) n) (after g b i) is
+unfoldable pub lastEdge : (g : Geometry) → ℕ → Buffers → List (Item g) → ℕ
+lastEdge g n b [] = n
+lastEdge g n b (i ∷ is) = lastEdge g (edgeAfter (itemEffect g b i) n) (after g b i) is
 
 -- ---- L, and the pixels that differ
 

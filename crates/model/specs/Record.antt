@@ -47,8 +47,12 @@ abbrev pub panelsFrom : ℕ → ℕ → List RecordPart
 panelsFrom k zero = []
 panelsFrom k (suc n) = panel k ∷ panelsFrom (suc k) n
 
+-- what stands behind the panels
+abbrev pub lastParts : List RecordPart
+lastParts = edge ∷ []
+
 abbrev pub layout : Geometry → List RecordPart
-layout g = head ∷ panel 0 ∷ keys ∷ flags ∷ (panelsFrom 1 (g .panels - 1) ++ (edge ∷ []))
+layout g = head ∷ panel 0 ∷ keys ∷ flags ∷ (panelsFrom 1 (g .panels - 1) ++ lastParts)
 
 -- ---- sizes
 

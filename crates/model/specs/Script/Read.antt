@@ -7,7 +7,8 @@ use Prim.Native.Char.{code}
 use lib.Dec.{ltb, leb, eqb}
 use lib.ListN.{getD, take}
 use Rattle.model.specs.Characters.{bytesOf}
-use Rattle.model.specs.Calls.{Call, drawPoint, drawLine, writeByte, send}
+use Rattle.model.specs.Shapes.{point, line}
+use Rattle.model.specs.Calls.{Call, draw, writeByte, send}
 
 -- ---- lines
 
@@ -122,10 +123,10 @@ ifMatched unmatched f other = other
 ifMatched (matchedWith fs) f other = f fs
 
 abbrev pub pointForm : List ℕ → ScriptLine
-pointForm fs = callLine (drawPoint (getD fs 2 0) (getD fs 1 0) (getD fs 0 0))
+pointForm fs = callLine (draw (point (getD fs 2 0) (getD fs 1 0) (getD fs 0 0)))
 
 abbrev pub lineForm : List ℕ → ScriptLine
-lineForm fs = callLine (drawLine (getD fs 4 0) (getD fs 3 0) (getD fs 2 0) (getD fs 1 0) (getD fs 0 0))
+lineForm fs = callLine (draw (line (getD fs 4 0) (getD fs 3 0) (getD fs 2 0) (getD fs 1 0) (getD fs 0 0)))
 
 abbrev pub pokeForm : List ℕ → ScriptLine
 pokeForm fs = callLine (writeByte (getD fs 1 0) (getD fs 0 0))
