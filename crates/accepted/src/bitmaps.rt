@@ -1,16 +1,18 @@
 // Bitmaps: `paint_bitmap`, and the same by bytes.
 use bitmap::SOURCE_BYTES;
-use model::Head;
 use model::PaintMode;
-use model::glass::Glass;
 use record::glass::canvas_of;
+use record::glass::glass_of;
+use record::head::load_head;
 use record::update;
 ghost use mathlib.Core.Bool.{true};
 ghost use mathlib.Core.Path.{_≡_};
 ghost use mathlib.Core.List.{[]};
-ghost use Rattle.model.specs.Glass.{geometry};
+ghost use lib.ListN.{length};
+ghost use Rattle.model.specs.Glass.{glassOf};
 ghost use Rattle.model.specs.Bitmaps.{paintMode, sourceFits};
-ghost use Rattle.model.specs.Calls.{paintBitmap, lent, answered, done};
+ghost use Rattle.model.specs.Shapes.{bitmap};
+ghost use Rattle.model.specs.Calls.{draw, lent, answered, done};
 ghost use Rattle.record.specs.Given.{Given};
 pub use bitmap::source_fits;
 
@@ -31,8 +33,6 @@ fn paint_mode(mode: u8) -> PaintMode
 pub fn paint_bitmap(
     rec: &mut [u8],
     memory: &mut [u8],
-    glass: Glass,
-    h: Head,
     address: u16,
     x: i32,
     y: i32,
@@ -40,16 +40,17 @@ pub fn paint_bitmap(
     height: u8,
     mode: u8,
 )
-    requires { ⌜ Given glass (now rec) h (now memory) ⌝ }
+    requires { ⌜ Given (now rec) (now memory) ⌝ }
     requires { ⌜ sourceFits address width height ≡ true ⌝ }
-    ensures { λ _. ⌜ answered 0 [] (lent (now (rec .exit)) (now (memory .exit)) []) ≡ done (geometry glass) (paintBitmap address x y width height mode) (lent (now (rec .entry)) (now (memory .entry)) []) ⌝ }
+    ensures { λ _. ⌜ answered 0 [] (lent (now (rec .exit)) (now (memory .exit)) []) ≡ done (glassOf (length (now (rec .entry)))) (draw (bitmap address x y width height mode)) (lent (now (rec .entry)) (now (memory .entry)) []) ⌝ }
 {
     let start = address as usize;
     let count = bitmap::source_bytes(width, height);
     let end = start + count;
     let mut source = [0u8; SOURCE_BYTES];
     slices::put_bytes(&mut source, 0, &memory[start..end]);
-    let from = h.graphics as usize;
+    let glass = glass_of(rec.len());
+    let from = load_head(rec).graphics as usize;
     let to = from + glass.screen;
     let d = paint_mode(mode);
     let m = bitmap::paint_bitmap(
@@ -62,14 +63,12 @@ pub fn paint_bitmap(
         height,
         d,
     );
-    update::mark_head(rec, h, m);
+    update::mark(rec, m);
 }
 
 pub fn paint_bitmap_by_bytes(
     rec: &mut [u8],
     memory: &mut [u8],
-    glass: Glass,
-    h: Head,
     address: u16,
     x: i32,
     y: i32,
@@ -77,12 +76,13 @@ pub fn paint_bitmap_by_bytes(
     height: u8,
     mode: u8,
 )
-    requires { ⌜ Given glass (now rec) h (now memory) ⌝ }
+    requires { ⌜ Given (now rec) (now memory) ⌝ }
     requires { ⌜ sourceFits address width height ≡ true ⌝ }
-    ensures { λ _. ⌜ answered 0 [] (lent (now (rec .exit)) (now (memory .exit)) []) ≡ done (geometry glass) (paintBitmap address x y width height mode) (lent (now (rec .entry)) (now (memory .entry)) []) ⌝ }
+    ensures { λ _. ⌜ answered 0 [] (lent (now (rec .exit)) (now (memory .exit)) []) ≡ done (glassOf (length (now (rec .entry)))) (draw (bitmap address x y width height mode)) (lent (now (rec .entry)) (now (memory .entry)) []) ⌝ }
 {
+    let glass = glass_of(rec.len());
     let start = address as usize;
-    let from = h.graphics as usize;
+    let from = load_head(rec).graphics as usize;
     let d = paint_mode(mode);
     let m = bitmap_bytes::paint_bitmap_by_bytes(
         canvas_of(glass),
@@ -95,5 +95,5 @@ pub fn paint_bitmap_by_bytes(
         height,
         d,
     );
-    update::mark_head(rec, h, m);
+    update::mark(rec, m);
 }

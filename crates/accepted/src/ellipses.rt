@@ -1,17 +1,19 @@
 // Ellipses, and circles, which are ellipses: `draw_ellipse`.
 use crate::points::draw_mode;
-use model::Head;
-use model::glass::Glass;
 use record::glass::canvas_of;
 use record::glass::edge_of;
+use record::glass::glass_of;
+use record::head::load_head;
 use record::update;
 ghost use mathlib.Core.Bool.{true};
 ghost use mathlib.Core.Path.{_≡_};
 ghost use mathlib.Core.List.{[]};
-ghost use Rattle.model.specs.Glass.{geometry};
+ghost use lib.ListN.{length};
+ghost use Rattle.model.specs.Glass.{glassOf};
 ghost use Rattle.model.specs.Points.{drawMode};
 ghost use Rattle.model.specs.Ellipses.{radiiFit};
-ghost use Rattle.model.specs.Calls.{drawEllipse, filled, lent, answered, done};
+ghost use Rattle.model.specs.Shapes.{ellipse, filled};
+ghost use Rattle.model.specs.Calls.{draw, lent, answered, done};
 ghost use Rattle.record.specs.Given.{Given};
 
 // What RADIUS tests.
@@ -24,8 +26,6 @@ pub fn radii_fit(rx: u8, ry: u8, fill: u8, mode: u8) -> bool
 pub fn draw_ellipse(
     rec: &mut [u8],
     memory: &mut [u8],
-    glass: Glass,
-    h: Head,
     x: u8,
     y: u8,
     rx: u8,
@@ -33,11 +33,12 @@ pub fn draw_ellipse(
     fill: u8,
     mode: u8,
 )
-    requires { ⌜ Given glass (now rec) h (now memory) ⌝ }
+    requires { ⌜ Given (now rec) (now memory) ⌝ }
     requires { ⌜ radiiFit rx ry (filled fill) (drawMode mode) ≡ true ⌝ }
-    ensures { λ _. ⌜ answered 0 [] (lent (now (rec .exit)) (now (memory .exit)) []) ≡ done (geometry glass) (drawEllipse x y rx ry fill mode) (lent (now (rec .entry)) (now (memory .entry)) []) ⌝ }
+    ensures { λ _. ⌜ answered 0 [] (lent (now (rec .exit)) (now (memory .exit)) []) ≡ done (glassOf (length (now (rec .entry)))) (draw (ellipse x y rx ry fill mode)) (lent (now (rec .entry)) (now (memory .entry)) []) ⌝ }
 {
-    let from = h.graphics as usize;
+    let glass = glass_of(rec.len());
+    let from = load_head(rec).graphics as usize;
     let to = from + glass.screen;
     let d = draw_mode(mode);
     let edge = edge_of(rec, glass);
@@ -52,5 +53,5 @@ pub fn draw_ellipse(
         fill == 1,
         d,
     );
-    update::mark_head(rec, h, m);
+    update::mark(rec, m);
 }

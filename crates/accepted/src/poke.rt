@@ -1,26 +1,28 @@
 // A byte of memory set from outside: `write_byte`.
 use marks::span::owed_as_is;
-use model::Head;
 use model::Rect;
 use model::glass::Glass;
 use model::glass::RECIPROCAL_BITS;
 use model::glass::RECIPROCAL_MASK;
+use record::glass::glass_of;
+use record::head::load_head;
 use record::keys;
 use record::update;
 ghost use mathlib.Core.Path.{_≡_};
 ghost use mathlib.Core.List.{[]};
 ghost use Prim.Native.Nat.{_*_, _/_, _%_};
-ghost use Rattle.model.specs.Glass.{geometry, lineParts, Suits};
-ghost use Rattle.model.specs.Record.{decode};
+ghost use lib.ListN.{length};
+ghost use Rattle.model.specs.Glass.{geometry, glassOf, lineParts, Suits};
+ghost use Rattle.model.specs.Record.{recordBytes, decode};
 ghost use Rattle.model.specs.Poke.{ignored, inScreen, byteRect};
 ghost use Rattle.model.specs.Calls.{writeByte, lent, answered, done};
-ghost use Rattle.laws.specs.Panels.{Known};
 ghost use Rattle.record.specs.Given.{Given};
 ghost use Rattle.accepted.specs.ScreenByte.{ScreenByte};
 
 // Addresses from 0xe000 on and key addresses.
 fn is_ignored(rec: &[u8], glass: Glass, address: u16) -> bool
-    requires { ⌜ Known glass (now rec) ⌝ }
+    requires { ⌜ Suits glass ⌝ }
+    requires { ⌜ length (now rec) ≡ recordBytes (geometry glass) ⌝ }
     ensures { λ r. ⌜ r ≡ ignored (decode (geometry glass) (now (rec .entry)) .keys) address ⌝ }
 {
     (address >= 57344) | keys::is_key(rec, glass, address as usize)
@@ -80,18 +82,19 @@ fn byte_rect(glass: Glass, i: usize) -> Rect
     }
 }
 
-pub fn write_byte(rec: &mut [u8], memory: &mut [u8], glass: Glass, h: Head, address: u16, byte: u8)
-    requires { ⌜ Given glass (now rec) h (now memory) ⌝ }
-    ensures { λ _. ⌜ answered 0 [] (lent (now (rec .exit)) (now (memory .exit)) []) ≡ done (geometry glass) (writeByte address byte) (lent (now (rec .entry)) (now (memory .entry)) []) ⌝ }
+pub fn write_byte(rec: &mut [u8], memory: &mut [u8], address: u16, byte: u8)
+    requires { ⌜ Given (now rec) (now memory) ⌝ }
+    ensures { λ _. ⌜ answered 0 [] (lent (now (rec .exit)) (now (memory .exit)) []) ≡ done (glassOf (length (now (rec .entry)))) (writeByte address byte) (lent (now (rec .entry)) (now (memory .entry)) []) ⌝ }
 {
+    let glass = glass_of(rec.len());
     if is_ignored(rec, glass, address) {
         return;
     }
     memory[address as usize] = byte;
-    let graphics = h.graphics;
+    let graphics = load_head(rec).graphics;
     if !in_screen(glass, graphics, address) {
         return;
     }
     let q = byte_rect(glass, (address - graphics) as usize);
-    update::mark_head(rec, h, owed_as_is(q));
+    update::mark(rec, owed_as_is(q));
 }

@@ -1,10 +1,10 @@
 // Sends: what the record gives, then the copy of that line.
 use marks::rect;
-use model::Head;
 use model::Rect;
 use model::Sent;
 use record::glass::canvas_of;
 use record::glass::glass_of;
+use record::head::load_head;
 use record::panels::panel_at;
 use send::line;
 use send::pending;
@@ -14,7 +14,7 @@ ghost use lib.ListN.{length};
 ghost use Rattle.model.specs.Geometry.{screenBytes};
 ghost use Rattle.model.specs.Glass.{glassOf};
 ghost use Rattle.model.specs.Calls.{sentNumbers};
-ghost use Rattle.accepted.specs.GivenBy.{GivenBy};
+ghost use Rattle.record.specs.Given.{Given};
 ghost use Rattle.accepted.specs.LineSent.{LineSent, numbersOf};
 ghost use Rattle.accepted.specs.NoLine.{noLine};
 
@@ -49,8 +49,8 @@ pub fn answer(q: Rect) -> Sent
 
 // A line of panel k counts as sent and is copied to the panel: the rectangle whose top line it is, empty where there is none. It asks for the glass itself, whose
 // numbers are constants here.
-pub fn send_line(rec: &mut [u8], memory: &[u8], panel: &mut [u8], h: Head, k: usize) -> Rect
-    requires { ⌜ GivenBy (now rec) h (now memory) ⌝ }
+pub fn send_line(rec: &mut [u8], memory: &[u8], panel: &mut [u8], k: usize) -> Rect
+    requires { ⌜ Given (now rec) (now memory) ⌝ }
     requires { ⌜ (length (now panel) ≡ screenBytes (glassOf (length (now rec)))) × (k < glassOf (length (now rec)) .panels) ⌝ }
     ensures { λ q. ⌜ LineSent (glassOf (length (now (rec .entry)))) k (now (rec .entry)) (now (memory .entry)) (now (panel .entry)) q (now (rec .exit)) (now (panel .exit)) ⌝ }
 {
@@ -59,7 +59,7 @@ pub fn send_line(rec: &mut [u8], memory: &[u8], panel: &mut [u8], h: Head, k: us
     if rect::is_empty(q) {
         return q;
     }
-    let from = h.graphics as usize;
+    let from = load_head(rec).graphics as usize;
     let to = from + glass.screen;
     line::copy_line(canvas_of(glass), &memory[from..to], panel, q);
     q

@@ -3,12 +3,15 @@ use marks::mark;
 use model::Head;
 use model::glass::Glass;
 use record::glass::canvas_of;
+use record::glass::glass_of;
+use record::head;
+use record::head::load_head;
 use record::update;
 ghost use mathlib.Core.Path.{_≡_};
 ghost use mathlib.Core.List.{[]};
 ghost use Prim.Native.Nat.{_+_, _≤_};
 ghost use lib.ListN.{length};
-ghost use Rattle.model.specs.Glass.{geometry, Suits};
+ghost use Rattle.model.specs.Glass.{geometry, glassOf, Suits};
 ghost use Rattle.model.specs.Text.{clearedMemory};
 ghost use Rattle.model.specs.Calls.{cls, setScreenMode, lent, answered, done};
 ghost use Rattle.record.specs.Given.{Given};
@@ -27,19 +30,22 @@ fn clear_windows(memory: &mut [u8], glass: Glass, h: Head)
     slices::clear(&mut memory[from..to]);
 }
 
-pub fn set_screen_mode(rec: &mut [u8], memory: &mut [u8], glass: Glass, h: Head, mode: u8)
-    requires { ⌜ Given glass (now rec) h (now memory) ⌝ }
-    ensures { λ _. ⌜ answered 0 [] (lent (now (rec .exit)) (now (memory .exit)) []) ≡ done (geometry glass) (setScreenMode mode) (lent (now (rec .entry)) (now (memory .entry)) []) ⌝ }
+pub fn set_screen_mode(rec: &mut [u8], memory: &mut [u8], mode: u8)
+    requires { ⌜ Given (now rec) (now memory) ⌝ }
+    ensures { λ _. ⌜ answered 0 [] (lent (now (rec .exit)) (now (memory .exit)) []) ≡ done (glassOf (length (now (rec .entry)))) (setScreenMode mode) (lent (now (rec .entry)) (now (memory .entry)) []) ⌝ }
 {
-    clear_windows(memory, glass, h);
-    let m = mark::whole_marks(canvas_of(glass));
-    update::clear_record(rec, heads::first_place(h, mode), m);
+    let glass = glass_of(rec.len());
+    clear_windows(memory, glass, load_head(rec));
+    update::clear_flags(rec);
+    head::set_first_place(rec, mode);
+    update::mark(rec, mark::whole_marks(canvas_of(glass)));
 }
 
 // The screen mode stays.
-pub fn cls(rec: &mut [u8], memory: &mut [u8], glass: Glass, h: Head)
-    requires { ⌜ Given glass (now rec) h (now memory) ⌝ }
-    ensures { λ _. ⌜ answered 0 [] (lent (now (rec .exit)) (now (memory .exit)) []) ≡ done (geometry glass) cls (lent (now (rec .entry)) (now (memory .entry)) []) ⌝ }
+pub fn cls(rec: &mut [u8], memory: &mut [u8])
+    requires { ⌜ Given (now rec) (now memory) ⌝ }
+    ensures { λ _. ⌜ answered 0 [] (lent (now (rec .exit)) (now (memory .exit)) []) ≡ done (glassOf (length (now (rec .entry)))) cls (lent (now (rec .entry)) (now (memory .entry)) []) ⌝ }
 {
-    set_screen_mode(rec, memory, glass, h, h.screen);
+    let mode = load_head(rec).screen;
+    set_screen_mode(rec, memory, mode);
 }

@@ -7,6 +7,9 @@ use model::Marks;
 use model::glass::GLYPH_HEIGHT;
 use model::glass::Glass;
 use record::glass::canvas_of;
+use record::glass::glass_of;
+use record::head;
+use record::head::load_head;
 use record::update;
 ghost use mathlib.Core.Path.{_≡_};
 ghost use mathlib.Core.List.{[]};
@@ -14,7 +17,7 @@ ghost use Prim.Native.Nat.{_+_, _*_, _≤_};
 ghost use lib.ListN.{length};
 ghost use Rattle.model.specs.declared.Edge.the-variants.{Clamp};
 ghost use Rattle.model.specs.Geometry.{glyphHeight};
-ghost use Rattle.model.specs.Glass.{geometry, Suits};
+ghost use Rattle.model.specs.Glass.{geometry, glassOf, Suits};
 ghost use Rattle.model.specs.Pixels.{Screen};
 ghost use Rattle.model.specs.Marks.{drawn, drawnOn};
 ghost use Rattle.model.specs.Cursor.{cursorFor, blinkOf, blinkNext, cursorBox, underCursor};
@@ -71,10 +74,12 @@ fn invert_cursor(canvas: Canvas, screen: &mut [u8], row: u8, column: u8, cursor:
 }
 
 // In Graph nothing.
-pub fn blink_cursor(rec: &mut [u8], memory: &mut [u8], glass: Glass, h: Head)
-    requires { ⌜ Given glass (now rec) h (now memory) ⌝ }
-    ensures { λ _. ⌜ answered 0 [] (lent (now (rec .exit)) (now (memory .exit)) []) ≡ done (geometry glass) blinkCursor (lent (now (rec .entry)) (now (memory .entry)) []) ⌝ }
+pub fn blink_cursor(rec: &mut [u8], memory: &mut [u8])
+    requires { ⌜ Given (now rec) (now memory) ⌝ }
+    ensures { λ _. ⌜ answered 0 [] (lent (now (rec .exit)) (now (memory .exit)) []) ≡ done (glassOf (length (now (rec .entry)))) blinkCursor (lent (now (rec .entry)) (now (memory .entry)) []) ⌝ }
 {
+    let glass = glass_of(rec.len());
+    let h = load_head(rec);
     let screen = h.screen;
     if screen != 0 {
         return;
@@ -90,21 +95,23 @@ pub fn blink_cursor(rec: &mut [u8], memory: &mut [u8], glass: Glass, h: Head)
         h.column,
         cursor,
     );
-    update::mark_head(rec, heads::with_cursor(h, blink_next(h.cursor, b)), m);
+    head::set_cursor(rec, blink_next(h.cursor, b));
+    update::mark(rec, m);
 }
 
-pub fn clear_cursor(rec: &mut [u8], memory: &mut [u8], glass: Glass, h: Head)
-    requires { ⌜ Given glass (now rec) h (now memory) ⌝ }
-    ensures { λ _. ⌜ answered 0 [] (lent (now (rec .exit)) (now (memory .exit)) []) ≡ done (geometry glass) clearCursor (lent (now (rec .entry)) (now (memory .entry)) []) ⌝ }
+pub fn clear_cursor(rec: &mut [u8], memory: &mut [u8])
+    requires { ⌜ Given (now rec) (now memory) ⌝ }
+    ensures { λ _. ⌜ answered 0 [] (lent (now (rec .exit)) (now (memory .exit)) []) ≡ done (glassOf (length (now (rec .entry)))) clearCursor (lent (now (rec .entry)) (now (memory .entry)) []) ⌝ }
 {
+    let h = load_head(rec);
     let cursor = h.cursor;
     let screen = h.screen;
     if cursor == 0 {
         return;
     }
     if screen == 0 {
-        blink_cursor(rec, memory, glass, h);
+        blink_cursor(rec, memory);
         return;
     }
-    update::set_head(rec, heads::with_cursor(h, 0));
+    head::set_cursor(rec, 0);
 }

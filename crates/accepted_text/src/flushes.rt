@@ -2,17 +2,16 @@
 use flush::fit;
 use flush::screen;
 use marks::mark;
-use model::Head;
-use model::glass::Glass;
 use model::glass::TEXT_BYTES;
 use record::glass::canvas_of;
+use record::glass::glass_of;
+use record::head::load_head;
 use record::update;
 ghost use mathlib.Core.Bool.{true};
 ghost use mathlib.Core.List.{[]};
 ghost use mathlib.Core.Path.{_≡_};
-ghost use Prim.Native.Nat.{_+_, _≤_};
 ghost use lib.ListN.{length};
-ghost use Rattle.model.specs.Glass.{geometry, Suits, textBytes};
+ghost use Rattle.model.specs.Glass.{glassOf};
 ghost use Rattle.model.specs.Glyphs.{fonts};
 ghost use Rattle.model.specs.Calls as calls;
 ghost use Rattle.model.specs.Calls.{lent, answered, done};
@@ -21,9 +20,8 @@ ghost use Rattle.accepted_text.specs.Texts.{glyphsFit};
 
 // GLYPH: every byte that the flush would paint is in its font.
 pub fn glyphs_fit(
+    rec: &[u8],
     memory: &[u8],
-    glass: Glass,
-    h: Head,
     ascii8: &[u8],
     ascii16: &[u8],
     gb: &[u8],
@@ -31,10 +29,11 @@ pub fn glyphs_fit(
     list: &[u8],
     extra: &[u8],
 ) -> bool
-    requires { ⌜ Suits glass ⌝ }
-    requires { ⌜ h .text + glass .cells ≤ length (now memory) ⌝ }
-    ensures { λ r. ⌜ r ≡ glyphsFit (geometry glass) (now (memory .entry)) h (fonts (now (ascii8 .entry)) (now (ascii16 .entry)) (now (gb .entry)) (now (emoji .entry)) (now (list .entry)) (now (extra .entry))) ⌝ }
+    requires { ⌜ Given (now rec) (now memory) ⌝ }
+    ensures { λ r. ⌜ r ≡ glyphsFit (now (rec .entry)) (now (memory .entry)) (fonts (now (ascii8 .entry)) (now (ascii16 .entry)) (now (gb .entry)) (now (emoji .entry)) (now (list .entry)) (now (extra .entry))) ⌝ }
 {
+    let glass = glass_of(rec.len());
+    let h = load_head(rec);
     let from = h.text as usize;
     let to = from + glass.cells;
     let text = &memory[from..to];
@@ -57,8 +56,6 @@ pub fn glyphs_fit(
 pub fn flush<'a>(
     rec: &mut [u8],
     memory: &mut [u8],
-    glass: Glass,
-    h: Head,
     ascii8: &[u8],
     ascii16: &[u8],
     gb: &'a [u8],
@@ -66,11 +63,12 @@ pub fn flush<'a>(
     list: &[u8],
     extra: &'a [u8],
 )
-    requires { ⌜ Given glass (now rec) h (now memory) ⌝ }
-    requires { ⌜ glass .cells ≤ textBytes ⌝ }
-    requires { ⌜ glyphsFit (geometry glass) (now memory) h (fonts (now ascii8) (now ascii16) (now gb) (now emoji) (now list) (now extra)) ≡ true ⌝ }
-    ensures { λ _. ⌜ answered 0 [] (lent (now (rec .exit)) (now (memory .exit)) []) ≡ done (geometry glass) (calls.flush (fonts (now (ascii8 .entry)) (now (ascii16 .entry)) (now (gb .entry)) (now (emoji .entry)) (now (list .entry)) (now (extra .entry)))) (lent (now (rec .entry)) (now (memory .entry)) []) ⌝ }
+    requires { ⌜ Given (now rec) (now memory) ⌝ }
+    requires { ⌜ glyphsFit (now rec) (now memory) (fonts (now ascii8) (now ascii16) (now gb) (now emoji) (now list) (now extra)) ≡ true ⌝ }
+    ensures { λ _. ⌜ answered 0 [] (lent (now (rec .exit)) (now (memory .exit)) []) ≡ done (glassOf (length (now (rec .entry)))) (calls.flush (fonts (now (ascii8 .entry)) (now (ascii16 .entry)) (now (gb .entry)) (now (emoji .entry)) (now (list .entry)) (now (extra .entry)))) (lent (now (rec .entry)) (now (memory .entry)) []) ⌝ }
 {
+    let glass = glass_of(rec.len());
+    let h = load_head(rec);
     let at = h.text as usize;
     let end = at + glass.cells;
     let mut text = [0u8; TEXT_BYTES];
@@ -96,5 +94,5 @@ pub fn flush<'a>(
         list,
         extra,
     );
-    update::mark_head(rec, h, mark::whole_marks(canvas_of(glass)));
+    update::mark(rec, mark::whole_marks(canvas_of(glass)));
 }

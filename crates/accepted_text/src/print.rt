@@ -2,8 +2,10 @@
 use marks::mark;
 use model::Head;
 use model::glass::GLYPH_HEIGHT;
-use model::glass::Glass;
 use record::glass::canvas_of;
+use record::glass::glass_of;
+use record::head;
+use record::head::load_head;
 use record::update;
 use text::page;
 use text::page::Place;
@@ -11,8 +13,9 @@ use text::scroll;
 ghost use mathlib.Core.Path.{_≡_};
 ghost use mathlib.Core.List.{[]};
 ghost use Prim.Native.Nat.{_<_};
-ghost use Rattle.model.specs.Glass.{geometry};
-ghost use Rattle.model.specs.Text.{atPlace};
+ghost use lib.ListN.{length};
+ghost use Rattle.model.specs.Geometry.{rows, columns};
+ghost use Rattle.model.specs.Glass.{glassOf};
 ghost use Rattle.model.specs.Calls.{print, newline, lent, answered, done};
 ghost use Rattle.record.specs.Given.{Given};
 ghost use Rattle.accepted_text.specs.Pages.{placeOf, PageStored};
@@ -27,25 +30,17 @@ fn place_of(h: Head) -> Place
     }
 }
 
-fn at_place(h: Head, p: Place) -> Head
-    requires { ⌜ (p .row < 256) × (p .column < 256) ⌝ }
-    ensures { λ r. ⌜ r ≡ atPlace (p .row) (p .column) h ⌝ }
-{
-    let mut n = h;
-    n.row = p.row as u8;
-    n.column = p.column as u8;
-    n
-}
-
 // The text and its flags have been written up to p: the screen and the record follow. Where the screen does not scroll, nothing is marked.
-fn store_page(rec: &mut [u8], memory: &mut [u8], glass: Glass, h: Head, p: Place)
-    requires { ⌜ Given glass (now rec) h (now memory) ⌝ }
-    requires { ⌜ (p .row < glass .rows) × (p .column < glass .columns) ⌝ }
-    ensures { λ _. ⌜ PageStored (geometry glass) (now (rec .entry)) (now (memory .entry)) h p (now (rec .exit)) (now (memory .exit)) ⌝ }
+fn store_page(rec: &mut [u8], memory: &mut [u8], p: Place)
+    requires { ⌜ Given (now rec) (now memory) ⌝ }
+    requires { ⌜ (p .row < rows (glassOf (length (now rec)))) × (p .column < columns (glassOf (length (now rec)))) ⌝ }
+    ensures { λ _. ⌜ PageStored (glassOf (length (now (rec .entry)))) (now (rec .entry)) (now (memory .entry)) p (now (rec .exit)) (now (memory .exit)) ⌝ }
 {
+    let glass = glass_of(rec.len());
+    let h = load_head(rec);
+    head::set_place(rec, p.row as u8, p.column as u8);
     let n = scroll::screen_scrolls(h.screen, p.scrolls);
     if n == 0 {
-        update::set_head(rec, at_place(h, p));
         return;
     }
     let from = h.graphics as usize;
@@ -53,13 +48,15 @@ fn store_page(rec: &mut [u8], memory: &mut [u8], glass: Glass, h: Head, p: Place
     let row_bytes = (GLYPH_HEIGHT as usize) * glass.stride;
     scroll::scroll_screen(glass.rows, row_bytes, &mut memory[from..to], n);
     let m = mark::scroll_marks(canvas_of(glass), n);
-    update::mark_head(rec, at_place(h, p), m);
+    update::mark(rec, m);
 }
 
-pub fn newline(rec: &mut [u8], memory: &mut [u8], glass: Glass, h: Head)
-    requires { ⌜ Given glass (now rec) h (now memory) ⌝ }
-    ensures { λ _. ⌜ answered 0 [] (lent (now (rec .exit)) (now (memory .exit)) []) ≡ done (geometry glass) newline (lent (now (rec .entry)) (now (memory .entry)) []) ⌝ }
+pub fn newline(rec: &mut [u8], memory: &mut [u8])
+    requires { ⌜ Given (now rec) (now memory) ⌝ }
+    ensures { λ _. ⌜ answered 0 [] (lent (now (rec .exit)) (now (memory .exit)) []) ≡ done (glassOf (length (now (rec .entry)))) newline (lent (now (rec .entry)) (now (memory .entry)) []) ⌝ }
 {
+    let glass = glass_of(rec.len());
+    let h = load_head(rec);
     let text = h.text as usize;
     let end = text + glass.cells;
     let from = glass.flags;
@@ -72,13 +69,15 @@ pub fn newline(rec: &mut [u8], memory: &mut [u8], glass: Glass, h: Head)
         &mut rec[from..to],
         start,
     );
-    store_page(rec, memory, glass, h, p);
+    store_page(rec, memory, p);
 }
 
-pub fn print(rec: &mut [u8], memory: &mut [u8], glass: Glass, h: Head, bytes: &[u8])
-    requires { ⌜ Given glass (now rec) h (now memory) ⌝ }
-    ensures { λ _. ⌜ answered 0 [] (lent (now (rec .exit)) (now (memory .exit)) []) ≡ done (geometry glass) (print (now (bytes .entry))) (lent (now (rec .entry)) (now (memory .entry)) []) ⌝ }
+pub fn print(rec: &mut [u8], memory: &mut [u8], bytes: &[u8])
+    requires { ⌜ Given (now rec) (now memory) ⌝ }
+    ensures { λ _. ⌜ answered 0 [] (lent (now (rec .exit)) (now (memory .exit)) []) ≡ done (glassOf (length (now (rec .entry)))) (print (now (bytes .entry))) (lent (now (rec .entry)) (now (memory .entry)) []) ⌝ }
 {
+    let glass = glass_of(rec.len());
+    let h = load_head(rec);
     let text = h.text as usize;
     let end = text + glass.cells;
     let from = glass.flags;
@@ -94,5 +93,5 @@ pub fn print(rec: &mut [u8], memory: &mut [u8], glass: Glass, h: Head, bytes: &[
         bytes,
         inverse,
     );
-    store_page(rec, memory, glass, h, p);
+    store_page(rec, memory, p);
 }

@@ -3,11 +3,12 @@ use accepted::bitmaps;
 use model::glass::MEMORY_BYTES;
 use model::refusal;
 use record::entry;
-use record::glass::glass_of;
 ghost use mathlib.Core.Path.{_≡_};
 ghost use mathlib.Core.List.{[]};
-ghost use Rattle.model.specs.Geometry.{base};
-ghost use Rattle.model.specs.Calls.{paintBitmap, lent, answered, outcome};
+ghost use lib.ListN.{length};
+ghost use Rattle.model.specs.Glass.{glassOf};
+ghost use Rattle.model.specs.Shapes.{bitmap};
+ghost use Rattle.model.specs.Calls.{draw, lent, answered, outcome};
 
 #[no_mangle]
 pub extern "C" fn caption_paint_bitmap(
@@ -20,10 +21,9 @@ pub extern "C" fn caption_paint_bitmap(
     height: u8,
     mode: u8,
 ) -> u32
-    ensures { λ r. ⌜ answered r [] (lent (now (rec .exit)) (now (memory .exit)) []) ≡ outcome base (paintBitmap address x y width height mode) (lent (now (rec .entry)) (now (memory .entry)) []) ⌝ }
+    ensures { λ r. ⌜ answered r [] (lent (now (rec .exit)) (now (memory .exit)) []) ≡ outcome (glassOf (length (now (rec .entry)))) (draw (bitmap address x y width height mode)) (lent (now (rec .entry)) (now (memory .entry)) []) ⌝ }
 {
-    let e = entry::enter(rec, memory.len() == MEMORY_BYTES);
-    let code = e.code;
+    let code = entry::enter(rec, memory.len() == MEMORY_BYTES);
     if code != 0 {
         return code;
     }
@@ -36,8 +36,6 @@ pub extern "C" fn caption_paint_bitmap(
     bitmaps::paint_bitmap(
         rec,
         memory,
-        glass_of(rec.len()),
-        e.head,
         address,
         x,
         y,
@@ -60,10 +58,9 @@ pub extern "C" fn caption_paint_bitmap_by_bytes(
     height: u8,
     mode: u8,
 ) -> u32
-    ensures { λ r. ⌜ answered r [] (lent (now (rec .exit)) (now (memory .exit)) []) ≡ outcome base (paintBitmap address x y width height mode) (lent (now (rec .entry)) (now (memory .entry)) []) ⌝ }
+    ensures { λ r. ⌜ answered r [] (lent (now (rec .exit)) (now (memory .exit)) []) ≡ outcome (glassOf (length (now (rec .entry)))) (draw (bitmap address x y width height mode)) (lent (now (rec .entry)) (now (memory .entry)) []) ⌝ }
 {
-    let e = entry::enter(rec, memory.len() == MEMORY_BYTES);
-    let code = e.code;
+    let code = entry::enter(rec, memory.len() == MEMORY_BYTES);
     if code != 0 {
         return code;
     }
@@ -76,8 +73,6 @@ pub extern "C" fn caption_paint_bitmap_by_bytes(
     bitmaps::paint_bitmap_by_bytes(
         rec,
         memory,
-        glass_of(rec.len()),
-        e.head,
         address,
         x,
         y,

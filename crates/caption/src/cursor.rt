@@ -2,34 +2,32 @@
 use accepted_text::cursor;
 use model::glass::MEMORY_BYTES;
 use record::entry;
-use record::glass::glass_of;
 ghost use mathlib.Core.Path.{_≡_};
 ghost use mathlib.Core.List.{[]};
-ghost use Rattle.model.specs.Geometry.{base};
+ghost use lib.ListN.{length};
+ghost use Rattle.model.specs.Glass.{glassOf};
 ghost use Rattle.model.specs.Calls.{blinkCursor, clearCursor, lent, answered, outcome};
 
 #[no_mangle]
 pub extern "C" fn caption_blink_cursor(rec: &mut [u8], memory: &mut [u8]) -> u32
-    ensures { λ r. ⌜ answered r [] (lent (now (rec .exit)) (now (memory .exit)) []) ≡ outcome base blinkCursor (lent (now (rec .entry)) (now (memory .entry)) []) ⌝ }
+    ensures { λ r. ⌜ answered r [] (lent (now (rec .exit)) (now (memory .exit)) []) ≡ outcome (glassOf (length (now (rec .entry)))) blinkCursor (lent (now (rec .entry)) (now (memory .entry)) []) ⌝ }
 {
-    let e = entry::enter(rec, memory.len() == MEMORY_BYTES);
-    let code = e.code;
+    let code = entry::enter(rec, memory.len() == MEMORY_BYTES);
     if code != 0 {
         return code;
     }
-    cursor::blink_cursor(rec, memory, glass_of(rec.len()), e.head);
+    cursor::blink_cursor(rec, memory);
     0
 }
 
 #[no_mangle]
 pub extern "C" fn caption_clear_cursor(rec: &mut [u8], memory: &mut [u8]) -> u32
-    ensures { λ r. ⌜ answered r [] (lent (now (rec .exit)) (now (memory .exit)) []) ≡ outcome base clearCursor (lent (now (rec .entry)) (now (memory .entry)) []) ⌝ }
+    ensures { λ r. ⌜ answered r [] (lent (now (rec .exit)) (now (memory .exit)) []) ≡ outcome (glassOf (length (now (rec .entry)))) clearCursor (lent (now (rec .entry)) (now (memory .entry)) []) ⌝ }
 {
-    let e = entry::enter(rec, memory.len() == MEMORY_BYTES);
-    let code = e.code;
+    let code = entry::enter(rec, memory.len() == MEMORY_BYTES);
     if code != 0 {
         return code;
     }
-    cursor::clear_cursor(rec, memory, glass_of(rec.len()), e.head);
+    cursor::clear_cursor(rec, memory);
     0
 }

@@ -3,10 +3,11 @@ use marks::rect;
 use model::Area;
 use model::Rect;
 use record::entry;
-use record::update;
+use record::head;
 ghost use mathlib.Core.Path.{_≡_};
 ghost use mathlib.Core.List.{[]};
-ghost use Rattle.model.specs.Geometry.{base};
+ghost use lib.ListN.{length};
+ghost use Rattle.model.specs.Glass.{glassOf};
 ghost use Rattle.model.specs.Calls.{takeDirtyArea, lent, answered, areaNumbers, rectNumbers, outcome};
 
 fn area(code: u32, q: Rect) -> Area
@@ -23,15 +24,13 @@ fn area(code: u32, q: Rect) -> Area
 
 #[no_mangle]
 pub extern "C" fn caption_take_dirty_area(rec: &mut [u8]) -> Area
-    ensures { λ r. ⌜ answered (r .code) (areaNumbers r) (lent (now (rec .exit)) [] []) ≡ outcome base takeDirtyArea (lent (now (rec .entry)) [] []) ⌝ }
+    ensures { λ r. ⌜ answered (r .code) (areaNumbers r) (lent (now (rec .exit)) [] []) ≡ outcome (glassOf (length (now (rec .entry)))) takeDirtyArea (lent (now (rec .entry)) [] []) ⌝ }
 {
-    let e = entry::enter(rec, true);
-    let code = e.code;
+    let code = entry::enter(rec, true);
     if code != 0 {
         return area(code, rect::empty());
     }
-    let h = e.head;
-    let dirty = h.dirty;
-    update::set_head(rec, heads::with_no_dirty(h));
+    let dirty = head::load_head(rec).dirty;
+    head::set_dirty(rec, rect::empty());
     area(0, dirty)
 }

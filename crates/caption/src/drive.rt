@@ -8,7 +8,8 @@ use model::glass::REGISTER_BYTES;
 use record::entry;
 use record::glass::glass_of;
 ghost use mathlib.Core.Path.{_≡_};
-ghost use Rattle.model.specs.Geometry.{base};
+ghost use lib.ListN.{length};
+ghost use Rattle.model.specs.Glass.{glassOf};
 ghost use Rattle.model.specs.Calls.{sentNumbers};
 ghost use Rattle.model.specs.Controller.{device, answer};
 ghost use Rattle.model.specs.Driver.{driven, driveOutcome};
@@ -23,15 +24,14 @@ pub extern "C" fn caption_drive_line(
     image: &mut [u8],
     number: u8,
 ) -> Sent
-    ensures { λ s. ⌜ answer (s .code) (sentNumbers s) (driven (now (rec .exit)) (now (memory .entry)) (device (now (registers .exit)) (now (panel .exit))) (now (image .exit))) ≡ driveOutcome base number (driven (now (rec .entry)) (now (memory .entry)) (device (now (registers .entry)) (now (panel .entry))) (now (image .entry))) ⌝ }
+    ensures { λ s. ⌜ answer (s .code) (sentNumbers s) (driven (now (rec .exit)) (now (memory .entry)) (device (now (registers .exit)) (now (panel .exit))) (now (image .exit))) ≡ driveOutcome (glassOf (length (now (rec .entry)))) number (driven (now (rec .entry)) (now (memory .entry)) (device (now (registers .entry)) (now (panel .entry))) (now (image .entry))) ⌝ }
 {
     let glass = glass_of(rec.len());
     let device = (registers.len() == REGISTER_BYTES) & (panel.len() == glass.screen);
-    let e = entry::enter(
+    let code = entry::enter(
         rec,
         (memory.len() == MEMORY_BYTES) & (device & (image.len() == glass.screen)),
     );
-    let code = e.code;
     if code != 0 {
         return no_line(code);
     }
@@ -41,5 +41,5 @@ pub extern "C" fn caption_drive_line(
     if refused != 0 {
         return no_line(refused);
     }
-    drive::drive(rec, memory, registers, panel, image, e.head, r, k)
+    drive::drive(rec, memory, registers, panel, image, r, k)
 }

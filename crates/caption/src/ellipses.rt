@@ -4,11 +4,12 @@ use accepted::lines::fill_fits;
 use model::glass::MEMORY_BYTES;
 use model::refusal;
 use record::entry;
-use record::glass::glass_of;
 ghost use mathlib.Core.Path.{_≡_};
 ghost use mathlib.Core.List.{[]};
-ghost use Rattle.model.specs.Geometry.{base};
-ghost use Rattle.model.specs.Calls.{drawCircle, drawEllipse, lent, answered, outcome};
+ghost use lib.ListN.{length};
+ghost use Rattle.model.specs.Glass.{glassOf};
+ghost use Rattle.model.specs.Shapes.{circle, ellipse};
+ghost use Rattle.model.specs.Calls.{draw, lent, answered, outcome};
 
 // No ellipse that RADIUS lets pass is ENDLESS: there is no code for that test.
 #[no_mangle]
@@ -22,10 +23,9 @@ pub extern "C" fn caption_draw_ellipse(
     fill: u8,
     mode: u8,
 ) -> u32
-    ensures { λ r. ⌜ answered r [] (lent (now (rec .exit)) (now (memory .exit)) []) ≡ outcome base (drawEllipse x y rx ry fill mode) (lent (now (rec .entry)) (now (memory .entry)) []) ⌝ }
+    ensures { λ r. ⌜ answered r [] (lent (now (rec .exit)) (now (memory .exit)) []) ≡ outcome (glassOf (length (now (rec .entry)))) (draw (ellipse x y rx ry fill mode)) (lent (now (rec .entry)) (now (memory .entry)) []) ⌝ }
 {
-    let e = entry::enter(rec, memory.len() == MEMORY_BYTES);
-    let code = e.code;
+    let code = entry::enter(rec, memory.len() == MEMORY_BYTES);
     if code != 0 {
         return code;
     }
@@ -38,8 +38,6 @@ pub extern "C" fn caption_draw_ellipse(
     ellipses::draw_ellipse(
         rec,
         memory,
-        glass_of(rec.len()),
-        e.head,
         x,
         y,
         rx,
@@ -61,7 +59,7 @@ pub extern "C" fn caption_draw_circle(
     fill: u8,
     mode: u8,
 ) -> u32
-    ensures { λ c. ⌜ answered c [] (lent (now (rec .exit)) (now (memory .exit)) []) ≡ outcome base (drawCircle x y r fill mode) (lent (now (rec .entry)) (now (memory .entry)) []) ⌝ }
+    ensures { λ c. ⌜ answered c [] (lent (now (rec .exit)) (now (memory .exit)) []) ≡ outcome (glassOf (length (now (rec .entry)))) (draw (circle x y r fill mode)) (lent (now (rec .entry)) (now (memory .entry)) []) ⌝ }
 {
     caption_draw_ellipse(rec, memory, x, y, r, r, fill, mode)
 }

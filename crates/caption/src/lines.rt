@@ -3,11 +3,12 @@ use accepted::lines;
 use model::glass::MEMORY_BYTES;
 use model::refusal;
 use record::entry;
-use record::glass::glass_of;
 ghost use mathlib.Core.Path.{_≡_};
 ghost use mathlib.Core.List.{[]};
-ghost use Rattle.model.specs.Geometry.{base};
-ghost use Rattle.model.specs.Calls.{drawLine, drawBox, lent, answered, outcome};
+ghost use lib.ListN.{length};
+ghost use Rattle.model.specs.Glass.{glassOf};
+ghost use Rattle.model.specs.Shapes.{line, box};
+ghost use Rattle.model.specs.Calls.{draw, lent, answered, outcome};
 
 #[no_mangle]
 pub extern "C" fn caption_draw_line(
@@ -19,10 +20,9 @@ pub extern "C" fn caption_draw_line(
     y2: u8,
     mode: u8,
 ) -> u32
-    ensures { λ r. ⌜ answered r [] (lent (now (rec .exit)) (now (memory .exit)) []) ≡ outcome base (drawLine x1 y1 x2 y2 mode) (lent (now (rec .entry)) (now (memory .entry)) []) ⌝ }
+    ensures { λ r. ⌜ answered r [] (lent (now (rec .exit)) (now (memory .exit)) []) ≡ outcome (glassOf (length (now (rec .entry)))) (draw (line x1 y1 x2 y2 mode)) (lent (now (rec .entry)) (now (memory .entry)) []) ⌝ }
 {
-    let e = entry::enter(rec, memory.len() == MEMORY_BYTES);
-    let code = e.code;
+    let code = entry::enter(rec, memory.len() == MEMORY_BYTES);
     if code != 0 {
         return code;
     }
@@ -32,8 +32,6 @@ pub extern "C" fn caption_draw_line(
     lines::draw_line(
         rec,
         memory,
-        glass_of(rec.len()),
-        e.head,
         x1,
         y1,
         x2,
@@ -54,10 +52,9 @@ pub extern "C" fn caption_draw_box(
     fill: u8,
     mode: u8,
 ) -> u32
-    ensures { λ r. ⌜ answered r [] (lent (now (rec .exit)) (now (memory .exit)) []) ≡ outcome base (drawBox x1 y1 x2 y2 fill mode) (lent (now (rec .entry)) (now (memory .entry)) []) ⌝ }
+    ensures { λ r. ⌜ answered r [] (lent (now (rec .exit)) (now (memory .exit)) []) ≡ outcome (glassOf (length (now (rec .entry)))) (draw (box x1 y1 x2 y2 fill mode)) (lent (now (rec .entry)) (now (memory .entry)) []) ⌝ }
 {
-    let e = entry::enter(rec, memory.len() == MEMORY_BYTES);
-    let code = e.code;
+    let code = entry::enter(rec, memory.len() == MEMORY_BYTES);
     if code != 0 {
         return code;
     }
@@ -67,8 +64,6 @@ pub extern "C" fn caption_draw_box(
     lines::draw_box(
         rec,
         memory,
-        glass_of(rec.len()),
-        e.head,
         x1,
         y1,
         x2,

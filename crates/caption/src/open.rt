@@ -7,7 +7,8 @@ use record::glass::glass_of;
 use record::state;
 ghost use mathlib.Core.Path.{_≡_};
 ghost use mathlib.Core.List.{[], _∷_};
-ghost use Rattle.model.specs.Geometry.{base};
+ghost use lib.ListN.{length};
+ghost use Rattle.model.specs.Glass.{glassOf};
 ghost use Rattle.model.specs.Calls.{opening, reset, lent, answered, outcome};
 
 #[no_mangle]
@@ -27,14 +28,14 @@ pub extern "C" fn caption_open(
     keys7: u32,
     edge: u8,
 ) -> u32
-    ensures { λ r. ⌜ answered r [] (lent (now (rec .exit)) (now (memory .exit)) []) ≡ outcome base (opening graphics text version (keys0 ∷ keys1 ∷ keys2 ∷ keys3 ∷ keys4 ∷ keys5 ∷ keys6 ∷ keys7 ∷ []) edge) (lent (now (rec .entry)) (now (memory .entry)) []) ⌝ }
+    ensures { λ r. ⌜ answered r [] (lent (now (rec .exit)) (now (memory .exit)) []) ≡ outcome (glassOf (length (now (rec .entry)))) (opening graphics text version (keys0 ∷ keys1 ∷ keys2 ∷ keys3 ∷ keys4 ∷ keys5 ∷ keys6 ∷ keys7 ∷ []) edge) (lent (now (rec .entry)) (now (memory .entry)) []) ⌝ }
 {
     let glass = glass_of(rec.len());
     if (rec.len() == glass.bytes) & (memory.len() == MEMORY_BYTES) {
         if state::windows_fit(glass, graphics, text) {
             if (version <= 1) & state::edge_fits(edge) {
                 let keys = [keys0, keys1, keys2, keys3, keys4, keys5, keys6, keys7];
-                open::open(rec, memory, glass, graphics, text, version, keys, edge);
+                open::open(rec, memory, graphics, text, version, keys, edge);
                 return 0;
             }
             return refusal::VALUE;
@@ -46,13 +47,12 @@ pub extern "C" fn caption_open(
 
 #[no_mangle]
 pub extern "C" fn caption_reset(rec: &mut [u8], memory: &mut [u8]) -> u32
-    ensures { λ r. ⌜ answered r [] (lent (now (rec .exit)) (now (memory .exit)) []) ≡ outcome base reset (lent (now (rec .entry)) (now (memory .entry)) []) ⌝ }
+    ensures { λ r. ⌜ answered r [] (lent (now (rec .exit)) (now (memory .exit)) []) ≡ outcome (glassOf (length (now (rec .entry)))) reset (lent (now (rec .entry)) (now (memory .entry)) []) ⌝ }
 {
-    let e = entry::enter(rec, memory.len() == MEMORY_BYTES);
-    let code = e.code;
+    let code = entry::enter(rec, memory.len() == MEMORY_BYTES);
     if code != 0 {
         return code;
     }
-    open::reset(rec, memory, glass_of(rec.len()), e.head);
+    open::reset(rec, memory);
     0
 }

@@ -2,10 +2,10 @@
 use accepted::poke;
 use model::glass::MEMORY_BYTES;
 use record::entry;
-use record::glass::glass_of;
 ghost use mathlib.Core.Path.{_≡_};
 ghost use mathlib.Core.List.{[]};
-ghost use Rattle.model.specs.Geometry.{base};
+ghost use lib.ListN.{length};
+ghost use Rattle.model.specs.Glass.{glassOf};
 ghost use Rattle.model.specs.Calls.{writeByte, lent, answered, outcome};
 
 #[no_mangle]
@@ -15,13 +15,12 @@ pub extern "C" fn caption_write_byte(
     address: u16,
     byte: u8,
 ) -> u32
-    ensures { λ r. ⌜ answered r [] (lent (now (rec .exit)) (now (memory .exit)) []) ≡ outcome base (writeByte address byte) (lent (now (rec .entry)) (now (memory .entry)) []) ⌝ }
+    ensures { λ r. ⌜ answered r [] (lent (now (rec .exit)) (now (memory .exit)) []) ≡ outcome (glassOf (length (now (rec .entry)))) (writeByte address byte) (lent (now (rec .entry)) (now (memory .entry)) []) ⌝ }
 {
-    let e = entry::enter(rec, memory.len() == MEMORY_BYTES);
-    let code = e.code;
+    let code = entry::enter(rec, memory.len() == MEMORY_BYTES);
     if code != 0 {
         return code;
     }
-    poke::write_byte(rec, memory, glass_of(rec.len()), e.head, address, byte);
+    poke::write_byte(rec, memory, address, byte);
     0
 }

@@ -14,17 +14,17 @@ use Rattle.model.specs.Geometry.{Geometry, height}
 use Rattle.model.specs.Controller.{registerBytes, registersOf, bytesOfRegisters, busy, interrupt, enabled, statusOf, lineTests, lineFits, registerTests, registersFit, takesWrite, registersAfter, registersRead}
 use Rattle.laws.specs.Tests.{if-cases, by-test, by-eq, either, clash, tests, all-true, true-all, and-true, or-cases, or-left, or-right}
 
--- the fields of a line that command 2 takes
-pub record LineIn (g : Geometry) (r : Registers) : Type 0 where
-  pub on : r .line < height g
-  pub within : r .first + r .count ≤ g .stride
-  pub some : 1 ≤ r .count
+-- a line of the panel, and bytes of it: what command 2 takes
+pub record LineIn (g : Geometry) (line first count : ℕ) : Type 0 where
+  pub on : line < height g
+  pub within : first + count ≤ g .stride
+  pub some : 1 ≤ count
 
-pub line-in : (g : Geometry) (r : Registers) → lineFits g r ≡ true → LineIn g r
+pub line-in : (g : Geometry) (r : Registers) → lineFits g r ≡ true → LineIn g (r .line) (r .first) (r .count)
 unfolding lineFits
 line-in g r e = let t = all-true (lineTests g r) e in search (arith, tests)
 
-pub line-fits : (g : Geometry) (r : Registers) → LineIn g r → lineFits g r ≡ true
+pub line-fits : (g : Geometry) (r : Registers) → LineIn g (r .line) (r .first) (r .count) → lineFits g r ≡ true
 unfolding lineFits
 line-fits g r l = true-all (lineTests g r) (lt-ltb _ _ (l .on), (le-leb _ _ (l .within), (le-leb _ _ (l .some), tt)))
 
@@ -34,7 +34,7 @@ pub record Passes (g : Geometry) (r : Registers) : Type 0 where
   pub status : r .status ≤ 3
   pub enable : r .enable ≤ 1
   pub reset : r .reset ≡ 0
-  pub line : busy r ≡ true → LineIn g r
+  pub line : busy r ≡ true → LineIn g (r .line) (r .first) (r .count)
 
 pub passes : (g : Geometry) (r : Registers) → registersFit g r ≡ true → Passes g r
 unfolding registersFit
@@ -100,7 +100,7 @@ command-passes g r v p t =
       enable = p .enable;
       reset = p .reset;
       line = λ b. either (or-cases (leb v 1) (eqb v 2 && lineFits g r) (k .1)) (λ s. absurd (omega (arith, tests)))
-          (λ s. let l = line-in g r (and-true (eqb v 2) (lineFits g r) s .1) in record { on = l .on; within = l .within; some = l .some });
+          (λ s. line-in g r (and-true (eqb v 2) (lineFits g r) s .1));
     }))
     (λ n. rw (ne-eqb v 2 n) (record {
       command = either (or-cases (leb v 1) (eqb v 2 && lineFits g r) (k .1)) (λ s. omega (arith, tests)) (λ s. absurd (n (eqb-true v 2 (and-true (eqb v 2) (lineFits g r) s .0))));
@@ -140,7 +140,7 @@ write-passes g r First v p t = let i = not-true (busy r) t in record { command =
 write-passes g r Count v p t = let i = not-true (busy r) t in record { command = p .command; status = p .status; enable = p .enable; reset = p .reset; line = λ b. clash (busy r) b i }
 write-passes g r Data v p t = data-passes g r v p t
 write-passes g r Status v p t = p
-write-passes g r Enable v p t = record { command = p .command; status = p .status; enable = leb-true v 1 t; reset = p .reset; line = λ b. let l = p .line b in record { on = l .on; within = l .within; some = l .some } }
+write-passes g r Enable v p t = record { command = p .command; status = p .status; enable = leb-true v 1 t; reset = p .reset; line = p .line }
 write-passes g r Reset v p t = record { command = omega arith; status = omega arith; enable = omega arith; reset = refl; line = λ b. clash false b refl }
 write-passes g r Beyond v p t = p
 
@@ -154,7 +154,7 @@ read-passes g r n p =
       status = status-small (busy r) false;
       enable = p .enable;
       reset = p .reset;
-      line = λ b. let l = p .line (sym (status-busy (busy r) false) ∙ b) in record { on = l .on; within = l .within; some = l .some };
+      line = λ b. p .line (sym (status-busy (busy r) false) ∙ b);
     })
     (λ e. p)
 

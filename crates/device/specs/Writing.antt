@@ -41,7 +41,7 @@ module _ (g : Geometry) (r : Registers) (v : ℕ) (p : List ℕ) where
   nothing n m = record { registers = rw (ne-eqb v 2 m) refl; panel = rw (ne-eqb v 1 n) refl }
 
   -- a data byte has its place on the panel
-  pub in-panel : Ready g r Data v p → LineIn g r × (dataPlace g r < length p)
+  pub in-panel : Ready g r Data v p → LineIn g (r .line) (r .first) (r .count) × (dataPlace g r < length p)
   unfolding takesWrite
   in-panel d =
       let l = passes g r (d .passes) .line (d .taken) in

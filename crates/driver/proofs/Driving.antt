@@ -1,10 +1,10 @@
 -- The accepted driver call: the send's answer and record, and the image as the send leaves it; then nothing, where the send is idle, or the writes of its line.
 use mathlib.Core.Path.{_≡_, refl, sym, ap, _∙_}
 use mathlib.Core.Bool.{Bool, true, false, not}
-use mathlib.Core.List.{List, map}
-use Prim.Native.Nat.{ℕ, _≤_, _<_, _+_, _-_, _*_}
+use mathlib.Core.List.{List}
+use Prim.Native.Nat.{ℕ, _≤_, _<_}
 use native.Mathlib.Omega.{arith}
-use lib.ListN.{length, take, drop}
+use lib.ListN.{length}
 use borrow.Author.Tests.{not-true, not-false, lt-ltb, le-ltb}
 use Rattle.model.specs.declared.Rect.{Rect}
 use Rattle.model.specs.declared.Head.{Head}
@@ -16,15 +16,15 @@ use Rattle.model.specs.Record.{Pending, panelOf, decode}
 use Rattle.model.specs.Refusals.{STATE, PANEL, REGISTER, refusal}
 use Rattle.model.specs.Sends.{takeOwed}
 use Rattle.model.specs.Calls.{send, answered, sentNumbers, Outcome}
-use Rattle.model.specs.Controller.{registerBytes, Device, device, registersOf, bytesOfRegisters, registersFit, busy, answer, runDevice, write}
-use Rattle.model.specs.Driver.{driven, driverTests, lineWrites, driverWrites, driveDone, firstByte, byteCount}
+use Rattle.model.specs.Controller.{registerBytes, Device, device, registersOf, bytesOfRegisters, registersFit, busy, answer, runDevice}
+use Rattle.model.specs.Driver.{driven, driverTests, lineWrites, driverWrites, driveDone}
 use Rattle.laws.specs.States.{well-formed}
 use Rattle.laws.specs.Bands.{to-send}
 use Rattle.device.specs.Registers.{bytes-back}
 use Rattle.accepted.specs.GivenBy.{GivenBy}
 use Rattle.accepted.specs.LineSent.{LineSent, numbersOf}
 use Rattle.accepted.proofs.Sending.{send-done}
-use Rattle.driver.specs.Line.{OnGlass, LineWritten, startWrites, line-run}
+use Rattle.driver.specs.Line.{OnGlass, LineWritten}
 
 module _ {r m i : List ℕ} {k : ℕ} {q : Rect} {r′ i′ : List ℕ} (s : LineSent base k r m i q r′ i′) where
   abbrev pending : Pending
@@ -34,7 +34,7 @@ module _ {r m i : List ℕ} {k : ℕ} {q : Rect} {r′ i′ : List ℕ} (s : Lin
   empty-as e f = ap isEmpty (sym (s .line)) ∙ sym e ∙ f
 
   -- the line lies on the glass
-  pub on-glass : {h : Head} {t : Bool} → GivenBy r h m → k < 4 → t ≡ isEmpty q → t ≡ false → OnGlass base (q .top) (q .left) (q .right)
+  pub on-glass : {h : Head} {t : Bool} → GivenBy r h m → k < base .panels → t ≡ isEmpty q → t ≡ false → OnGlass base (q .top) (q .left) (q .right)
   on-glass w there e f =
       let p = to-send base pending (well-formed base r (w .passing) .panels k there) (empty-as e f) in
       rw (s .line) (record { on = omega arith; wide = p .wide; within = p .right-in })
@@ -73,29 +73,15 @@ module _ (k : ℕ) (r : Registers) {t : Bool} (f : t ≡ registersFit base r) wh
     fit : registersFit base r ≡ true
     fit = sym f ∙ not-false t n
 
-    pub no-panel : 4 ≤ k → PANEL ≡ refusal (driverTests base k r)
+    pub no-panel : base .panels ≤ k → PANEL ≡ refusal (driverTests base k r)
     unfolding refusal
-    no-panel h = rw (fit, le-ltb k 4 h) refl
+    no-panel h = rw (fit, le-ltb k (base .panels) h) refl
 
-    module _ (h : k < 4) {b : Bool} (o : b ≡ busy r) where
+    module _ (h : k < base .panels) {b : Bool} (o : b ≡ busy r) where
       pub still-busy : b ≡ true → REGISTER ≡ refusal (driverTests base k r)
       unfolding refusal
-      still-busy e = rw (fit, lt-ltb k 4 h, sym o ∙ e) refl
+      still-busy e = rw (fit, lt-ltb k (base .panels) h, sym o ∙ e) refl
 
       pub may-drive : b ≡ false → 0 ≡ refusal (driverTests base k r)
       unfolding refusal
-      may-drive e = rw (fit, lt-ltb k 4 h, sym o ∙ e) refl
-
--- ---- the line's bytes: the first, and how many
-
-pub line-made : (y left right first count : ℕ) (r a s : Registers) (p pa q image : List ℕ)
-    → device (bytesOfRegisters a) pa ≡ runDevice base (startWrites y first count) (device (bytesOfRegisters r) p)
-    → let from = base .stride * y + first in
-    let to = from + count in
-    device (bytesOfRegisters s) q ≡ runDevice base (map (write 4) (take (to - from) (drop from image))) (device (bytesOfRegisters a) pa)
-    → first ≡ firstByte left → count ≡ byteCount left right
-    → device (bytesOfRegisters s) q ≡ runDevice base (lineWrites base y left right image) (device (bytesOfRegisters r) p)
-line-made y left right first count r a s p pa q image e f u v =
-    line-run base y left right r a s p pa q image
-    (e ∙ (λ i. runDevice base (startWrites y (u i) (v i)) (device (bytesOfRegisters r) p)))
-    (f ∙ (λ i. let from = base .stride * y + u i in let to = from + v i in runDevice base (map (write 4) (take (to - from) (drop from image))) (device (bytesOfRegisters a) pa)))
+      may-drive e = rw (fit, lt-ltb k (base .panels) h, sym o ∙ e) refl

@@ -17,7 +17,7 @@ use Rattle.model.specs.declared.Register.the-variants.{Command, Line, First, Co
 use Rattle.model.specs.Controller.{registerOf, busy, interrupt, takesWrite, registersAfter, bytesOfRegisters, DeviceCall, write, Device, device, Answer, answer, runDevice}
 use Rattle.model.specs.Memory.{window}
 use Rattle.model.specs.Driver.{firstByte, byteCount, lineWrites}
-use Rattle.device.specs.Registers.{line-fits, status-busy}
+use Rattle.device.specs.Registers.{LineIn, line-fits, status-busy}
 use Rattle.device.specs.Writing.{Ready, Written}
 use Rattle.device.specs.Device.{Sound, sound-call, write-outcome}
 
@@ -25,12 +25,6 @@ use Rattle.device.specs.Device.{Sound, sound-call, write-outcome}
 pub record Idle (g : Geometry) (r : Registers) (p : List ℕ) : Type 0 where
   pub sound : Sound g (device (bytesOfRegisters r) p)
   pub not-busy : busy r ≡ false
-
--- a line of the panel, and bytes of it
-pub record Placed (g : Geometry) (line first count : ℕ) : Type 0 where
-  pub on : line < height g
-  pub within : first + count ≤ g .stride
-  pub some : 1 ≤ count
 
 -- pixels of a line
 pub record OnGlass (g : Geometry) (y left right : ℕ) : Type 0 where
@@ -81,65 +75,39 @@ module _ (g : Geometry) {r : Registers} {p : List ℕ} (i : Idle g r p) where
   pub ready-field : (n : Register) (v : ℕ) → takesWrite g r n v ≡ not (busy r) → Ready g r n v p
   ready-field n v t = record { passes = i .sound .passes; taken = t ∙ rw (i .not-busy) refl; panel = i .sound .panel }
 
-  pub ready-line : (v : ℕ) → Ready g r Line v p
+  pub after-field : (k v : ℕ) → takesWrite g r (registerOf k) v ≡ not (busy r) → registersAfter r (registerOf k) v .status ≡ r .status
+      → {s : Registers} {q : List ℕ} → Written g r (registerOf k) v p s q → Idle g s q
+  after-field k v t e w = record { sound = next-sound g k v (ready-field (registerOf k) v t) w; not-busy = rw (w .registers, e) (i .not-busy) }
+
+  pub ready-command : LineIn g (r .line) (r .first) (r .count) → Ready g r Command 2 p
   unfolding takesWrite
-  ready-line v = ready-field Line v refl
+  ready-command l = record { passes = i .sound .passes; taken = rw (i .not-busy, line-fits g r l) refl; panel = i .sound .panel }
 
-  pub ready-first : (v : ℕ) → Ready g r First v p
-  unfolding takesWrite
-  ready-first v = ready-field First v refl
-
-  pub ready-count : (v : ℕ) → Ready g r Count v p
-  unfolding takesWrite
-  ready-count v = ready-field Count v refl
-
-  still-idle : (k v : ℕ) {s : Registers} {q : List ℕ} → Ready g r (registerOf k) v p → Written g r (registerOf k) v p s q → registersAfter r (registerOf k) v .status ≡ r .status → Idle g s q
-  still-idle k v t w e = record { sound = next-sound g k v t w; not-busy = rw (w .registers, e) (i .not-busy) }
-
-  pub after-line : {v : ℕ} {s : Registers} {q : List ℕ} → Written g r Line v p s q → Idle g s q
-  unfolding registersAfter
-  after-line {v} w = still-idle 1 v (ready-line v) w refl
-
-  pub after-first : {v : ℕ} {s : Registers} {q : List ℕ} → Written g r First v p s q → Idle g s q
-  unfolding registersAfter
-  after-first {v} w = still-idle 2 v (ready-first v) w refl
-
-  pub after-count : {v : ℕ} {s : Registers} {q : List ℕ} → Written g r Count v p s q → Idle g s q
-  unfolding registersAfter
-  after-count {v} w = still-idle 3 v (ready-count v) w refl
-
-  pub ready-command : Placed g (r .line) (r .first) (r .count) → Ready g r Command 2 p
-  unfolding takesWrite
-  ready-command l =
-      record {
-        passes = i .sound .passes;
-        taken = rw (i .not-busy, line-fits g r (record { on = l .on; within = l .within; some = l .some })) refl;
-        panel = i .sound .panel;
-      }
-
-module _ (g : Geometry) {r a b c : Registers} {p pa pb pc : List ℕ} {line first count : ℕ} (i : Idle g r p) (l : Placed g line first count)
+module _ (g : Geometry) {r a b c : Registers} {p pa pb pc : List ℕ} {line first count : ℕ} (i : Idle g r p) (l : LineIn g line first count)
     (w₁ : Written g r Line line p a pa) (w₂ : Written g a First first pa b pb) (w₃ : Written g b Count count pb c pc) where
   set-fields : (c .line ≡ line) × (c .first ≡ first) × (c .count ≡ count)
   unfolding registersAfter
   set-fields = rw (w₃ .registers, w₂ .registers, w₁ .registers) (refl, refl, refl)
 
-  counted : Idle g c pc
-  counted = after-count g (after-first g (after-line g i w₁) w₂) w₃
+  idle₁ : Idle g a pa
+  unfolding takesWrite registersAfter
+  idle₁ = after-field g i 1 line refl refl w₁
+
+  idle₂ : Idle g b pb
+  unfolding takesWrite registersAfter
+  idle₂ = after-field g idle₁ 2 first refl refl w₂
 
   pub ready-start : Ready g c Command 2 pc
-  ready-start =
-      let f = set-fields in
-      ready-command g counted (record { on = rw (f .0) (l .on); within = rw (f .1, f .2) (l .within); some = rw (f .2) (l .some) })
+  unfolding takesWrite registersAfter
+  ready-start = ready-command g (after-field g idle₂ 3 count refl refl w₃) (let f = set-fields in rw (f .0, f .1, f .2) l)
 
   pub line-starts : {s : Registers} {q : List ℕ} → Written g c Command 2 pc s q → Started g r p line first count s q
-  unfolding registersAfter runDevice
+  unfolding takesWrite registersAfter runDevice
   line-starts w₄ =
-      let i₁ = after-line g i w₁ in
-      let i₂ = after-first g i₁ w₂ in
       record {
         left =
-            sym (then-run g 1 line (ready-line g i line) w₁ (write 2 first ∷ write 3 count ∷ write 0 2 ∷ []) ∙ then-run g 2 first (ready-first g i₁ first) w₂ (write 3 count ∷ write 0 2 ∷ [])
-            ∙ then-run g 3 count (ready-count g i₂ count) w₃ (write 0 2 ∷ []) ∙ then-run g 0 2 ready-start w₄ []);
+            sym (then-run g 1 line (ready-field g i Line line refl) w₁ (write 2 first ∷ write 3 count ∷ write 0 2 ∷ []) ∙ then-run g 2 first (ready-field g idle₁ First first refl) w₂ (write 3 count ∷ write 0 2 ∷ [])
+            ∙ then-run g 3 count (ready-field g idle₂ Count count refl) w₃ (write 0 2 ∷ []) ∙ then-run g 0 2 ready-start w₄ []);
         begun = record { sound = next-sound g 0 2 ready-start w₄; busy = rw (w₄ .registers) (status-busy true (interrupt c)); count = rw (w₄ .registers) (set-fields .2) };
       }
 
@@ -184,14 +152,16 @@ module _ (g : Geometry) {r s : Registers} {p q bs : List ℕ} {i : ℕ} (b : Byt
 -- ---- a whole line
 
 -- the bytes are lent as a part of the image, `from` up to `to`
-pub line-run : (g : Geometry) (y left right : ℕ) (r a s : Registers) (p pa q image : List ℕ)
-    → device (bytesOfRegisters a) pa ≡ runDevice g (startWrites y (firstByte left) (byteCount left right)) (device (bytesOfRegisters r) p)
-    → let from = g .stride * y + firstByte left in
-    let to = from + byteCount left right in
+pub line-made : (g : Geometry) (y left right first count : ℕ) (r a s : Registers) (p pa q image : List ℕ)
+    → device (bytesOfRegisters a) pa ≡ runDevice g (startWrites y first count) (device (bytesOfRegisters r) p)
+    → let from = g .stride * y + first in
+    let to = from + count in
     device (bytesOfRegisters s) q ≡ runDevice g (map (write 4) (take (to - from) (drop from image))) (device (bytesOfRegisters a) pa)
+    → first ≡ firstByte left → count ≡ byteCount left right
     → device (bytesOfRegisters s) q ≡ runDevice g (lineWrites g y left right image) (device (bytesOfRegisters r) p)
 unfolding lineWrites runDevice window
-line-run g y left right r a s p pa q image e f =
-    let from = g .stride * y + firstByte left in
-    let n : from + byteCount left right - from ≡ byteCount left right = omega arith in
+line-made g y left right first count r a s p pa q image e f u v =
+    let from = g .stride * y + first in
+    let n : from + count - from ≡ count = omega arith in
     f ∙ (λ i. runDevice g (map (write 4) (take (n i) (drop from image))) (e i))
+    ∙ (λ i. runDevice g (map (write 4) (window (g .stride * y + u i) (v i) image)) (runDevice g (startWrites y (u i) (v i)) (device (bytesOfRegisters r) p)))

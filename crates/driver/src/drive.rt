@@ -5,13 +5,13 @@ use device::registers::is_busy;
 use device::registers::registers_fit;
 use device::registers::store_registers;
 use marks::rect;
-use model::Head;
 use model::Registers;
 use model::Sent;
 use model::glass::SMALL;
 use model::refusal;
 use record::glass::canvas_of;
 use record::glass::glass_of;
+use record::head::load_head;
 use record::panels::panel_at;
 use send::line::copy_line;
 use send::pending;
@@ -23,7 +23,7 @@ ghost use Rattle.model.specs.Controller.{registerBytes, registersOf, device, an
 ghost use Rattle.model.specs.Refusals.{refusal};
 ghost use Rattle.model.specs.Driver.{driven, driverTests, driveDone};
 ghost use Rattle.model.specs.Geometry.{base, screenBytes};
-ghost use Rattle.accepted.specs.GivenBy.{GivenBy};
+ghost use Rattle.record.specs.Given.{Given};
 ghost use Rattle.driver.specs.Line.{Idle};
 
 // What is tested after the record: the refusal's number, or 0.
@@ -50,11 +50,10 @@ pub fn drive(
     registers: &mut [u8],
     panel: &mut [u8],
     image: &mut [u8],
-    h: Head,
     r: Registers,
     k: usize,
 ) -> Sent
-    requires { ⌜ GivenBy (now rec) h (now memory) ⌝ }
+    requires { ⌜ Given (now rec) (now memory) ⌝ }
     requires { ⌜ (length (now image) ≡ screenBytes base) × (k < base .panels) ⌝ }
     requires { ⌜ (length (now registers) ≡ registerBytes) × (r ≡ registersOf (now registers)) ⌝ }
     requires { ⌜ Idle base r (now panel) ⌝ }
@@ -67,7 +66,7 @@ pub fn drive(
     if rect::is_empty(q) {
         return sent;
     }
-    let from = h.graphics as usize;
+    let from = load_head(rec).graphics as usize;
     let to = from + glass.screen;
     copy_line(canvas_of(glass), &memory[from..to], image, q);
     store_registers(registers, line::write_line(r, panel, image, q));

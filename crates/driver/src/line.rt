@@ -7,12 +7,13 @@ use model::glass::SMALL;
 ghost use mathlib.Core.Path.{_≡_};
 ghost use lib.ListN.{length};
 ghost use Rattle.model.specs.Geometry.{base, screenBytes};
-ghost use Rattle.driver.specs.Line.{Idle, Begun, Started, DataWritten, Placed, OnGlass, LineWritten};
+ghost use Rattle.device.specs.Registers.{LineIn};
+ghost use Rattle.driver.specs.Line.{Idle, Begun, Started, DataWritten, OnGlass, LineWritten};
 
 // Registers 1 to 3, then command 2.
 fn start_line(r: Registers, panel: &mut [u8], line: u8, first: u8, count: u8) -> Registers
     requires { ⌜ Idle base r (now panel) ⌝ }
-    requires { ⌜ Placed base line first count ⌝ }
+    requires { ⌜ LineIn base line first count ⌝ }
     ensures { λ s. ⌜ Started base r (now (panel .entry)) line first count s (now (panel .exit)) ⌝ }
 {
     let a = write(r, panel, Register::Line, line);

@@ -1,23 +1,27 @@
 -- Driven sends leave what direct sends leave. docs/THEOREM.md says it in words. The device, its calls and `runDevice` stand in crates/model/specs/Controller.antt, the
--- driver in Driver.antt there.
+-- driver in Driver.antt there; Free, a device that the driver may use, and toSend in Sends.antt here.
 use mathlib.Core.Path.{_≡_, refl, ap, _∙_}
-use mathlib.Core.Bool.{false}
+use mathlib.Core.Bool.{true, false}
 use mathlib.Core.List.{List, [], _∷_}
 use Prim.Native.Nat.{ℕ, zero, suc, _+_, _≤_, _<_}
 use lib.ListN.{length}
+use native.Mathlib.Omega.{arith}
 use Rattle.model.specs.Geometry.{Geometry, width, height, screenBytes}
 use Rattle.model.specs.Glass.{IsGlass}
 use Rattle.model.specs.Bytes.{Bytes}
+use Rattle.model.specs.declared.Rect.{Rect}
+use Rattle.model.specs.Rects.{isEmpty}
+use Rattle.model.specs.Refusals.{refusal, ruled}
 use Rattle.model.specs.Pixels.{place}
 use Rattle.model.specs.Record.{listing}
-use Rattle.model.specs.Calls.{send, Lent, lent, outcome}
-use Rattle.model.specs.Controller.{busy, Device, device}
-use Rattle.model.specs.Driver.{byteCount, Driven, driven, lineWrites, driveOutcome}
+use Rattle.model.specs.Calls.{send, Lent, lent, answered, done, outcome}
+use Rattle.model.specs.Controller.{busy, Device, device, answer, runDevice}
+use Rattle.model.specs.Driver.{byteCount, Driven, driven, lineWrites, driverWrites, driveRefusals, driveDone, driveOutcome}
 use Rattle.laws.specs.Memory.{length-window}
 use Rattle.device.specs.Device.{Sound, fieldsOf}
 use Rattle.driving.specs.Copies.{lineAt, pixelOf, pixel-in, pixel-of}
 use Rattle.driving.specs.Writes.{AllDone, storedBytes, line-done, line-room}
-use Rattle.driving.specs.Sends.{Free, same-send}
+use Rattle.driving.specs.Sends.{Free, drivable, toSend, line-lies, image-long, same-send}
 
 -- ---- n sends to panel k, driven or direct: what they answer, codes first, and what they leave
 
@@ -91,3 +95,24 @@ line-bytes g y left right image d s f hy hx hw hi =
       each = pixel-in (g .stride) y left right hx;
       no-other = pixel-of (g .stride) y left right hx;
     }
+
+-- a driver call that was lent l and leaves l′ stores just the bytes that hold the pixels of the top line of q, or nothing when idle
+pub record JustTheBytes (g : Geometry) (q : Rect) (l l′ : Driven) : Type 0 where
+  -- idle: the device stands as it was
+  pub nothing : isEmpty q ≡ true → l′ .device ≡ l .device
+  -- a line: the device is sent its bytes as the image has them now, and these writes store no other byte
+  pub writes : isEmpty q ≡ false → l′ .device ≡ runDevice g (lineWrites g (q .top) (q .left) (q .right) (l′ .image)) (l .device)
+  pub bytes : isEmpty q ≡ false → LineBytes g (q .top) (q .left) (q .right) (l′ .image) (l .device)
+
+-- so every accepted driver call, whatever device and image it is lent
+pub just-the-bytes-or-nothing : (g : Geometry) → IsGlass g → (k : ℕ) (l : Driven) → Bytes (l .rec) → refusal (driveRefusals g k l) ≡ 0
+    → JustTheBytes g (toSend g k l) l (driveOutcome g k l .left)
+unfolding driveOutcome ruled driveDone answer driverWrites runDevice done answered
+just-the-bytes-or-nothing g z k l b a =
+    let q = toSend g k l in
+    let t = drivable g z k l b a in
+    rw a (record {
+      nothing = λ e. rw e refl;
+      writes = λ e. rw e refl;
+      bytes = λ e. let h = line-lies g k l t e in line-bytes g (q .top) (q .left) (q .right) _ (l .device) (t .sound) (t .not-busy) (omega arith) (h .wide) (h .right-in) (image-long g k l t);
+    })

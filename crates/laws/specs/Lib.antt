@@ -18,6 +18,7 @@ pub mod Owed
 pub mod Panels
 pub mod Marking
 pub mod MarkLoops
+pub mod Formed
 pub mod StateTest
 pub mod Loops
 pub mod Glasses

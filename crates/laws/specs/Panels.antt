@@ -1,18 +1,13 @@
 -- Where the panels' parts stand in a record, for the glass by value.
 use mathlib.Core.Path.{_≡_, refl}
-use mathlib.Core.List.{List, [], _∷_}
+use mathlib.Core.List.{List}
 use Prim.Native.Nat.{ℕ, zero, suc, _+_, _-_, _*_, _<_, _≤_}
 use native.Mathlib.Omega.{arith}
 use lib.ListN.{length}
 use Rattle.model.specs.declared.glass.Glass.{Glass}
 use Rattle.model.specs.Glass.{geometry, Suits}
 use Rattle.model.specs.Record.{headBytes, panel, lastParts, offset, at, recordBytes, pendingBytes}
-use Rattle.laws.specs.Record.{Passing, later, panel-from, has-panel, part-in}
-
--- a record that passes, for the glass that is told
-pub record Known (v : Glass) (r : List ℕ) : Type 0 where
-  pub suits : Suits v
-  pub passing : Passing (geometry v) r
+use Rattle.laws.specs.Record.{later, panel-from, has-panel, part-in}
 
 pub is-first-at : (v : Glass) (k : ℕ) → k ≡ 0 → headBytes ≡ at (geometry v) (panel k)
 unfolding offset

@@ -9,7 +9,7 @@ use lib.Seq.{set-getD}
 use Rattle.model.specs.declared.Rect.{Rect}
 use Rattle.model.specs.declared.glass.Glass.{Glass}
 use Rattle.model.specs.Geometry.{Geometry, width, height}
-use Rattle.model.specs.Glass.{geometry}
+use Rattle.model.specs.Glass.{geometry, Suits}
 use Rattle.model.specs.Memory.{withWindow}
 use Rattle.model.specs.Rects.{none, isEmpty}
 use Rattle.model.specs.Bytes.{rectAt, rectBytes, rectsBytes, four, fourBytes, Bytes}
@@ -20,11 +20,11 @@ use Rattle.laws.specs.Rects.{Proper}
 use Rattle.laws.specs.Memory.{window-extend}
 use Rattle.laws.specs.Layout.{length-rects}
 use Rattle.laws.specs.Bands.{hand-fits, well-take, to-send, none-left}
-use Rattle.laws.specs.Record.{encode-decode, panel-decoded, put-panel, sized-decode, count-decode}
+use Rattle.laws.specs.Record.{Passing, encode-decode, panel-decoded, put-panel, sized-decode, count-decode}
 use Rattle.laws.specs.Windows.{pending-part}
 use Rattle.laws.specs.States.{well-formed}
 use Rattle.laws.specs.Owed.{Took, rested, owed-again}
-use Rattle.laws.specs.Panels.{Known, panel-room}
+use Rattle.laws.specs.Panels.{panel-room}
 
 -- ---- taken in hand
 
@@ -49,13 +49,13 @@ taken-sent p = if-cases (λ (q : Pending). q .sent ≡ p .sent) (isEmpty (p .han
 
 -- ---- as the code goes, with the glass by value
 
-module _ {v : Glass} {r : List ℕ} (k : ℕ) (w : Known v r) (h : k < v .panels) where
+module _ {v : Glass} {r : List ℕ} (k : ℕ) (z : Suits v) (w : Passing (geometry v) r) (h : k < v .panels) where
   -- the panel's part where it stands
   panel-here : panelOf (geometry v) (decode (geometry v) r) k ≡ pendingOf (geometry v) r (at (geometry v) (panel k))
   panel-here = panel-decoded (geometry v) r k h ∙ pending-part (geometry v) r k
 
   well : WellPending (geometry v) (panelOf (geometry v) (decode (geometry v) r) k)
-  well = well-formed (geometry v) r (w .passing) .panels k h
+  well = well-formed (geometry v) r w .panels k h
 
   pub line-sent : {a : ℕ} {q : Rect} {r′ : List ℕ} → a ≡ at (geometry v) (panel k)
       → InHand (geometry v) a r q r′ → q ≡ takeOwed (panelOf (geometry v) (decode (geometry v) r) k) .hand
@@ -74,11 +74,11 @@ module _ {v : Glass} {r : List ℕ} (k : ℕ) (w : Known v r) (h : k < v .panels
       let s = decode g r in
       let p = panelOf g s k in
       let c = at g (panel k) in
-      let room = panel-room v k (w .suits) h in
+      let room = panel-room v k z h in
       let none : isEmpty (takeOwed p .hand) ≡ true = cc (line-sent e i) in
-      let same = owed-again (g .bands) c r (w .passing .bytes) (omega arith) in
+      let same = owed-again (g .bands) c r (w .bytes) (omega arith) in
       let kept = ap (λ (l : List Pending). encode g (withPanels l s)) (set-getD (s .panels) k (nothingPending g)) in
-      cc (panel-here, none-left g p well none .1, encode-decode g r (w .passing))
+      cc (panel-here, none-left g p well none .1, encode-decode g r w)
 
   -- a line sent
   pub sends : {a b : ℕ} {q n : Rect} {c : ℕ} {r′ s t : List ℕ} {u : Bool} → a ≡ at (geometry v) (panel k) → InHand (geometry v) a r q r′ → u ≡ isEmpty q → u ≡ false
@@ -91,7 +91,7 @@ module _ {v : Glass} {r : List ℕ} (k : ℕ) (w : Known v r) (h : k < v .panels
       let st = decode g r in
       let p = panelOf g st k in
       let d = at g (panel k) in
-      let room = panel-room v k (w .suits) h in
+      let room = panel-room v k z h in
       let some : isEmpty (takeOwed p .hand) ≡ false = cc (line-sent e i) in
       let owed = takeOwed p .owed in
       let count : length owed ≡ g .bands = well-take g p well .bands in
@@ -100,8 +100,8 @@ module _ {v : Glass} {r : List ℕ} (k : ℕ) (w : Known v r) (h : k < v .panels
       let starts : d ≤ length r = omega arith in
       let two = window-extend d (8 * v .bands) (rectsBytes owed) (rectBytes n) r long starts in
       let three = window-extend d (8 * v .bands + 8) (rectsBytes owed ++ rectBytes n) (fourBytes c) r (omega (arith, length-append (rectsBytes owed) (rectBytes n))) starts in
-      let put = put-panel g k (record { owed = owed; hand = n; sent = c }) st (w .suits .glass) (sized-decode g r (w .passing .sized)) h (count-decode g r) count in
-      cc (panel-here, line-sent e i, encode-decode g r (w .passing), taken-sent p, append-assoc (rectsBytes owed) (rectBytes n) (fourBytes c))
+      let put = put-panel g k (record { owed = owed; hand = n; sent = c }) st (z .glass) (sized-decode g r (w .sized)) h (count-decode g r) count in
+      cc (panel-here, line-sent e i, encode-decode g r w, taken-sent p, append-assoc (rectsBytes owed) (rectBytes n) (fourBytes c))
 
 -- the rectangle whose top line is sent, and the record
 pub record SentOn (v : Glass) (k : ℕ) (r : List ℕ) (q : Rect) (r′ : List ℕ) : Type 0 where
@@ -109,6 +109,6 @@ pub record SentOn (v : Glass) (k : ℕ) (r : List ℕ) (q : Rect) (r′ : List �
   pub left : r′ ≡ encode (geometry v) (withPanel k (sendPending (panelOf (geometry v) (decode (geometry v) r) k)) (decode (geometry v) r))
 
 -- the line that is sent lies on the screen
-pub sent-proper : {v : Glass} {k : ℕ} {r : List ℕ} {q : Rect} {r′ : List ℕ} {t : Bool} → Known v r → k < v .panels → SentOn v k r q r′ → t ≡ isEmpty q → t ≡ false
+pub sent-proper : {v : Glass} {k : ℕ} {r : List ℕ} {q : Rect} {r′ : List ℕ} {t : Bool} → Suits v → Passing (geometry v) r → k < v .panels → SentOn v k r q r′ → t ≡ isEmpty q → t ≡ false
     → Proper (width (geometry v)) 0 (height (geometry v)) q
-sent-proper {k = k} w h i e f = rw (i .line) (to-send _ _ (well k w h) (cc))
+sent-proper {k = k} z w h i e f = rw (i .line) (to-send _ _ (well k z w h) (cc))

@@ -1,6 +1,6 @@
--- Stores over a record that passes, as the code makes them: another head, what is marked, other flags.
+-- Stores over a record that passes, as the code makes them: fields of the head, other flags.
 use mathlib.Core.Path.{_≡_, sym, ap, _∙_}
-use mathlib.Core.Bool.{Bool}
+use mathlib.Core.Bool.{Bool, true}
 use mathlib.Core.List.{List}
 use Prim.Native.Nat.{ℕ, _+_, _-_, _≤_}
 use native.Mathlib.Omega.{arith}
@@ -14,25 +14,30 @@ use Rattle.model.specs.Geometry.{Geometry, width, cells}
 use Rattle.model.specs.Glass.{geometry, canvas, Suits}
 use Rattle.model.specs.Memory.{zeros, withWindow}
 use Rattle.model.specs.Flags.{bytesOfFlags}
-use Rattle.model.specs.Record.{headBytes, head, keys, flags, recordBytes, offset, Pending, State, decode, encode, bytesOfHead, headFits, partFits, withHead, withPanels, withFlags, WellFormed}
+use Rattle.model.specs.Record.{headBytes, headOf, head, keys, flags, recordBytes, offset, Pending, State, decode, encode, bytesOfHead, headFits, partFits, withHead, withPanels, withFlags, WellFormed}
 use Rattle.model.specs.Rects.{none, isEmpty, join}
-use Rattle.model.specs.Marks.{whole, owing, owingEach, withDirty, updateDirty, marked}
-use Rattle.model.specs.Open.{clearHead, clearFlags, resetState}
+use Rattle.model.specs.Marks.{whole, owing, withDirty, updateDirty, marked}
+use Rattle.model.specs.Open.{clearFlags}
 use Rattle.laws.specs.ListLaws.{map-same}
-use Rattle.laws.specs.Rects.{join-none}
-use Rattle.laws.specs.Bands.{joinOwed-none, well-owing}
+use Rattle.laws.specs.Rects.{empty-none, join-none}
+use Rattle.laws.specs.Bands.{joinOwed-none}
 use Rattle.laws.specs.Parts.{part-back}
 use Rattle.laws.specs.Flags.{length-flags, no-flags, length-no-flags}
-use Rattle.laws.specs.Record.{Passing, Numbers, head-tells, part-passes, has-head, has-keys, has-flags, length-part, put-head, put-flags, part-in, encode-decode, decode-encode, well-sized, sized-decode}
+use Rattle.laws.specs.Record.{Passing, Numbers, head-tells, part-passes, has-head, has-keys, has-flags, length-part, put-head, put-flags, part-in, encode-decode, decode-encode, sized-decode}
 use Rattle.laws.specs.States.{well-formed, encode-passing}
 use Rattle.laws.specs.StateTest.{flags-part}
-use Rattle.laws.specs.Panels.{Known}
-use Rattle.laws.specs.Marking.{each-formed}
+use Rattle.laws.specs.Windows.{head-part}
+use Rattle.laws.specs.Formed.{flags-formed}
 
--- what STATE tells of the head
-pub head-numbers : (v : Glass) (r : List ℕ) (h : Head) → Known v r → h ≡ decode (geometry v) r .head → Numbers (geometry v) h
+-- the head is read where the record begins
+pub head-decoded : (g : Geometry) (r : List ℕ) → decode g r .head ≡ headOf r
+unfolding decode
+head-decoded g r = head-part g r
+
+-- what STATE tells of it
+pub head-numbers : (g : Geometry) (r : List ℕ) {h : Head} → Passing g r → h ≡ decode g r .head → Numbers g h
 unfolding decode partFits
-head-numbers v r h k e = let g = geometry v in head-tells g h (ap (headFits g) e ∙ part-passes g r (k .passing) head (has-head g))
+head-numbers g r {h} p e = head-tells g h (ap (headFits g) e ∙ part-passes g r p head (has-head g))
 
 -- the head lies in the record
 pub head-in : (g : Geometry) → headBytes ≤ recordBytes g
@@ -51,15 +56,12 @@ screen-small v z e = rw e (omega (arith, z .glass .cursor), omega (arith, z .is-
 pub whole-of : (v : Glass) {k : Canvas} → k ≡ canvas v → whole (k .stride) (k .height) ≡ whole (v .stride) (v .height)
 whole-of v e = ap (λ (x : Canvas). whole (x .stride) (x .height)) e
 
--- ---- what is marked, with another head
+-- ---- a store into the head: k leaves the bytes of another one in its place
 
-pub marks-head : (g : Geometry) (r : List ℕ) (n : Head) (d o : Rect) {m : Head} {s t : List ℕ} → Passing g r → s ≡ encode g (owingEach g o (decode g r))
-    → m ≡ updateDirty d n → t ≡ withWindow 0 (bytesOfHead m) s → t ≡ encode g (marked g d o (withHead n (decode g r)))
-unfolding marked
-marks-head g r n d o {m} k f i j =
-    let s = owingEach g o (decode g r) in
-    let z = well-sized g s (each-formed g (owing g o) (decode g r) (well-owing g o) (well-formed g r k)) in
-    j ∙ ap (withWindow 0 (bytesOfHead m)) f ∙ put-head g m s (k .glass) z ∙ ap (λ (x : Head). encode g (withHead x s)) i
+pub in-head : (g : Geometry) (r : List ℕ) → Passing g r → (k : List ℕ → List ℕ) (f : Head → Head)
+    → k (encode g (decode g r)) ≡ withWindow 0 (bytesOfHead (f (decode g r .head))) (encode g (decode g r))
+    → k r ≡ encode g (withHead (f (decode g r .head)) (decode g r))
+in-head g r p k f e = ap k (sym (encode-decode g r p)) ∙ e ∙ put-head g (f (decode g r .head)) (decode g r) (p .glass) (sized-decode g r (p .sized))
 
 -- an empty mark changes nothing
 pub unmarked-state : (g : Geometry) (s : State) → marked g none none s ≡ s
@@ -71,60 +73,38 @@ unmarked-state g s =
 pub unmarked : (g : Geometry) (r : List ℕ) → Passing g r → encode g (marked g none none (decode g r)) ≡ r
 unmarked g r k = ap (encode g) (unmarked-state g (decode g r)) ∙ encode-decode g r k
 
--- ---- other flags
+-- an empty mark leaves dirty
+pub empty-dirty : (g : Geometry) (r : List ℕ) (m : Rect) {t : Bool} → Passing g r → t ≡ isEmpty m → t ≡ true → r ≡ encode g (withHead (updateDirty m (decode g r .head)) (decode g r))
+unfolding updateDirty
+empty-dirty g r m p e f =
+    let s = decode g r in
+    let same : s .head .dirty ≡ join (s .head .dirty) m = sym (ap (join (s .head .dirty)) (empty-none m (sym e ∙ f)) ∙ join-none (s .head .dirty)) in
+    sym (encode-decode g r p) ∙ ap (λ (q : Rect). encode g (withHead (withDirty q (s .head)) s)) same
 
--- other flags in a well formed state
-pub flags-formed : (g : Geometry) (fs : List Bool) (s : State) → WellFormed g s → length fs ≡ cells g → WellFormed g (withFlags fs s)
-flags-formed g fs s w n = record { head = w .head; count = w .count; panels = w .panels; words = w .words; keys = w .keys; flags = n; edge = w .edge }
+-- ---- other flags: their part was lent and came back as fs
 
--- the flags' part was lent and came back as fs
-module _ {v : Glass} {r : List ℕ} (k : Known v r) (fs : List Bool) (n : length fs ≡ cells (geometry v)) {c : List ℕ} (e : c ≡ bytesOfFlags fs) where
-  flags-stored : putMid (v .flags) (v .others - v .flags) r c ≡ encode (geometry v) (withFlags fs (decode (geometry v) r))
+module _ {v : Glass} {r : List ℕ} (z : Suits v) (p : Passing (geometry v) r) (fs : List Bool) (n : length fs ≡ cells (geometry v)) {c : List ℕ} (e : c ≡ bytesOfFlags fs) where
+  pub flags-stored : putMid (v .flags) (v .others - v .flags) r c ≡ encode (geometry v) (withFlags fs (decode (geometry v) r))
   flags-stored =
       let g = geometry v in
-      let z = k .suits in
       let long : length c ≡ v .others - v .flags = ap length e ∙ length-flags fs ∙ omega (arith, z .is-others, z .is-flags) in
       part-back (v .flags) (v .others) r c (omega (arith, z .is-others, z .is-flags)) long
-      ∙ (λ i. withWindow (z .is-flags i) (e i) (sym (encode-decode g r (k .passing)) i))
-      ∙ put-flags g fs (decode g r) (z .glass) (sized-decode g r (k .passing .sized)) n
+      ∙ (λ i. withWindow (z .is-flags i) (e i) (sym (encode-decode g r p) i))
+      ∙ put-flags g fs (decode g r) (z .glass) (sized-decode g r (p .sized)) n
 
   formed : WellFormed (geometry v) (withFlags fs (decode (geometry v) r))
-  formed = flags-formed (geometry v) fs (decode (geometry v) r) (well-formed (geometry v) r (k .passing)) n
+  formed = flags-formed (geometry v) (decode (geometry v) r) (well-formed (geometry v) r p) fs n
 
-  pub flags-known : Known v (putMid (v .flags) (v .others - v .flags) r c)
-  flags-known = record { suits = k .suits; passing = rw flags-stored (encode-passing (geometry v) (k .suits .glass) (withFlags fs (decode (geometry v) r)) formed) }
+  pub flags-pass : Passing (geometry v) (putMid (v .flags) (v .others - v .flags) r c)
+  flags-pass = rw flags-stored (encode-passing (geometry v) (z .glass) (withFlags fs (decode (geometry v) r)) formed)
 
   pub flags-state : decode (geometry v) (putMid (v .flags) (v .others - v .flags) r c) ≡ withFlags fs (decode (geometry v) r)
-  flags-state = ap (decode (geometry v)) flags-stored ∙ decode-encode (geometry v) (withFlags fs (decode (geometry v) r)) (k .suits .glass) formed
+  flags-state = ap (decode (geometry v)) flags-stored ∙ decode-encode (geometry v) (withFlags fs (decode (geometry v) r)) (z .glass) formed
 
--- ---- no flags
-
--- the flags' part was lent, up to where the other panels begin, and cleared
-module _ {v : Glass} {r : List ℕ} (k : Known v r) {c : List ℕ} {to : ℕ} (e : c ≡ zeros (length (take (to - v .flags) (drop (v .flags) r)))) (ends : to ≡ v .others) where
-  cleared : c ≡ bytesOfFlags (clearFlags (geometry v))
-  cleared =
-      let g = geometry v in
-      cc (flags-part v r (k .suits), length-part g flags r (has-flags g) (k .passing .sized), no-flags (cells g))
-
-  pub cleared-known : Known v (putMid (v .flags) (to - v .flags) r c)
-  cleared-known = rw ends (flags-known k (clearFlags (geometry v)) (length-no-flags (cells (geometry v))) cleared)
-
-  pub cleared-record : (n : Head) (d o : Rect) {t : List ℕ}
-      → t ≡ encode (geometry v) (marked (geometry v) d o (withHead n (decode (geometry v) (putMid (v .flags) (to - v .flags) r c))))
-      → t ≡ encode (geometry v) (marked (geometry v) d o (withHead n (withFlags (clearFlags (geometry v)) (decode (geometry v) r))))
-  cleared-record n d o f =
-      let g = geometry v in
-      f ∙ ap (λ (x : ℕ). encode g (marked g d o (withHead n (decode g (putMid (v .flags) (x - v .flags) r c))))) ends
-      ∙ ap (λ (s : State). encode g (marked g d o (withHead n s))) (flags-state k (clearFlags g) (length-no-flags (cells g)) cleared)
-
--- the head of open and reset, no flags, and the whole screen owed
-pub resets : {v : Glass} {r : List ℕ} {h n : Head} {w d o : Rect} {s : List ℕ} → Known v r → h ≡ decode (geometry v) r .head
-    → n ≡ clearHead (h .graphics) (h .text) (h .version) → w ≡ whole (v .stride) (v .height) → d ≡ none → o ≡ w
-    → s ≡ encode (geometry v) (marked (geometry v) d o (withHead n (withFlags (clearFlags (geometry v)) (decode (geometry v) r))))
-    → s ≡ encode (geometry v) (resetState (geometry v) (decode (geometry v) r))
-unfolding resetState marked updateDirty join isEmpty
-resets {v} {r} k e f w d o q =
+-- no flags: the part was cleared
+pub clears-flags : {v : Glass} {r : List ℕ} → Suits v → Passing (geometry v) r → {c : List ℕ} → c ≡ zeros (length (take (v .others - v .flags) (drop (v .flags) r)))
+    → putMid (v .flags) (v .others - v .flags) r c ≡ encode (geometry v) (withFlags (clearFlags (geometry v)) (decode (geometry v) r))
+clears-flags {v} {r} z p {c} e =
     let g = geometry v in
-    let s = decode g r in
-    let n = f ∙ ap (λ (x : Head). clearHead (x .graphics) (x .text) (x .version)) e in
-    q ∙ (λ i. encode g (marked g (d i) ((o ∙ w ∙ ap (whole (v .stride)) (k .suits .is-height)) i) (withHead (n i) (withFlags (clearFlags g) s))))
+    let none : c ≡ bytesOfFlags (clearFlags g) = cc (flags-part v r z, length-part g flags r (has-flags g) (p .sized), no-flags (cells g)) in
+    flags-stored z p (clearFlags g) (length-no-flags (cells g)) none

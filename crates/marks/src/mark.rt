@@ -2,25 +2,13 @@
 use crate::rect;
 use crate::span::no_marks;
 use model::Canvas;
-use model::Head;
 use model::Marks;
 use model::Rect;
 ghost use mathlib.Core.Path.{_≡_};
 ghost use Prim.Native.Nat.{_≤_};
 ghost use Rattle.model.specs.Rects.{none};
-ghost use Rattle.model.specs.Marks.{whole, updateDirty};
+ghost use Rattle.model.specs.Marks.{whole};
 ghost use Rattle.model.specs.Print.{scrollMark};
-
-pub fn update_dirty(h: Head, m: Rect) -> Head
-    ensures { λ r. ⌜ r ≡ updateDirty m h ⌝ }
-{
-    let dirty = h.dirty;
-    let mut n = h;
-    n.dirty = rect::join_rects(dirty, m);
-    n
-}
-
-// ---- the whole screen
 
 pub fn whole_screen(canvas: Canvas) -> Rect
     requires { ⌜ (canvas .stride ≤ 32) × (canvas .height ≤ 256) ⌝ }

@@ -61,17 +61,17 @@ module _ (g : Geometry) where
   leaves-done c b a = rw (outcome-done g c (lentTo (takes c) b) a) refl
 
   -- what holds after an accepted call, and where nothing is done, holds after every item
-  pub by-item : (k : ℕ) (P : Buffers → Effect → List Call → Type 0) (b : Buffers) (i : Item g)
-      → ((c : Call) → Typed c → accepted g c (lentTo (takes c) b) → P (doneOn g c b) (effect g k c (lentTo (takes c) b)) (c ∷ []))
-      → P b nothing [] → P (after g b i) (itemEffect g k b i) (acceptedCall g b i)
+  pub by-item : (P : Buffers → Effect → List Call → Type 0) (b : Buffers) (i : Item g)
+      → ((c : Call) → Typed c → accepted g c (lentTo (takes c) b) → P (doneOn g c b) (effect g c (lentTo (takes c) b)) (c ∷ []))
+      → P b nothing [] → P (after g b i) (itemEffect g b i) (acceptedCall g b i)
   unfolding after leaves itemEffect effectAt acceptedCall ruled outcome refused answered
-  by-item k P b (elsewhere c l r) f n = n
-  by-item k P b (here c t) f n = go (refusal (refusals g c given)) refl
+  by-item P b (elsewhere c l r) f n = n
+  by-item P b (here c t) f n = go (refusal (refusals g c given)) refl
     where
       given : Lent
       given = lentTo (takes c) b
 
-      go : (m : ℕ) → refusal (refusals g c given) ≡ m → P (givenBack (takes c) b (ruled m (refused c given) (done g c given) .left)) (effectAt m (effect g k c given)) (ruled m (λ j. []) (c ∷ []))
+      go : (m : ℕ) → refusal (refusals g c given) ≡ m → P (givenBack (takes c) b (ruled m (refused c given) (done g c given) .left)) (effectAt m (effect g c given)) (ruled m (λ j. []) (c ∷ []))
       go zero a = f c t a
       go (suc m) a = rw (back-same (takes c) b) n
 
@@ -81,4 +81,4 @@ module _ (g : Geometry) where
   left-run b [] = refl
   left-run b (i ∷ is) =
       let cs = acceptedCalls g (after g b i) is in
-      left-run (after g b i) is ∙ by-item 0 (λ d e ds. leftBy g d cs ≡ leftBy g b (ds ++ cs)) b i (λ c t a. rw (← leaves-done c b a)) refl
+      left-run (after g b i) is ∙ by-item (λ d e ds. leftBy g d cs ≡ leftBy g b (ds ++ cs)) b i (λ c t a. rw (← leaves-done c b a)) refl

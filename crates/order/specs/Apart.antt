@@ -2,12 +2,13 @@
 -- number that names no panel is refused.
 use mathlib.Core.Path.{_≡_, refl, sym, ap, _∙_}
 use mathlib.Core.Logic.{_≢_, _⊎_}
-use mathlib.Core.List.{[], _++_}
+use mathlib.Core.List.{List, [], _++_}
 use Prim.Native.Nat.{ℕ, _+_, _≤_, _<_}
 use native.Mathlib.Omega.{arith}
+use lib.Dec.{eqb}
 use lib.ListN.{length, length-append}
 use lib.Seq.{getD-set-other}
-use borrow.Author.Tests.{ltb-true, le-ltb}
+use borrow.Author.Tests.{ltb-true, le-ltb, ne-eqb}
 use Rattle.model.specs.Geometry.{Geometry}
 use Rattle.model.specs.Glass.{IsGlass}
 use Rattle.model.specs.Memory.{window, withWindow}
@@ -16,8 +17,9 @@ use Rattle.model.specs.Record.{Pending, panel, at, partIn, pendingBytes, bytesO
 use Rattle.model.specs.Refusals.{PANEL, refusal}
 use Rattle.model.specs.Marks.{owing}
 use Rattle.model.specs.Sends.{sendPending}
-use Rattle.model.specs.Calls.{Call, send, Lent, takes, refusals, answered, done}
-use Rattle.model.specs.Lists.{accepted, Typed, Buffers, panelBuffer, lentToSend, lentTo, givenBack, leaves, Effect, nothing, marks, opens, sends, effect, affected}
+use Rattle.model.specs.Calls.{Call, opening, reset, draw, checkPoint, print, newline, cls, writeByte, flush, getRow, getColumn, setRow, setColumn, setScreenMode, setPrintMode, blinkCursor, clearCursor, takeDirtyArea, send, Lent, takes, refusals, answered, done}
+use Rattle.model.specs.Lists.{accepted, Typed, Buffers, panelBuffer, lentToSend, lentTo, givenBack, leaves, Effect, blinks, effect, affected}
+use Rattle.laws.specs.Tests.{if-cases}
 use Rattle.laws.specs.Memory.{window-other}
 use Rattle.laws.specs.Layout.{length-rects}
 use Rattle.laws.specs.Record.{Passing, has-panel, part-in, part-encode, put-panel, sized-panel, encode-decode, sized-decode, count-decode}
@@ -70,22 +72,41 @@ send-apart g z j b bytes a =
 
 -- ---- a mark
 
--- what neither opens nor sends leaves the rectangle in hand and the lines sent
-kept : (g : Geometry) (p : Pending) (e : Effect) → ((n : ℕ) → e ≢ opens n) → e ≢ sends → (affected g p e .hand ≡ p .hand) × (affected g p e .sent ≡ p .sent)
-unfolding affected owing
-kept g p nothing o s = (refl, refl)
-kept g p (marks m) o s = (refl, refl)
-kept g p (opens n) o s = absurd (o n refl)
-kept g p sends o s = absurd (s refl)
+-- the rectangle in hand and the lines sent of panel k, after an effect
+abbrev HandKept : Geometry → ℕ → Pending → Effect → Type 0
+HandKept g k p e = (affected g k p e .hand ≡ p .hand) × (affected g k p e .sent ≡ p .sent)
 
--- so every accepted call but open and a send to panel k: every mark, that of reset too, and a send to another panel
+module _ (g : Geometry) (k : ℕ) (p : Pending) (l : Lent) where
+  hand-kept : (c : Call) → ((graphics text version : ℕ) (keys : List ℕ) (edge : ℕ) → c ≢ opening graphics text version keys edge) → c ≢ send k → HandKept g k p (effect g c l)
+  unfolding effect blinks affected owing
+  hand-kept (opening graphics text version keys edge) o n = absurd (o graphics text version keys edge refl)
+  hand-kept reset o n = (refl, refl)
+  hand-kept (draw s) o n = (refl, refl)
+  hand-kept (checkPoint x y) o n = (refl, refl)
+  hand-kept (print bs) o n = (refl, refl)
+  hand-kept newline o n = (refl, refl)
+  hand-kept cls o n = (refl, refl)
+  hand-kept (writeByte i v) o n = (refl, refl)
+  hand-kept (flush f) o n = (refl, refl)
+  hand-kept getRow o n = (refl, refl)
+  hand-kept getColumn o n = (refl, refl)
+  hand-kept (setRow i) o n = (refl, refl)
+  hand-kept (setColumn i) o n = (refl, refl)
+  hand-kept (setScreenMode i) o n = (refl, refl)
+  hand-kept (setPrintMode i) o n = (refl, refl)
+  hand-kept blinkCursor o n = if-cases (HandKept g k p) (eqb (decode g (l .rec) .head .screen) 0) (λ e. (refl, refl)) (λ e. (refl, refl))
+  hand-kept clearCursor o n =
+      let h = decode g (l .rec) .head in
+      if-cases (HandKept g k p) (eqb (h .cursor) 0) (λ e. (refl, refl)) (λ e. if-cases (HandKept g k p) (eqb (h .screen) 0) (λ e. (refl, refl)) (λ e. (refl, refl)))
+  hand-kept takeDirtyArea o n = (refl, refl)
+  hand-kept (send j) o n = rw (ne-eqb j k (λ e. n (ap send e))) (refl, refl)
+
+-- every accepted call but open and a send to panel k leaves them: every mark, that of reset too, and a send to another panel
 pub hand-stays : (g : Geometry) (k : ℕ) → k < g .panels → (b : Buffers) → Lendable g (lentToSend k b) → (c : Call) → Typed c → accepted g c (lentTo (takes c) b)
-    → ((n : ℕ) → effect g k c (lentTo (takes c) b) ≢ opens n) → effect g k c (lentTo (takes c) b) ≢ sends
+    → ((graphics text version : ℕ) (keys : List ℕ) (edge : ℕ) → c ≢ opening graphics text version keys edge) → c ≢ send k
     → let p = panelOf g (decode g (b .rec)) k in let p′ = panelOf g (decode g (doneOn g c b .rec)) k in (p′ .hand ≡ p .hand) × (p′ .sent ≡ p .sent)
-hand-stays g k there b q c t a o s =
-    let f = call-step g k there b q c t a .follows .pending in
-    let e = kept g (panelOf g (decode g (b .rec)) k) (effect g k c (lentTo (takes c) b)) o s in
-    (ap (λ (p : Pending). p .hand) f ∙ e .0, ap (λ (p : Pending). p .sent) f ∙ e .1)
+hand-stays g k there b q c t a o n =
+    rw (call-step g k there b q c t a .follows .pending) (hand-kept g k (panelOf g (decode g (b .rec)) k) (lentTo (takes c) b) c o n)
 
 -- ---- a number that names no panel
 

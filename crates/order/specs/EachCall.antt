@@ -1,6 +1,6 @@
 -- Every accepted call, lent what it takes: one clause says that it leaves bytes that can be lent again and that the state of panel k follows by its effect.
 use mathlib.Core.Path.{_≡_, refl, sym}
-use mathlib.Core.Bool.{Bool, true, _&&_}
+use mathlib.Core.Bool.{true, _&&_}
 use mathlib.Core.List.{List, [], _∷_}
 use Prim.Native.Nat.{ℕ, zero, suc, _<_}
 use native.Mathlib.Nat.{mul-pos}
@@ -13,18 +13,18 @@ use Rattle.model.specs.Geometry.{Geometry, height, columns, rows}
 use Rattle.model.specs.Glass.{IsGlass}
 use Rattle.model.specs.Rects.{none, isEmpty, fits}
 use Rattle.model.specs.Marks.{withDirty}
-use Rattle.model.specs.Points.{drawMode, point}
-use Rattle.model.specs.Ellipses.{ellipse}
-use Rattle.model.specs.declared.DrawMode.{DrawMode}
+use Rattle.model.specs.Points.{drawMode, point as pointDrawing}
+use Rattle.model.specs.declared.Edge.{Edge}
 use Rattle.model.specs.declared.Head.{Head}
 use Rattle.model.specs.Bitmaps.{paintMode, sourceBytes}
 use Rattle.model.specs.Memory.{window}
-use Rattle.model.specs.Text.{withRow, withColumn, printMode, withPrintMode}
-use Rattle.model.specs.Calls.{Call, opening, reset, drawPoint, drawLine, drawBox, drawCircle, drawEllipse, checkPoint, paintBitmap, print, newline, cls, writeByte, flush, getRow, getColumn, setRow, setColumn, setScreenMode, setPrintMode, blinkCursor, clearCursor, takeDirtyArea, send, Lent, record-only, with-memory, takes, edgeIn, answered, filled, drawingWith, drawing, changed, cleared, withPage, blinked, cursorCleared, done}
+use Rattle.model.specs.Shapes.{Shape, point, line, box, circle, ellipse, bitmap, TypedShape, filled, drawingOf}
+use Rattle.model.specs.Text.{withRow, withColumn, withCursor, printMode, withPrintMode}
+use Rattle.model.specs.Calls.{Call, opening, reset, draw, checkPoint, print, newline, cls, writeByte, flush, getRow, getColumn, setRow, setColumn, setScreenMode, setPrintMode, blinkCursor, clearCursor, takeDirtyArea, send, Lent, record-only, with-memory, takes, edgeIn, answered, drawingWith, changed, cleared, withPage, blinked, cursorCleared, done}
 use Rattle.model.specs.Print.{isInverse}
 use Rattle.model.specs.Record.{panelOf, headFits}
 use Rattle.model.specs.Sends.{sendPanel}
-use Rattle.model.specs.Lists.{accepted, Typed, Item, Buffers, panelBuffer, lentToSend, lentTo, givenBack, after, draws, blinks, effect, itemEffect}
+use Rattle.model.specs.Lists.{accepted, Typed, Item, Buffers, panelBuffer, lentToSend, lentTo, givenBack, after, sends, blinks, effect, itemEffect}
 use Rattle.laws.specs.Tests.{if-cases, by-test, by-eq}
 use Rattle.laws.specs.Record.{head-tells}
 use Rattle.laws.specs.Points.{point-fits}
@@ -36,10 +36,27 @@ use Rattle.laws.specs.Pages.{newline-sheet, print-sheet}
 use Rattle.laws.specs.Calls.{accepted-call}
 use Rattle.laws.specs.Writes.{AgreeOutside}
 use Rattle.order.specs.Held.{touched}
-use Rattle.order.specs.Step.{still-fits, Lendable, old, screenHeld, Step, known, same-step, changed-step}
+use Rattle.laws.specs.Formed.{still-fits}
+use Rattle.order.specs.Step.{Lendable, old, screenHeld, Step, known, same-step, changed-step}
 use Rattle.order.specs.Accepted.{doneOn, by-item}
-use Rattle.order.specs.Opens.{opening-step, reset-step, send-step, other-send-step}
-use Rattle.order.specs.MarkSteps.{poke-step, flush-step, drawing-step, blink-step, clear-cursor-step, cleared-step, page-step}
+use Rattle.order.specs.Opens.{opening-step, reset-step, send-step}
+use Rattle.order.specs.MarkSteps.{poke-step, flush-step, drawing-step, blink-step, cleared-step, page-step}
+
+-- a shape's dirty rectangle fits
+module _ (g : Geometry) (z : IsGlass g) (edge : Edge) (m : List ℕ) where
+  ellipse-in : (x y rx ry fill mode : ℕ) → x < 256 → y < 256 → fits 256 0 256 (drawingOf g edge m (ellipse x y rx ry fill mode) .dirty) ≡ true
+  ellipse-in x y rx ry fill mode =
+      ellipse-fits (g .stride) (height g) edge x y rx ry (filled fill) (drawMode mode) (omega (arith, z .columns)) (omega (arith, z .cursor)) (omega (arith, z .row)) (z .high)
+
+  shape-fits : (s : Shape) → TypedShape s → fits 256 0 256 (drawingOf g edge m s .dirty) ≡ true
+  unfolding pointDrawing
+  shape-fits (point x y mode) t = point-fits (g .stride) (height g) x y (t .0) (t .1)
+  shape-fits (line x1 y1 x2 y2 mode) t = line-fits (g .stride) (height g) edge x1 y1 x2 y2 (drawMode mode) (t .0) (t .1) (t .2) (t .3)
+  shape-fits (box x1 y1 x2 y2 fill mode) t = box-fits (g .stride) (height g) edge x1 y1 x2 y2 (filled fill) (drawMode mode) (t .0) (t .1) (t .2) (t .3)
+  shape-fits (circle x y r fill mode) t = ellipse-in x y r r fill mode (t .0) (t .1)
+  shape-fits (ellipse x y rx ry fill mode) t = ellipse-in x y rx ry fill mode (t .0) (t .1)
+  shape-fits (bitmap i x y w n mode) t =
+      bitmap-fits (g .stride) (height g) (window i (sourceBytes w n) m) x y w n (paintMode mode) (omega (arith, z .cursor)) (z .high)
 
 -- a panel whose buffer holds anything is there
 has-buffer : (ps : List (List ℕ)) (k : ℕ) → 0 < length (getD ps k []) → k < length ps
@@ -65,37 +82,22 @@ module _ (g : Geometry) (k : ℕ) (there : k < g .panels) (b : Buffers) (q : Len
   abbrev next : Call → Lent
   next c = lentToSend k (doneOn g c b)
 
-  ellipse-step : (x y rx ry : ℕ) (fill : Bool) (d : DrawMode) → x < 256 → y < 256 → let e = ellipse (g .stride) (height g) (edgeIn g l) x y rx ry fill d in Step g k l (draws g e) (drawing g e l)
-  ellipse-step x y rx ry fill d hx hy =
-      drawing-step g k there l q _ (ellipse-fits (g .stride) (height g) (edgeIn g l) x y rx ry fill d (omega (arith, z .columns)) (omega (arith, z .cursor)) (omega (arith, z .row)) (z .high) hx hy)
-
   -- a send to panel k, and one to another
-  sent-step : (j : ℕ) → accepted g (send j) (lentToSend j b) → Step g k l (effect g k (send j) (lentToSend j b)) (next (send j))
-  unfolding effect done answered lentTo givenBack
+  sent-step : (j : ℕ) → accepted g (send j) (lentToSend j b) → Step g k l (sends j) (next (send j))
+  unfolding done answered lentTo givenBack
   sent-step j a =
-      by-eq j k
-      (λ e.
-      rw (e, eq-eqb k k refl, getD-set-same (b .panels) k (sendPanel (g .stride) (panelOf g (old g l) k) (screenHeld g l) (panelBuffer k b)) [] buffer-there) (send-step g k there l q))
-      (λ n.
-      let p = accepted-call g (send j) (lentToSend j b) (omega arith) a .1 in
-      rw (ne-eqb j k n, getD-set-other (b .panels) j k (sendPanel (g .stride) (panelOf g (old g l) j) (screenHeld g l) (panelBuffer j b)) [] (λ e. n (sym e)))
-      (other-send-step g k there l q j (ltb-true j (g .panels) (p .0)) (λ e. n (sym e))))
+      let s = old g l in
+      let copied : ℕ → List ℕ = λ i. sendPanel (g .stride) (panelOf g s i) (screenHeld g l) (panelBuffer i b) in
+      send-step g k there l q j (ltb-true j (g .panels) (accepted-call g (send j) (lentToSend j b) (omega arith) a .1 .0)) _
+      (by-eq j k (λ e. rw (e, eq-eqb k k refl) (getD-set-same (b .panels) k (copied k) [] buffer-there))
+      (λ n. rw (ne-eqb j k n) (getD-set-other (b .panels) j k (copied j) [] (λ e. n (sym e)))))
 
-  pub call-step : (c : Call) → Typed c → accepted g c (lentTo (takes c) b) → Step g k l (effect g k c (lentTo (takes c) b)) (next c)
-  unfolding effect blinks done answered drawingWith changed cleared withPage blinked cursorCleared lentTo givenBack point headFits fits isEmpty printMode withPrintMode
+  pub call-step : (c : Call) → Typed c → accepted g c (lentTo (takes c) b) → Step g k l (effect g c (lentTo (takes c) b)) (next c)
+  unfolding effect blinks done answered drawingWith changed cleared withPage blinked cursorCleared lentTo givenBack headFits fits isEmpty printMode withPrintMode
   call-step (opening graphics text version keys edge) t a = opening-step g k there z graphics text version keys edge (b .rec) (b .memory) (panelBuffer k b) t a (q .panel)
   call-step reset t a = reset-step g k there l q
-  call-step (drawPoint x y mode) t a =
-      drawing-step g k there l q (point (g .stride) (height g) x y (drawMode mode)) (point-fits (g .stride) (height g) x y (t .0) (t .1))
-  call-step (drawLine x1 y1 x2 y2 mode) t a =
-      drawing-step g k there l q _ (line-fits (g .stride) (height g) (edgeIn g l) x1 y1 x2 y2 (drawMode mode) (t .0) (t .1) (t .2) (t .3))
-  call-step (drawBox x1 y1 x2 y2 fill mode) t a =
-      drawing-step g k there l q _ (box-fits (g .stride) (height g) (edgeIn g l) x1 y1 x2 y2 (filled fill) (drawMode mode) (t .0) (t .1) (t .2) (t .3))
-  call-step (drawCircle x y r fill mode) t a = ellipse-step x y r r (filled fill) (drawMode mode) (t .0) (t .1)
-  call-step (drawEllipse x y rx ry fill mode) t a = ellipse-step x y rx ry (filled fill) (drawMode mode) (t .0) (t .1)
+  call-step (draw s) t a = drawing-step g k there l q _ (shape-fits g z (edgeIn g l) (b .memory) s t)
   call-step (checkPoint x y) t a = same-step g k there l q
-  call-step (paintBitmap i x y w n mode) t a =
-      drawing-step g k there l q _ (bitmap-fits (g .stride) (height g) (window i (sourceBytes w n) (b .memory)) x y w n (paintMode mode) (omega (arith, z .cursor)) (z .high))
   call-step (print bs) t a = page-step g k there l q _ (print-sheet (rows g) (columns g) (isInverse (h .print)) bs)
   call-step newline t a = page-step g k there l q _ (λ p. newline-sheet (rows g) (columns g) 1 1 p (omega (arith, z .columns)))
   call-step cls t a = cleared-step g k there l q (h .screen) (le-leb (h .screen) 1 (head-tells g h (known g l q .head) .screen))
@@ -110,18 +112,19 @@ module _ (g : Geometry) (k : ℕ) (there : k < g .panels) (b : Buffers) (q : Len
   call-step (setPrintMode n) t a =
       changed-step g k there l q (withPrintMode n) (still-fits g h (known g l q .head) 4
       (if-cases (λ (m : ℕ). leb m 2 ≡ true) (eqb (h .print) 1 && eqb n 2) (λ e. refl) (λ e. accepted-call g (setPrintMode n) (lentTo record-only b) (omega arith) a .1 .0))) refl
-  call-step blinkCursor t a = let s = blink-step g k there l q in by-test (eqb (h .screen) 0) (λ e. rw e (rw e at s)) (λ e. rw e (rw e at s))
+  call-step blinkCursor t a = by-test (eqb (h .screen) 0) (λ e. rw e (blink-step g k there l q)) (λ e. rw e (same-step g k there l q))
   call-step clearCursor t a =
-      let s = clear-cursor-step g k there l q in
-      by-test (eqb (h .cursor) 0) (λ e. rw e (rw e at s)) (λ e. by-test (eqb (h .screen) 0) (λ f. rw (e, f) (rw (e, f) at s)) (λ f. rw (e, f) (rw (e, f) at s)))
+      by-test (eqb (h .cursor) 0) (λ e. rw e (same-step g k there l q))
+      (λ e. by-test (eqb (h .screen) 0) (λ f. rw (e, f) (blink-step g k there l q))
+      (λ f. rw (e, f) (changed-step g k there l q (withCursor 0) (still-fits g h (known g l q .head) 5 refl) refl)))
   call-step takeDirtyArea t a = changed-step g k there l q (withDirty none) (still-fits g h (known g l q .head) 7 refl) refl
   call-step (send j) t a = sent-step j a
 
   -- so no accepted call changes a pixel outside what it owes: the last clause of Marks never applies
   pub no-pixel-outside : (c : Call) → Typed c → accepted g c (lentTo (takes c) b)
-      → AgreeOutside (g .stride) (height g) (touched g (effect g k c (lentTo (takes c) b))) (screenHeld g l) (screenHeld g (next c))
+      → AgreeOutside (g .stride) (height g) (touched g (effect g c (lentTo (takes c) b))) (screenHeld g l) (screenHeld g (next c))
   no-pixel-outside c t a = call-step c t a .follows .screen
 
   -- a refused call leaves all as it was, and so does one that was lent other buffers
-  pub item-step : (i : Item g) → Step g k l (itemEffect g k b i) (lentToSend k (after g b i))
-  item-step i = by-item g k (λ d e cs. Step g k l e (lentToSend k d)) b i call-step (same-step g k there l q)
+  pub item-step : (i : Item g) → Step g k l (itemEffect g b i) (lentToSend k (after g b i))
+  item-step i = by-item g (λ d e cs. Step g k l e (lentToSend k d)) b i call-step (same-step g k there l q)

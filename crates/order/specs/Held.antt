@@ -1,10 +1,11 @@
 -- One panel's state, what an effect makes of it, and what holds of it after every call, whatever its effect is.
 use mathlib.Core.Path.{_≡_, refl, sym, ap, _∙_}
 use mathlib.Core.Logic.{_≢_, _⊎_, inl, inr}
+use mathlib.Core.Bool.{cond}
 use mathlib.Core.List.{List}
 use Prim.Native.Nat.{ℕ, _+_, _-_, _/_, _≤_, _<_}
 use native.Mathlib.Omega.{arith}
-use lib.Dec.{ltb}
+use lib.Dec.{ltb, eqb}
 use lib.ListN.{length}
 use Rattle.model.specs.declared.Rect.{Rect}
 use Rattle.model.specs.Geometry.{Geometry, width, height, screenBytes}
@@ -32,19 +33,19 @@ abbrev pub touched : Geometry → Effect → Rect
 touched g nothing = none
 touched g (marks m) = m
 touched g (opens edge) = whole (g .stride) (height g)
-touched g sends = none
+touched g (sends j) = none
 
--- a send copies its line to the panel, and nothing else writes there
-abbrev pub panelAfter : Geometry → PanelState → Effect → List ℕ
-panelAfter g s nothing = s .panel
-panelAfter g s (marks m) = s .panel
-panelAfter g s (opens edge) = s .panel
-panelAfter g s sends = sendPanel (g .stride) (s .pending) (s .screen) (s .panel)
+-- a send to panel k copies its line there, and nothing else writes there
+abbrev pub panelAfter : Geometry → ℕ → PanelState → Effect → List ℕ
+panelAfter g k s nothing = s .panel
+panelAfter g k s (marks m) = s .panel
+panelAfter g k s (opens edge) = s .panel
+panelAfter g k s (sends j) = cond (eqb j k) (sendPanel (g .stride) (s .pending) (s .screen) (s .panel)) (s .panel)
 
--- t is what stands after an effect on s
-pub record Follows (g : Geometry) (s : PanelState) (e : Effect) (t : PanelState) : Type 0 where
-  pub pending : t .pending ≡ affected g (s .pending) e
-  pub panel : t .panel ≡ panelAfter g s e
+-- t is what stands of panel k after an effect on s
+pub record Follows (g : Geometry) (k : ℕ) (s : PanelState) (e : Effect) (t : PanelState) : Type 0 where
+  pub pending : t .pending ≡ affected g k (s .pending) e
+  pub panel : t .panel ≡ panelAfter g k s e
   pub screen : AgreeOutside (g .stride) (height g) (touched g e) (s .screen) (t .screen)
 
 -- ---- what holds
@@ -91,20 +92,25 @@ line-differs g r w s p l x y hx d =
     elsewhere : (y ≢ r .top) ⊎ ((x < r .left) ⊎ (r .left + (r .right - r .left) ≤ x)) → Differs g s p x y
     elsewhere o e = d (e ∙ sym (copyRun-other (g .stride) s (r .top) (r .left) (r .right - r .left) p x y (omega arith) hx o))
 
-covered-send : (g : Geometry) (s p : List ℕ) (q : Pending) → length p ≡ screenBytes g → WellPending g q → Covered g s p q
-    → Covered g s (sendPanel (g .stride) q s p) (sendPending q)
-unfolding sendPanel sendPending lineSent
-covered-send g s p q l f c =
-    by-test (isEmpty (takeOwed q .hand)) (λ e. rw e c)
-    (λ e. rw e (λ x y hx hy d.
-    let r = takeOwed q .hand in
-    let k = line-differs g r (to-send g q f e) s p l x y hx d in
-    either (covered-take g s p q c x y hx hy (k .0)) (λ i. inl (next-in r x y i (k .1 i))) inr))
-
 pub length-send : (st : ℕ) (s p : List ℕ) (q : Pending) → length (sendPanel st q s p) ≡ length p
 unfolding sendPanel copyLine
 length-send st s p q =
     if-cases (λ (l : List ℕ). length l ≡ length p) (isEmpty (takeOwed q .hand)) (λ e. refl) (λ e. length-copyRun st s _ _ _ p)
+
+held-send : (g : Geometry) (s : PanelState) → Held g s → Held g (record { screen = s .screen; panel = sendPanel (g .stride) (s .pending) (s .screen) (s .panel); pending = sendPending (s .pending) })
+unfolding sendPanel sendPending lineSent
+held-send g s h =
+    let q = s .pending in
+    let r = takeOwed q .hand in
+    record {
+      long = length-send (g .stride) (s .screen) (s .panel) q ∙ h .long;
+      well = well-send g q (h .well);
+      low = low-send g q (h .well) (h .low);
+      covered = by-test (isEmpty r) (λ e. rw e (h .covered))
+          (λ e. rw e (λ x y hx hy d.
+          let k = line-differs g r (to-send g q (h .well) e) (s .screen) (s .panel) (h .long) x y hx d in
+          either (covered-take g (s .screen) (s .panel) q (h .covered) x y hx hy (k .0)) (λ i. inl (next-in r x y i (k .1 i))) inr));
+    }
 
 -- ---- every effect
 
@@ -116,26 +122,26 @@ held-open g t l e =
     inr (owing-marks g (whole (g .stride) (height g)) (nothingPending g) (well-nothing g .bands) x y hy hx (omega arith)) in
     record { long = l; well = rw e (well-open g); low = rw e (omega arith); covered = rw e c }
 
--- the panel and what is pending are those that the effect makes
-held-by : (g : Geometry) (s : PanelState) (e : Effect) (t : PanelState) → Follows g s e t → length (panelAfter g s e) ≡ screenBytes g → WellPending g (affected g (s .pending) e)
-    → linesOf (affected g (s .pending) e .hand) ≤ g .band - 1 → Covered g (t .screen) (panelAfter g s e) (affected g (s .pending) e) → Held g t
-held-by g s e t f l w n c = record { long = rw (f .panel) l; well = rw (f .pending) w; low = rw (f .pending) n; covered = rw (f .panel, f .pending) c }
+-- what holds of s holds of t with the same panel and pending lines, where the screens agree
+held-same : (g : Geometry) (s t : PanelState) → Held g s → AgreeOutside (g .stride) (height g) none (s .screen) (t .screen) → t .panel ≡ s .panel → t .pending ≡ s .pending → Held g t
+held-same g s t h a e f =
+    let c : Covered g (t .screen) (s .panel) (s .pending) = λ x y hx hy d. h .covered x y hx hy (λ i. d (a x y hx hy (not-in-none x y) ∙ i)) in
+    record { long = rw e (h .long); well = rw f (h .well); low = rw f (h .low); covered = rw (e, f) c }
 
-pub held-after : (g : Geometry) (s : PanelState) (e : Effect) (t : PanelState) → Held g s → Follows g s e t → Held g t
+pub held-after : (g : Geometry) (k : ℕ) (s : PanelState) (e : Effect) (t : PanelState) → Held g s → Follows g k s e t → Held g t
 unfolding affected owing
-held-after g s nothing t h f =
-    held-by g s nothing t f (h .long) (h .well) (h .low) (λ x y hx hy d. h .covered x y hx hy (λ e. d (f .screen x y hx hy (not-in-none x y) ∙ e)))
-held-after g s (marks m) t h f =
+held-after g k s nothing t h f = held-same g s t h (f .screen) (f .panel) (f .pending)
+held-after g k s (marks m) t h f =
     let q = s .pending in
-    held-by g s (marks m) t f (h .long) (well-owing g m q (h .well)) (h .low) (λ x y hx hy d.
-    either (decIn m x y)
-    (λ i. inr (owing-marks g m q (h .well .bands) x y hy hx i))
-    (λ n. either (h .covered x y hx hy (λ e. d (f .screen x y hx hy n ∙ e))) inl (λ i. inr (owing-keeps g m q (h .well .bands) x y hy i))))
-held-after g s (opens edge) t h f = held-open g t (ap length (f .panel) ∙ h .long) (f .pending)
-held-after g s sends t h f =
-    let q = s .pending in
-    held-by g s sends t f (length-send (g .stride) (s .screen) (s .panel) q ∙ h .long) (well-send g q (h .well)) (low-send g q (h .well) (h .low)) (λ x y hx hy d.
-    covered-send g (s .screen) (s .panel) q (h .long) (h .well) (h .covered) x y hx hy (λ e. d (f .screen x y hx hy (not-in-none x y) ∙ e)))
+    let c : Covered g (t .screen) (s .panel) (owing g m q) = λ x y hx hy d.
+    either (decIn m x y) (λ i. inr (owing-marks g m q (h .well .bands) x y hy hx i))
+    (λ n. either (h .covered x y hx hy (λ e. d (f .screen x y hx hy n ∙ e))) inl (λ i. inr (owing-keeps g m q (h .well .bands) x y hy i))) in
+    record { long = rw (f .panel) (h .long); well = rw (f .pending) (well-owing g m q (h .well)); low = rw (f .pending) (h .low); covered = rw (f .panel, f .pending) c }
+held-after g k s (opens edge) t h f = held-open g t (ap length (f .panel) ∙ h .long) (f .pending)
+held-after g k s (sends j) t h f =
+    by-test (eqb j k)
+    (λ e. held-same g _ t (held-send g s h) (f .screen) (rw e at (f .panel)) (rw e at (f .pending)))
+    (λ e. held-same g s t h (f .screen) (rw e at (f .panel)) (rw e at (f .pending)))
 
 -- ---- no line left: no pixel differs
 

@@ -1,7 +1,7 @@
 -- Calls whose effect is a mark: `write_byte`, `flush`, drawings, the cursor's blink, clearing and pages. What they change on the screen lies in the mark.
 use mathlib.Core.Path.{_≡_, refl, ap, _∙_}
 use mathlib.Core.Logic.{inl, inr}
-use mathlib.Core.Bool.{true, cond}
+use mathlib.Core.Bool.{true}
 use mathlib.Core.List.{List}
 use Prim.Native.Nat.{ℕ, _+_, _-_, _*_, _/_, _%_, _≤_, _<_}
 use native.Mathlib.Nat.{mod-lt, div-lt-iff-lt-mul, mul-comm}
@@ -20,14 +20,14 @@ use Rattle.model.specs.Pixels.{draw, seen}
 use Rattle.model.specs.Record.{State, windowTests, windows, headTests, headFits, encode, withHead, withFlags}
 use Rattle.model.specs.Marks.{whole, owes, marked, Drawing, drawnOn}
 use Rattle.model.specs.Open.{clearFlags}
-use Rattle.model.specs.Text.{withRow, atPlace, withScreenMode, withCursor, clearedState, clearedMemory}
+use Rattle.model.specs.Text.{withRow, atPlace, withScreenMode, clearedState, clearedMemory}
 use Rattle.model.specs.Print.{Page, scrolledTimes, pageOf, screenScrolls, scrollMark, stateWithPage, scrolledMemory, memoryWithPage}
 use Rattle.model.specs.Cursor.{blinkOf, blinkNext, cursorBox, underCursor, blinkDrawing, blinkHead}
 use Rattle.model.specs.Glyphs.{Fonts}
 use Rattle.model.specs.Flush.{flushStores, clearedInText, flushed}
 use Rattle.model.specs.Poke.{ignored, poked, inScreen, pokeMark}
-use Rattle.model.specs.Calls.{writeByte, flush, Lent, lent, edgeIn, answered, drawingWith, drawing, cleared, withPage, blinked, cursorCleared, done}
-use Rattle.model.specs.Lists.{nothing, marks, draws, prints, blinks, effect}
+use Rattle.model.specs.Calls.{writeByte, flush, Lent, lent, edgeIn, answered, drawingWith, drawing, cleared, withPage, done}
+use Rattle.model.specs.Lists.{marks, draws, prints, effect}
 use Rattle.laws.specs.Tests.{if-cases, by-test, either, tests, and-true, and-false, all-true, or-cases}
 use Rattle.laws.specs.Rects.{Fits, passes-fits}
 use Rattle.laws.specs.Pixels.{length-draw}
@@ -41,7 +41,8 @@ use Rattle.laws.specs.Record.{head-tells}
 use Rattle.laws.specs.Cursors.{blink-fits, next-most}
 use Rattle.laws.specs.Boxes.{box-fits}
 use Rattle.laws.specs.Glyphs.{length-paint}
-use Rattle.order.specs.Step.{still-fits, head-formed, page-formed, Lendable, old, screenHeld, Step, screen-long, known, same-step, changed-step, rewritten-step, painted-step}
+use Rattle.laws.specs.Formed.{still-fits, head-formed, page-formed}
+use Rattle.order.specs.Step.{Lendable, old, screenHeld, Step, screen-long, known, rewritten-step, painted-step}
 
 -- the whole screen as a dirty rectangle
 whole-fits : (g : Geometry) → IsGlass g → Fits 256 0 256 (whole (g .stride) (height g))
@@ -70,7 +71,7 @@ module _ (g : Geometry) (k : ℕ) (there : k < g .panels) (l : Lent) (q : Lendab
   abbrev s : State
   s = old g l
 
-  pub poke-step : (a v : ℕ) → Step g k l (effect g k (writeByte a v) l) (done g (writeByte a v) l .left)
+  pub poke-step : (a v : ℕ) → Step g k l (effect g (writeByte a v) l) (done g (writeByte a v) l .left)
   unfolding effect done answered poked
   poke-step a v =
       let m = pokeMark g (s .keys) (s .head .graphics) a in
@@ -84,7 +85,7 @@ module _ (g : Geometry) (k : ℕ) (there : k < g .panels) (l : Lent) (q : Lendab
   long = screen-long g (q .passing .glass) (s .head) (known g l q .head) (l .memory) (q .memory)
 
   -- flush: the screen changes anywhere, and the whole of it is owed
-  pub flush-step : (f : Fonts) → Step g k l (effect g k (flush f) l) (done g (flush f) l .left)
+  pub flush-step : (f : Fonts) → Step g k l (effect g (flush f) l) (done g (flush f) l .left)
   unfolding effect done answered flushed
   flush-step f =
       let m = whole (g .stride) (height g) in
@@ -106,7 +107,7 @@ module _ (g : Geometry) (k : ℕ) (there : k < g .panels) (l : Lent) (q : Lendab
   pub drawing-step : (d : Drawing) → fits 256 0 256 (d .dirty) ≡ true → Step g k l (draws g d) (drawing g d l)
   drawing-step d e = drawing-with (λ h. h) d (known g l q .head) refl e
 
-  -- ---- the cursor: a blink in Text is a drawing, and changes the head besides; in Graph nothing of it reaches the panel
+  -- ---- the cursor: a blink in Text is a drawing, and changes the head besides
 
   -- what it marks fits, also a full one at the last column
   box-in : fits 256 0 256 (blinkDrawing g (edgeIn g l) (s .head) (l .memory) .dirty) ≡ true
@@ -120,22 +121,12 @@ module _ (g : Geometry) (k : ℕ) (there : k < g .panels) (l : Lent) (q : Lendab
       box-fits (g .stride) (height g) (edgeIn g l) (8 * h .column) (16 * h .row) (8 * h .column + 8 * c - 1) (16 * h .row + 15) true Xor
       (omega (arith, z .cursor, t .column)) (omega (arith, z .high, t .row)) (omega (arith, z .cursor, t .column)) (omega (arith, z .high, t .row))
 
-  pub blink-step : Step g k l (blinks g l) (blinked g l)
-  unfolding headFits blinks blinked blinkHead
+  pub blink-step : let d = blinkDrawing g (edgeIn g l) (s .head) (l .memory) in Step g k l (draws g d) (drawingWith g (blinkHead g (l .memory)) d l)
+  unfolding headFits blinkHead
   blink-step =
       let h = s .head in
-      let n = blinkNext (h .cursor) (underCursor g h (l .memory)) in
-      by-test (eqb (h .screen) 0)
-      (λ e. rw e (drawing-with (blinkHead g (l .memory)) (blinkDrawing g (edgeIn g l) h (l .memory))
-      (still-fits g h (known g l q .head) 5 (le-leb n 2 (next-most (h .cursor) (underCursor g h (l .memory))))) refl box-in))
-      (λ e. rw e (same-step g k there l q))
-
-  pub clear-cursor-step : Step g k l (cond (eqb (s .head .cursor) 0) nothing (blinks g l)) (cursorCleared g l)
-  unfolding headFits cursorCleared blinks
-  clear-cursor-step =
-      by-test (eqb (s .head .cursor) 0) (λ e. rw e (same-step g k there l q))
-      (λ e. by-test (eqb (s .head .screen) 0) (λ f. rw (e, f) (rw f at blink-step))
-      (λ f. rw (e, f) (changed-step g k there l q (withCursor 0) (still-fits g (s .head) (known g l q .head) 5 refl) refl)))
+      let u = underCursor g h (l .memory) in
+      drawing-with (blinkHead g (l .memory)) (blinkDrawing g (edgeIn g l) h (l .memory)) (still-fits g h (known g l q .head) 5 (le-leb (blinkNext (h .cursor) u) 2 (next-most (h .cursor) u))) refl box-in
 
   -- ---- text: clearing and each scroll in Graph owe the whole screen; a page that has not scrolled there changes no pixel
 

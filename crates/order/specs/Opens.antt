@@ -1,13 +1,13 @@
 -- Open and reset: memory is cleared, and the whole screen is owed to each panel. Send: the pending part of the panel that it names and its buffer change as the
 -- effect says, and nothing of another panel.
-use mathlib.Core.Path.{_≡_, refl, _∙_}
+use mathlib.Core.Path.{_≡_, refl, sym, _∙_}
 use mathlib.Core.List.{List, []}
 use Prim.Native.Nat.{ℕ, _<_}
 use native.Mathlib.Omega.{arith}
-use lib.Dec.{leb}
+use lib.Dec.{leb, eqb}
 use lib.ListN.{length, set, length-set, getD-replicate}
 use lib.Seq.{getD-set-same, getD-set-other}
-use borrow.Author.Tests.{le-leb}
+use borrow.Author.Tests.{le-leb, eq-eqb, ne-eqb}
 use Rattle.model.specs.Geometry.{Geometry, height, screenBytes, cells, memoryBytes}
 use Rattle.model.specs.Glass.{IsGlass}
 use Rattle.model.specs.Memory.{zeros}
@@ -15,10 +15,10 @@ use Rattle.model.specs.Rects.{none, isEmpty, join}
 use Rattle.model.specs.Record.{nothingPending, panelOf, headTests, headFits, edgeFits, encode, withHead, withPanel, withFlags}
 use Rattle.model.specs.Marks.{whole, updateDirty, marked}
 use Rattle.model.specs.Open.{clearMemory, clearHead, clearFlags, openPending, openState, resetState}
-use Rattle.model.specs.Sends.{sendPending, sendPanel}
+use Rattle.model.specs.Sends.{sendPending}
 use Rattle.model.specs.Calls.{opening, Lent, lent, answered, done}
-use Rattle.model.specs.Lists.{accepted, Typed, nothing, marks, opens, sends, affected, edgeAfter}
-use Rattle.laws.specs.Tests.{and-true, all-true}
+use Rattle.model.specs.Lists.{accepted, Typed, marks, opens, sends, affected, edgeAfter}
+use Rattle.laws.specs.Tests.{if-cases, by-eq, and-true, all-true}
 use Rattle.laws.specs.Calls.{accepted-call}
 use Rattle.laws.specs.Rects.{none-fits}
 use Rattle.laws.specs.Writes.{whole-agrees}
@@ -27,8 +27,9 @@ use Rattle.laws.specs.Record.{head-tells}
 use Rattle.laws.specs.Flags.{length-no-flags}
 use Rattle.laws.specs.Bands.{well-send}
 use Rattle.laws.specs.Opening.{clear-fits, open-formed}
-use Rattle.order.specs.Held.{length-send}
-use Rattle.order.specs.Step.{panel-formed, page-formed, Lendable, old, screenHeld, Step, known, stored, rewritten-step}
+use Rattle.order.specs.Held.{panelAfter, length-send}
+use Rattle.laws.specs.Formed.{panel-formed, page-formed}
+use Rattle.order.specs.Step.{Lendable, old, screenHeld, view, Step, known, stored, rewritten-step}
 
 pub length-clear-memory : (keys : List ℕ) → length (clearMemory keys) ≡ memoryBytes
 unfolding clearMemory
@@ -61,25 +62,20 @@ module _ (g : Geometry) (k : ℕ) (there : k < g .panels) (l : Lent) (q : Lendab
       (length-no-flags (cells g)))
       (length-clear-memory (s .keys)) refl refl refl (none-fits 256 0 256) (whole-agrees (g .stride) (height g) _ _)
 
-  pub send-step : let p = panelOf g (old g l) k in
-      Step g k l sends (lent (encode g (withPanel k (sendPending p) (old g l))) (l .memory) (sendPanel (g .stride) p (screenHeld g l) (l .panel)))
+  -- a send to panel j: its part of the record changes, and the buffer `new` of panel k where j is k
+  pub send-step : (j : ℕ) → j < g .panels → (new : List ℕ) → new ≡ panelAfter g k (view g k l) (sends j)
+      → Step g k l (sends j) (lent (encode g (withPanel j (sendPending (panelOf g (old g l) j)) (old g l))) (l .memory) new)
   unfolding affected edgeAfter
-  send-step =
+  send-step j i new e =
       let s = old g l in
       let w = known g l q in
-      let p = panelOf g s k in
-      stored g k (q .passing .glass) l sends (withPanel k (sendPending p) s) (l .memory) (sendPanel (g .stride) p (screenHeld g l) (l .panel))
-      (panel-formed g s w k (sendPending p) there (well-send g p (w .panels k there))) (q .memory) (length-send (g .stride) (screenHeld g l) (l .panel) p ∙ q .panel)
-      (record { pending = getD-set-same (s .panels) k (sendPending p) (nothingPending g) (omega (arith, w .count)); panel = refl; screen = λ x y hx hy n. refl }) refl
-
-  -- to panel k a send to another panel is nothing
-  pub other-send-step : (j : ℕ) → j < g .panels → (k ≡ j → ⊥) → let p = panelOf g (old g l) j in
-      Step g k l nothing (lent (encode g (withPanel j (sendPending p) (old g l))) (l .memory) (l .panel))
-  unfolding affected edgeAfter
-  other-send-step j i n =
-      let s = old g l in
-      let w = known g l q in
-      let p = panelOf g s j in
-      stored g k (q .passing .glass) l nothing (withPanel j (sendPending p) s) (l .memory) (l .panel)
-      (panel-formed g s w j (sendPending p) i (well-send g p (w .panels j i))) (q .memory) (q .panel)
-      (record { pending = getD-set-other (s .panels) j k (sendPending p) (nothingPending g) n; panel = refl; screen = λ x y hx hy n. refl }) refl
+      let p = sendPending (panelOf g s j) in
+      stored g k (q .passing .glass) l (sends j) (withPanel j p s) (l .memory) new (panel-formed g s w j p i (well-send g (panelOf g s j) (w .panels j i))) (q .memory)
+      (rw e (if-cases (λ (b : List ℕ). length b ≡ screenBytes g) (eqb j k) (λ t. length-send (g .stride) (screenHeld g l) (l .panel) (panelOf g s k) ∙ q .panel) (λ t. q .panel)))
+      (record {
+        pending = by-eq j k
+            (λ t. rw (t, eq-eqb k k refl) (getD-set-same (s .panels) k (sendPending (panelOf g s k)) (nothingPending g) (omega (arith, w .count))))
+            (λ n. rw (ne-eqb j k n) (getD-set-other (s .panels) j k p (nothingPending g) (λ t. n (sym t))));
+        panel = e;
+        screen = λ x y hx hy n. refl;
+      }) refl

@@ -1,74 +1,27 @@
--- What each accepted call is to show: it leaves bytes that can be lent again, and the state of a panel follows by its effect. First, which states stay well formed.
+-- What each accepted call is to show: it leaves bytes that can be lent again, and the state of a panel follows by its effect.
 use mathlib.Core.Path.{_≡_, refl, _∙_}
-use mathlib.Core.Bool.{Bool, true}
-use mathlib.Core.List.{List, [], _∷_}
-use Prim.Native.Nat.{ℕ, zero, suc, _+_, _≤_, _<_}
+use mathlib.Core.Bool.{true}
+use mathlib.Core.List.{List}
+use Prim.Native.Nat.{ℕ, _+_, _≤_, _<_}
 use native.Mathlib.Omega.{arith}
-use lib.ListN.{length, getD, set, length-set}
-use lib.Seq.{getD-set-same, getD-set-other}
+use lib.ListN.{length}
 use Rattle.model.specs.declared.Rect.{Rect}
 use Rattle.model.specs.declared.Head.{Head}
-use Rattle.model.specs.Geometry.{Geometry, height, screenBytes, cells, memoryBytes}
+use Rattle.model.specs.Geometry.{Geometry, height, screenBytes, memoryBytes}
 use Rattle.model.specs.Glass.{IsGlass}
-use Rattle.model.specs.Rects.{every}
 use Rattle.model.specs.Memory.{screenOf, withScreen}
-use Rattle.model.specs.Record.{Pending, State, nothingPending, panelOf, headTests, headFits, decode, encode, withHead, withPanels, withPanel, withFlags, WellPending, WellFormed}
-use Rattle.model.specs.Marks.{updateDirty, owing, owingEach, marked}
+use Rattle.model.specs.Record.{State, nothingPending, panelOf, headFits, decode, encode, withHead, WellFormed}
+use Rattle.model.specs.Marks.{updateDirty, owing, marked}
 use Rattle.model.specs.Calls.{Lent, lent, changed}
 use Rattle.model.specs.Lists.{Effect, nothing, marks, affected, edgeAfter}
-use Rattle.laws.specs.Tests.{by-eq, AllTrue, all-true, true-all}
-use Rattle.laws.specs.Rects.{Fits, join-fits, fits-passes, passes-fits}
+use Rattle.laws.specs.Rects.{Fits}
 use Rattle.laws.specs.ListLaws.{getD-map}
 use Rattle.laws.specs.Memory.{length-window, length-withWindow, window-same}
 use Rattle.laws.specs.Writes.{AgreeOutside}
 use Rattle.laws.specs.Record.{Passing, head-tells, decode-encode}
 use Rattle.laws.specs.States.{well-formed, encode-passing}
-use Rattle.laws.specs.Bands.{well-owing}
-use Rattle.laws.specs.Marking.{each-formed}
+use Rattle.laws.specs.Formed.{head-formed, marked-formed}
 use Rattle.order.specs.Held.{PanelState, Follows}
-
--- ---- a head that passes STATE
-
--- tests that pass, with another in place i that does
-all-set : (l : List Bool) (i : ℕ) {t : Bool} → AllTrue l → t ≡ true → AllTrue (set l i t)
-all-set [] i h e = h
-all-set (s ∷ l) zero h e = (e, h .1)
-all-set (s ∷ l) (suc i) h e = (h .0, all-set l i (h .1) e)
-
--- it passes with another number where the test that reads it passes: row 1, column 2, screen mode 3, print mode 4, cursor 5 and dirty 7 are their places in `headTests`
-pub still-fits : (g : Geometry) (h : Head) → headFits g h ≡ true → (i : ℕ) {t : Bool} → t ≡ true → every (set (headTests g h) i t) ≡ true
-unfolding headFits
-still-fits g h e i {t} p = true-all (set (headTests g h) i t) (all-set (headTests g h) i (all-true (headTests g h) e) p)
-
--- ---- states that stay well formed
-
-module _ (g : Geometry) (s : State) (w : WellFormed g s) where
-  pub head-formed : (h : Head) → headFits g h ≡ true → WellFormed g (withHead h s)
-  head-formed h e = record { head = e; count = w .count; panels = w .panels; words = w .words; keys = w .keys; flags = w .flags; edge = w .edge }
-
-  pub panels-formed : (ps : List Pending) → length ps ≡ g .panels → ((k : ℕ) → k < g .panels → WellPending g (getD ps k (nothingPending g))) → WellFormed g (withPanels ps s)
-  panels-formed ps n f = record { head = w .head; count = n; panels = f; words = w .words; keys = w .keys; flags = w .flags; edge = w .edge }
-
-  -- another panel k, and no other
-  pub panel-formed : (k : ℕ) (p : Pending) → k < g .panels → WellPending g p → WellFormed g (withPanel k p s)
-  panel-formed k p h f =
-      panels-formed (set (s .panels) k p) (length-set (s .panels) k p ∙ w .count)
-      (λ i j. by-eq i k
-      (λ e. rw (e, getD-set-same (s .panels) k p (nothingPending g) (omega (arith, w .count))) f)
-      (λ n. rw (getD-set-other (s .panels) k i p (nothingPending g) n) (w .panels i j)))
-
-  -- another head and other flags
-  pub page-formed : (h : Head) (fs : List Bool) → headFits g h ≡ true → length fs ≡ cells g → WellFormed g (withHead h (withFlags fs s))
-  page-formed h fs e n = record { head = e; count = w .count; panels = w .panels; words = w .words; keys = w .keys; flags = n; edge = w .edge }
-
--- a state marked: the mark reaches each panel; what is joined to dirty fits, and so does the whole
-pub marked-formed : (g : Geometry) (dirty owed : Rect) (s : State) → Fits 256 0 256 dirty → WellFormed g s → WellFormed g (marked g dirty owed s)
-unfolding marked updateDirty headFits
-marked-formed g dirty owed s d w =
-    head-formed g (owingEach g owed s) (each-formed g (owing g owed) s (well-owing g owed) w)
-    (updateDirty dirty (s .head))
-    (still-fits g (s .head) (w .head) 7
-    (fits-passes 256 0 256 _ (join-fits 256 0 256 (s .head .dirty) dirty (passes-fits 256 0 256 (s .head .dirty) (head-tells g (s .head) (w .head) .dirty)) d)))
 
 -- ---- what a call is to show
 
@@ -94,7 +47,7 @@ view g k l = viewOf g k (old g l) (l .memory) (l .panel)
 
 pub record Step (g : Geometry) (k : ℕ) (l : Lent) (e : Effect) (l′ : Lent) : Type 0 where
   pub lendable : Lendable g l′
-  pub follows : Follows g (view g k l) e (view g k l′)
+  pub follows : Follows g k (view g k l) e (view g k l′)
   pub edge : old g l′ .edge ≡ edgeAfter e (old g l .edge)
 
 -- ---- the screen lies in memory
@@ -115,7 +68,7 @@ known g l q = well-formed g (l .rec) (q .passing)
 module _ (g : Geometry) (k : ℕ) where
   -- a new state is written to the record
   pub stored : IsGlass g → (l : Lent) (e : Effect) (s : State) (m p : List ℕ) → WellFormed g s → length m ≡ memoryBytes → length p ≡ screenBytes g
-      → Follows g (view g k l) e (viewOf g k s m p) → s .edge ≡ edgeAfter e (old g l .edge) → Step g k l e (lent (encode g s) m p)
+      → Follows g k (view g k l) e (viewOf g k s m p) → s .edge ≡ edgeAfter e (old g l .edge) → Step g k l e (lent (encode g s) m p)
   stored z l e s m p w hm hp f x = record {
     lendable = record { passing = encode-passing g z s w; memory = hm; panel = hp };
     follows = rw (decode-encode g s z w) f;

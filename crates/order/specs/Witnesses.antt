@@ -19,7 +19,7 @@ use Rattle.model.specs.Marks.{owing, joinOwed}
 use Rattle.model.specs.Open.{isKey, withKeys, clearMemory, openPending, openState}
 use Rattle.model.specs.Sends.{sendPending, takeOwed, firstOwed, restOwed, lineSent, nextLine}
 use Rattle.model.specs.Calls.{Call, opening, reset, cls, send, lent, answered, done}
-use Rattle.model.specs.Lists.{accepted, Typed, Item, here, Buffers, buffers, panelBuffer, lentTo, givenBack, leaves, after, run, effect, affected, effectAt, itemEffect, reckoned, edgeAfter, lastEdge, owedLines, linesLeft, differs, sum, differing}
+use Rattle.model.specs.Lists.{accepted, Typed, Item, here, Buffers, buffers, panelBuffer, lentToSend, lentTo, givenBack, leaves, after, run, effect, affected, effectAt, itemEffect, reckoned, edgeAfter, lastEdge, owedLines, linesLeft, differs, sum, differing}
 use Rattle.model.specs.Script.Output.{noKeys}
 use Rattle.laws.specs.Glasses.{base-glass}
 use Rattle.laws.specs.Bands.{well-owing, owing-adds}
@@ -28,9 +28,11 @@ use Rattle.laws.specs.Calls.{own-decide}
 use Rattle.laws.specs.Record.{decode-encode}
 use Rattle.laws.specs.Opening.{open-formed}
 use Rattle.laws.specs.Counts.{byteDiffers, bytesDiffer, differing-bytes}
+use Rattle.order.specs.Step.{Lendable}
+use Rattle.order.specs.EachCall.{item-step}
 use Rattle.order.specs.Accepted.{acceptedCall, acceptedCalls, named, leaves-done}
 use Rattle.order.specs.Apart.{SentApart, send-apart}
-use Rattle.order.specs.Order.{Standing, standing-item, standing-opened, sendable}
+use Rattle.order.specs.Order.{standing-opened, sendable}
 use Rattle.order.specs.Theorem.{linesIn, screenIn, Promised, calls-in-any-order}
 
 -- the open of the script program (bases 4,096 and 8,192, V2, no keys) is accepted over a record and a memory of any bytes, with both edge flags
@@ -65,14 +67,13 @@ unfolding rounds named
 round-named zero = (refl, refl)
 round-named (suc n) = (ap suc (round-named n .0), round-named n .1)
 
-all-accepted : (b : Buffers) (p : ℕ → Pending) → ((k : ℕ) → k < 4 → Standing base k b (p k)) → (js : List ℕ) (h : Panels js) → acceptedCalls base b (sendsTo js h) ≡ map send js
+all-accepted : (b : Buffers) → ((k : ℕ) → k < 4 → Lendable base (lentToSend k b)) → (js : List ℕ) (h : Panels js) → acceptedCalls base b (sendsTo js h) ≡ map send js
 unfolding acceptedCalls acceptedCall ruled lentTo sendsTo
-all-accepted b p s [] h = refl
-all-accepted b p s (j ∷ js) h =
+all-accepted b q [] h = refl
+all-accepted b q (j ∷ js) h =
     let i = here (send j) (omega (arith, h .0)) in
-    rw (sendable base j (h .0) b (s j (h .0)))
-    (ap (λ (cs : List Call). send j ∷ cs)
-    (all-accepted (after base b i) (λ k. affected base (p k) (itemEffect base k b i)) (λ k there. standing-item base k there b i (p k) (s k there)) js (h .1)))
+    rw (sendable base j (h .0) b (q j (h .0)))
+    (ap (λ (cs : List Call). send j ∷ cs) (all-accepted (after base b i) (λ k there. item-step base k there b (q k there) i .lendable) js (h .1)))
 
 module _ (graphics text version : ℕ) (keys : List ℕ) (edge : ℕ) (t : Typed (opening graphics text version keys edge)) (r m : List ℕ) (ps : List (List ℕ))
     (a : accepted base (opening graphics text version keys edge) (lent r m [])) where
@@ -82,31 +83,33 @@ module _ (graphics text version : ℕ) (keys : List ℕ) (edge : ℕ) (t : Typed
   abbrev first : Item base
   first = here (opening graphics text version keys edge) t
 
-  -- an accepted open owes 80 lines to a panel, a send to it takes the sixteen of the first band in hand and leaves fifteen, and `cls` owes 80 again
-  pub most-lines : (k : ℕ) → k < 4 → length (getD ps k []) ≡ 1600 → (u : Typed (send k)) → linesIn k (run base start (first ∷ here (send k) u ∷ here cls tt ∷ [])) ≡ 95
-  unfolding total lentTo run refusal reckoned itemEffect effectAt effect affected openPending nothingPending sendPending takeOwed firstOwed restOwed lineSent nextLine owing joinOwed
-      join cut isEmpty linesLeft owedLines
-  most-lines k there n u =
-      let promised = calls-in-any-order k there graphics text version keys edge t r m ps a n in
-      let sent = promised (here (send k) u ∷ []) in
-      let b = run base start (first ∷ here (send k) u ∷ []) in
-      let l = lent (b .rec) (b .memory) [] in
-      let clears : accepted base cls l =
-      own-decide base cls l (record { sized = sent .record-length; lengths = eq-eqb (length (b .memory)) 65536 (sent .memory-length); state = (sent .passes, tt) }) in
-      ap linesLeft (promised (here (send k) u ∷ here cls tt ∷ []) .pending) ∙ rw (a, promised [] .sendable, clears, eq-eqb k k refl) refl
+  module _ (k : ℕ) (there : k < 4) (n : length (getD ps k []) ≡ 1600) where
+    promised : (items : List (Item base)) → Promised base k start (first ∷ items) (run base start (first ∷ items))
+    promised = calls-in-any-order k there graphics text version keys edge t r m ps a n
 
-  -- a reset keeps the edge flag
-  pub kept-edge : (k : ℕ) → k < 4 → length (getD ps k []) ≡ 1600 → decode base (run base start (first ∷ here reset tt ∷ []) .rec) .edge ≡ edge
-  unfolding total lentTo run refusal lastEdge edgeAfter itemEffect effectAt effect
-  kept-edge k there n =
-      let promised = calls-in-any-order k there graphics text version keys edge t r m ps a n in
-      let opened = promised [] in
-      let b = run base start (first ∷ []) in
-      let l = lent (b .rec) (b .memory) [] in
-      let resets : accepted base reset l =
-      own-decide base reset l (record { sized = opened .record-length; lengths = eq-eqb (length (b .memory)) 65536 (opened .memory-length); state = (opened .passes, tt) }) in
-      let told : lastEdge base k 0 start (first ∷ here reset tt ∷ []) ≡ edge = rw (a, resets) refl in
-      omega (arith, promised (here reset tt ∷ []) .edge, told)
+    -- an accepted open owes 80 lines to a panel, a send to it takes the sixteen of the first band in hand and leaves fifteen, and `cls` owes 80 again
+    pub most-lines : (u : Typed (send k)) → linesIn base k (run base start (first ∷ here (send k) u ∷ here cls tt ∷ [])) ≡ 95
+    unfolding total lentTo run refusal reckoned itemEffect effectAt effect affected openPending nothingPending sendPending takeOwed firstOwed restOwed lineSent nextLine owing joinOwed
+        join cut isEmpty linesLeft owedLines
+    most-lines u =
+        let sent = promised (here (send k) u ∷ []) in
+        let b = run base start (first ∷ here (send k) u ∷ []) in
+        let l = lent (b .rec) (b .memory) [] in
+        let clears : accepted base cls l =
+        own-decide base cls l (record { sized = sent .record-length; lengths = eq-eqb (length (b .memory)) 65536 (sent .memory-length); state = (sent .passes, tt) }) in
+        ap linesLeft (promised (here (send k) u ∷ here cls tt ∷ []) .pending) ∙ rw (a, promised [] .sendable, clears, eq-eqb k k refl) refl
+
+    -- a reset keeps the edge flag
+    pub kept-edge : decode base (run base start (first ∷ here reset tt ∷ []) .rec) .edge ≡ edge
+    unfolding total lentTo run refusal lastEdge edgeAfter itemEffect effectAt effect
+    kept-edge =
+        let opened = promised [] in
+        let b = run base start (first ∷ []) in
+        let l = lent (b .rec) (b .memory) [] in
+        let resets : accepted base reset l =
+        own-decide base reset l (record { sized = opened .record-length; lengths = eq-eqb (length (b .memory)) 65536 (opened .memory-length); state = (opened .passes, tt) }) in
+        let told : lastEdge base 0 start (first ∷ here reset tt ∷ []) ≡ edge = rw (a, resets) refl in
+        omega (arith, promised (here reset tt ∷ []) .edge, told)
 
   module _ (all : (k : ℕ) → k < 4 → length (getD ps k []) ≡ 1600) where
     abbrev opened : Buffers
@@ -114,34 +117,30 @@ module _ (graphics text version : ℕ) (keys : List ℕ) (edge : ℕ) (t : Typed
 
     -- after the open, sends to any panels are all accepted
     pub any-sends : (js : List ℕ) (h : Panels js) → acceptedCalls base opened (sendsTo js h) ≡ map send js
-    any-sends js h =
-        all-accepted opened (λ k. reckoned base k (nothingPending base) start (first ∷ []))
-        (λ k there. standing-opened base k there base-glass graphics text version keys edge t start a (all k there) []) js h
+    any-sends js h = all-accepted opened (λ k there. standing-opened base k there base-glass graphics text version keys edge t start a (all k there) [] .lendable) js h
 
     -- the open owes each panel 80 lines
-    pub opened-lines : (k : ℕ) → k < 4 → linesIn k opened ≡ 80
+    pub opened-lines : (k : ℕ) → k < 4 → linesIn base k opened ≡ 80
     unfolding run lentTo reckoned itemEffect effectAt effect affected openPending nothingPending owing joinOwed join cut isEmpty linesLeft owedLines
-    opened-lines k there = ap linesLeft (calls-in-any-order k there graphics text version keys edge t r m ps a (all k there) [] .pending) ∙ rw a refl
+    opened-lines k there = ap linesLeft (promised k there (all k there) [] .pending) ∙ rw a refl
 
     -- a send to panel 1 takes one of its lines, and touches nothing of the others
-    pub one-sent : let b = leaves base (send 1) opened in (linesIn 1 b ≡ 79) × SentApart base 1 opened b
+    pub one-sent : let b = leaves base (send 1) opened in (linesIn base 1 b ≡ 79) × SentApart base 1 opened b
     unfolding run after sendsTo named
     one-sent =
         let h : Panels (1 ∷ []) = (omega arith, tt) in
-        let s = standing-opened base 1 (omega arith) base-glass graphics text version keys edge t start a (all 1 (omega arith)) [] in (
-          calls-in-any-order 1 (omega arith) graphics text version keys edge t r m ps a (all 1 (omega arith)) [] .lines (sendsTo (1 ∷ []) h) (1 ∷ []) (any-sends (1 ∷ []) h)
-              ∙ omega (arith, opened-lines 1 (omega arith)),
-          send-apart base base-glass 1 opened (s .lendable .passing .bytes) (sendable base 1 (omega arith) opened s),
+        let q = standing-opened base 1 (omega arith) base-glass graphics text version keys edge t start a (all 1 (omega arith)) [] .lendable in (
+          promised 1 (omega arith) (all 1 (omega arith)) [] .lines (sendsTo (1 ∷ []) h) (1 ∷ []) (any-sends (1 ∷ []) h) ∙ omega (arith, opened-lines 1 (omega arith)),
+          send-apart base base-glass 1 opened (q .passing .bytes) (sendable base 1 (omega arith) opened q),
         )
 
     -- eighty rounds of sends to panels 3, 0 and 1: panel 0 is level, panel 2, which none of them names, has its 80 lines still to come
-    pub polled-between : let b = run base opened (sendsTo (rounds 80) (round-panels 80)) in (differing base (screenIn b) (panelBuffer 0 b) ≡ 0) × (linesIn 2 b ≡ 80)
+    pub polled-between : let b = run base opened (sendsTo (rounds 80) (round-panels 80)) in (differing base (screenIn base b) (panelBuffer 0 b) ≡ 0) × (linesIn base 2 b ≡ 80)
     polled-between =
         let e = any-sends (rounds 80) (round-panels 80) in
-        let promised : (k : ℕ) (there : k < 4) → Promised k start (first ∷ []) opened = λ k there. calls-in-any-order k there graphics text version keys edge t r m ps a (all k there) [] in
         let counted = round-named 80 in (
-          promised 0 (omega arith) .level (sendsTo (rounds 80) (round-panels 80)) (rounds 80) e (omega (arith, opened-lines 0 (omega arith))),
-          promised 2 (omega arith) .lines (sendsTo (rounds 80) (round-panels 80)) (rounds 80) e ∙ omega (arith, opened-lines 2 (omega arith)),
+          promised 0 (omega arith) (all 0 (omega arith)) [] .level (sendsTo (rounds 80) (round-panels 80)) (rounds 80) e (omega (arith, opened-lines 0 (omega arith))),
+          promised 2 (omega arith) (all 2 (omega arith)) [] .lines (sendsTo (rounds 80) (round-panels 80)) (rounds 80) e ∙ omega (arith, opened-lines 2 (omega arith)),
         )
 
 -- ---- what the bands are for
@@ -167,7 +166,7 @@ may-open = accepted-open 0 (zeros 359) (zeros 65536) refl (length-zeros 359) (le
 full : (k : ℕ) → k < 4 → length (getD (replicate 4 ones) k []) ≡ 1600
 full k there = rw (getD-replicate 4 k ones [] there) (length-replicate {A = ℕ} 1600 255)
 
-pub a-list-of-most-lines : linesIn 3 (run base fresh (open-it ∷ here (send 3) (omega arith) ∷ here cls tt ∷ [])) ≡ 95
+pub a-list-of-most-lines : linesIn base 3 (run base fresh (open-it ∷ here (send 3) (omega arith) ∷ here cls tt ∷ [])) ≡ 95
 a-list-of-most-lines =
     most-lines 4096 8192 1 noKeys 0 (refl, omega arith) (zeros 359) (zeros 65536) (replicate 4 ones) may-open 3 (omega arith) (full 3 (omega arith)) (omega arith)
 
@@ -180,7 +179,7 @@ unfolding zeros bytesDiffer byteDiffers sum differs bitAt
 ones-differ = differing-bytes base (zeros 1600) ones refl refl
 
 -- after the open every pixel of panel 0 differs ..
-pub all-differ : let b = run base fresh (open-it ∷ []) in differing base (screenIn b) (panelBuffer 0 b) ≡ 12800
+pub all-differ : let b = run base fresh (open-it ∷ []) in differing base (screenIn base b) (panelBuffer 0 b) ≡ 12800
 unfolding run after lentTo givenBack done answered openState windows
 all-differ =
     let c = opening 4096 8192 1 noKeys 0 in
@@ -188,5 +187,5 @@ all-differ =
     rw (leaves-done base c fresh may-open, decode-encode base (openState base 4096 8192 1 noKeys 0) base-glass w, cleared-screen) ones-differ
 
 -- .. and after the rounds none
-pub none-differs : let b = run base (run base fresh (open-it ∷ [])) (sendsTo (rounds 80) (round-panels 80)) in differing base (screenIn b) (panelBuffer 0 b) ≡ 0
+pub none-differs : let b = run base (run base fresh (open-it ∷ [])) (sendsTo (rounds 80) (round-panels 80)) in differing base (screenIn base b) (panelBuffer 0 b) ≡ 0
 none-differs = polled-between 4096 8192 1 noKeys 0 (refl, omega arith) (zeros 359) (zeros 65536) (replicate 4 ones) may-open full .0

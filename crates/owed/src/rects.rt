@@ -80,7 +80,7 @@ pub fn store_rect(bytes: &mut [u8], at: usize, q: Rect)
 }
 
 // The rectangle that begins at byte `at`, joined with q, which is not empty. Each side is stored by itself: eight bytes put together of them cost more.
-fn join_rect(bytes: &mut [u8], at: usize, q: Rect)
+pub fn join_rect(bytes: &mut [u8], at: usize, q: Rect)
     requires { ⌜ at + 8 ≤ length (now bytes) ⌝ }
     requires { ⌜ isEmpty q ≡ false ⌝ }
     ensures { λ _. ⌜ now (bytes .exit) ≡ joinedAt at q (now (bytes .entry)) ⌝ }

@@ -8,16 +8,16 @@ use native.Mathlib.Omega.{arith}
 use lib.ListN.{length, replicate, getD-replicate}
 use borrow.Author.Tests.{eq-eqb, le-leb}
 use Rattle.model.specs.declared.Rect.{Rect}
-use Rattle.model.specs.declared.Edge.{Edge}
 use Rattle.model.specs.Geometry.{base}
-use Rattle.model.specs.Pixels.{PixelWrite, draw, seen}
+use Rattle.model.specs.Pixels.{PixelWrite, draw as drawPixels, seen}
 use Rattle.model.specs.Rects.{isEmpty, join}
 use Rattle.model.specs.Memory.{screenOf, withScreen}
 use Rattle.model.specs.Record.{Pending, State, nothingPending, panelOf, windows, total, decode, encode, withHead, withPanels, WellFormed}
 use Rattle.model.specs.Marks.{withDirty, updateDirty, joinOwed, owing, owes, marked, Drawing, drawnOn}
 use Rattle.model.specs.Open.{openState}
 use Rattle.model.specs.Lines.{edgeOf}
-use Rattle.model.specs.Calls.{Call, Lent, lent, answered, Lending, with-memory, takes, edgeIn, lengthsFit, ownTests, drawingWith, drawing, done, outcome}
+use Rattle.model.specs.Shapes.{Shape, shapeTests, drawingOf}
+use Rattle.model.specs.Calls.{Call, draw, Lent, lent, answered, Lending, with-memory, takes, lengthsFit, ownTests, drawingWith, drawing, done, outcome}
 use Rattle.model.specs.Script.Output.{noKeys}
 use Rattle.laws.specs.Rects.{Fits}
 use Rattle.laws.specs.Calls.{AllPass, pass-accepted, Tested, own-decide, outcome-done}
@@ -28,7 +28,8 @@ use Rattle.laws.specs.Record.{Passing, decode-encode}
 use Rattle.laws.specs.Glasses.{base-glass}
 use Rattle.laws.specs.States.{well-formed, encode-passing}
 use Rattle.laws.specs.Bands.{well-nothing}
-use Rattle.order.specs.Step.{panels-formed, marked-formed, screen-in, screen-long}
+use Rattle.laws.specs.Formed.{panels-formed, marked-formed}
+use Rattle.order.specs.Step.{screen-in, screen-long}
 use Rattle.laws.specs.Opening.{open-formed}
 use Rattle.pictures.specs.Picture.{nothing, screenIn, graphicsIn, edgeFlag, Unmarked, withOwed, withMarks, Changed, Leaves, Drew}
 use Rattle.pictures.specs.Writes.{pictured, pictured-changed}
@@ -148,18 +149,15 @@ module _ (l : Lent) (u : Unmarked l) where
         panel = refl;
       })
 
-  pub drew : (c : Call) (d : Drawing) (ps : List PixelWrite) (dirty : Rect) (owed : List Rect) → takes c ≡ with-memory → AllPass (ownTests base c l)
-      → done base c l ≡ answered 0 [] (drawing base d l) → Fits 256 0 256 dirty → d .dirty ≡ dirty → byBands (owedOnScreen d) ≡ owed
-      → pictured (seen 20 80 (d .writes)) ps ≡ true → Drew l ps dirty owed (outcome base c l)
-  unfolding drawingWith drawnOn
-  drew c d ps dirty owed t a k f e o p =
+  -- a shape, with the edge flag n
+  pub drew : {n : ℕ} (z : Shape) {ps : List PixelWrite} {dirty : Rect} {owed : List Rect} → let d = drawingOf base (edgeOf n) (l .memory) z in
+      edgeFlag l ≡ n → AllPass (shapeTests z) → Fits 256 0 256 dirty → d .dirty ≡ dirty → byBands (owedOnScreen d) ≡ owed
+      → pictured (seen 20 80 (d .writes)) ps ≡ true → Drew l ps dirty owed (outcome base (draw z) l)
+  unfolding done drawingWith drawnOn
+  drew {n} z {ps} {dirty} {owed} i a f e o p =
+      let d = drawingOf base (edgeOf n) (l .memory) z in
       let ws = seen 20 80 (d .writes) in
       let long = screen-long base base-glass (s .head) (formed .head) (l .memory) (u .memory) in
-      leaves c (Changed ps (screenIn l)) (draw 20 ws (screenIn l)) (d .dirty) (owedOnScreen d) dirty owed (done-on c t a ∙ k)
+      leaves (draw z) (Changed ps (screenIn l)) (drawPixels 20 ws (screenIn l)) (d .dirty) (owedOnScreen d) dirty owed
+      (done-on (draw z) refl a ∙ ap (λ (j : ℕ). answered 0 [] (drawing base (drawingOf base (edgeOf j) (l .memory) z) l)) i)
       (length-draw 20 ws (screenIn l) ∙ long) f e o (pictured-changed ws ps (screenIn l) long p)
-
-  -- a drawing by the edge flag n
-  pub drew-by : (n : ℕ) (c : Call) (d : Edge → Drawing) (ps : List PixelWrite) (dirty : Rect) (owed : List Rect) → edgeFlag l ≡ n → takes c ≡ with-memory → AllPass (ownTests base c l)
-      → done base c l ≡ answered 0 [] (drawing base (d (edgeIn base l)) l) → Fits 256 0 256 dirty → d (edgeOf n) .dirty ≡ dirty → byBands (owedOnScreen (d (edgeOf n))) ≡ owed
-      → pictured (seen 20 80 (d (edgeOf n) .writes)) ps ≡ true → Drew l ps dirty owed (outcome base c l)
-  drew-by n c d ps dirty owed i t a k = drew c (d (edgeOf n)) ps dirty owed t a (k ∙ ap (λ (j : ℕ). answered 0 [] (drawing base (d (edgeOf j)) l)) i)

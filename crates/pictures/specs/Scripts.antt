@@ -10,16 +10,17 @@ use lib.ListN.{length, length-set}
 use borrow.Author.Tests.{le-leb, lt-ltb, eq-eqb}
 use Rattle.model.specs.Geometry.{base}
 use Rattle.model.specs.Bits.{bitAt, withBit}
-use Rattle.model.specs.Pixels.{bit, put, onScreen, writePixel, draw, seen, copyRun}
+use Rattle.model.specs.Pixels.{bit, put, onScreen, writePixel, draw as drawPixels, seen, copyRun}
 use Rattle.model.specs.Rects.{inside, isEmpty, join, cut}
 use Rattle.model.specs.Memory.{zeros, screenOf, withScreen}
 use Rattle.model.specs.Record.{State, nothingPending, panelOf, windows, encode, withPanel, WellFormed}
 use Rattle.model.specs.Refusals.{refusal}
 use Rattle.model.specs.Marks.{updateDirty, joinOwed, owing, within, owes, marked, drawnOn}
 use Rattle.model.specs.Open.{clearMemory, openPending, openState}
-use Rattle.model.specs.Points.{pointOp, pointRect, point}
+use Rattle.model.specs.Points.{pointOp, pointRect, point as pointDrawing}
 use Rattle.model.specs.Sends.{firstOwed, restOwed, takeOwed, nextLine, lineSent, sendPending, lineNumbers, sendNumbers, copyLine, sendPanel}
-use Rattle.model.specs.Calls.{Call, drawPoint, send, Lent, lent, answered, drawingWith, done, outcome}
+use Rattle.model.specs.Shapes.{point}
+use Rattle.model.specs.Calls.{Call, draw, send, Lent, lent, answered, drawingWith, done, outcome}
 use Rattle.model.specs.Lists.{owedLines, linesLeft, differs, sum, differing}
 use Rattle.model.specs.Characters.{bytesOf}
 use Rattle.model.specs.Script.Read.{ScriptLine, onFirst, scriptLines, isDigit, goesOn, takeDigits, atMost, takeNumber, takeWord, orTaken, takeMode, takePiece, isField, withField, andThen, matched, callLine, ifMatched, readLine, readScript}
@@ -32,7 +33,7 @@ use Rattle.laws.specs.Memory.{length-withWindow, window-same}
 use Rattle.laws.specs.Loops.{length-zeros}
 use Rattle.laws.specs.Counts.{byteDiffers, bytesDiffer, differing-bytes}
 use Rattle.laws.specs.Bands.{well-send}
-use Rattle.order.specs.Step.{panel-formed, marked-formed}
+use Rattle.laws.specs.Formed.{panel-formed, marked-formed}
 use Rattle.laws.specs.Opening.{open-formed}
 use Rattle.order.specs.Opens.{length-clear-memory}
 use Rattle.order.specs.Witnesses.{cleared-screen}
@@ -73,14 +74,14 @@ unfoldable dottedMemory : ℕ → List ℕ → List ℕ
 dottedMemory y m = withScreen 4096 (dotted y (screenOf base 4096 m)) m
 
 module _ (s : State) (w : WellFormed base s) (m p : List ℕ) (hm : length m ≡ 65536) where
-  point-done : (y : ℕ) → y < 80 → s .head .graphics ≡ 4096 → outcome base (drawPoint 3 y 1) (lent (encode base s) m p)
+  point-done : (y : ℕ) → y < 80 → s .head .graphics ≡ 4096 → outcome base (draw (point 3 y 1)) (lent (encode base s) m p)
       ≡ answered 0 [] (lent (encode base (pointed y s)) (dottedMemory y m) p)
-  unfolding refusal done drawingWith drawnOn point pointRect pointOp onScreen seen draw writePixel owes within inside dotted dottedMemory pointed
+  unfolding refusal done drawingWith drawnOn pointDrawing pointRect pointOp onScreen seen drawPixels writePixel owes within inside dotted dottedMemory pointed
   point-done y h g =
       let l = lent (encode base s) m p in
       let q = encode-passing base base-glass s w in
-      let t = own-decide base (drawPoint 3 y 1) l (record { sized = q .sized; lengths = eq-eqb (length m) 65536 hm; state = (q .passes, tt) }) in
-      rw (outcome-done base (drawPoint 3 y 1) l t, decode-encode base s base-glass w, lt-ltb y 80 h, le-leb y y (omega arith), lt-ltb y (y + 1) (omega arith), g)
+      let t = own-decide base (draw (point 3 y 1)) l (record { sized = q .sized; lengths = eq-eqb (length m) 65536 hm; state = (q .passes, tt) }) in
+      rw (outcome-done base (draw (point 3 y 1)) l t, decode-encode base s base-glass w, lt-ltb y 80 h, le-leb y y (omega arith), lt-ltb y (y + 1) (omega arith), g)
 
   send-done : length p ≡ 1600 → outcome base (send 0) (lent (encode base s) m p)
       ≡ answered 0 (sendNumbers (panelOf base s 0)) (lent (encode base (sentOf s)) m (sendPanel 20 (panelOf base s 0) (screenOf base (s .head .graphics) m) p))
@@ -151,7 +152,7 @@ abbrev firstAnswer : List ℕ
 firstAnswer = 1 ∷ 0 ∷ 0 ∷ 160 ∷ []
 
 abbrev pointLine : ℕ → ScriptLine
-pointLine y = callLine (drawPoint 3 y 1)
+pointLine y = callLine (draw (point 3 y 1))
 
 abbrev sendLine : ScriptLine
 sendLine = callLine (send 0)
@@ -169,7 +170,7 @@ module _ (m : List ℕ) (hm : length m ≡ 65536) (e : screenOf base 4096 m ≡ 
       let m′ = dottedMemory 0 m in
       let screen = dotted-screen m hm (zeros 1600) e (length-zeros 1600) 0 in
       let memory = dotted-memory m hm (zeros 1600) e (length-zeros 1600) 0 in
-      line-then 1 (drawPoint 3 0 1) (sendLine ∷ []) start (lent (encode base s) m′ (zeros 1600)) [] (point-done openedState opened-formed m (zeros 1600) hm 0 (omega arith) refl)
+      line-then 1 (draw (point 3 0 1)) (sendLine ∷ []) start (lent (encode base s) m′ (zeros 1600)) [] (point-done openedState opened-formed m (zeros 1600) hm 0 (omega arith) refl)
       ∙ ap (λ (t : List ℕ). said 0 [] ++ t)
       (line-then 2 (send 0) [] (lent (encode base s) m′ (zeros 1600)) (lent (encode base (sentOf s)) m′ (firstLine (screenOf base 4096 m′))) firstAnswer (send-done s w m′ (zeros 1600) memory (length-zeros 1600))
       ∙ ap (λ (t : List ℕ). said 0 firstAnswer ++ t) (end-line 3 (sentOf s) (sent-formed s w) m′ (firstLine (screenOf base 4096 m′)) (dotted 0 (zeros 1600)) 0 79 screen (rw screen none-left) refl))
@@ -186,7 +187,7 @@ module _ (m : List ℕ) (hm : length m ≡ 65536) (e : screenOf base 4096 m ≡ 
       ≡ said 0 [] ++ runLinesFrom 3 rest (lent (encode base (pointed 0 (sentOf openedState))) (dottedMemory 0 m) (firstLine (zeros 1600)))
   unfolding openedState openState sentOf
   then-point rest =
-      line-then 2 (drawPoint 3 0 1) rest (lent (encode base (sentOf openedState)) m (firstLine (zeros 1600))) (lent (encode base (pointed 0 (sentOf openedState))) (dottedMemory 0 m) (firstLine (zeros 1600))) []
+      line-then 2 (draw (point 3 0 1)) rest (lent (encode base (sentOf openedState)) m (firstLine (zeros 1600))) (lent (encode base (pointed 0 (sentOf openedState))) (dottedMemory 0 m) (firstLine (zeros 1600))) []
       (point-done (sentOf openedState) (sent-formed openedState opened-formed) m (firstLine (zeros 1600)) hm 0 (omega arith) refl)
 
   abbrev after-point : State
@@ -208,7 +209,7 @@ module _ (m : List ℕ) (hm : length m ≡ 65536) (e : screenOf base 4096 m ≡ 
       let m′ = dottedMemory 0 m in
       let screen = dotted-screen m hm (zeros 1600) e (length-zeros 1600) 0 in
       let memory = dotted-memory m hm (zeros 1600) e (length-zeros 1600) 0 in
-      line-then 3 (drawPoint 3 79 1) [] (lent (encode base after-point) m′ p) (lent (encode base s) (dottedMemory 79 m′) p) [] (point-done after-point after-formed m′ p memory 79 (omega arith) refl)
+      line-then 3 (draw (point 3 79 1)) [] (lent (encode base after-point) m′ p) (lent (encode base s) (dottedMemory 79 m′) p) [] (point-done after-point after-formed m′ p memory 79 (omega arith) refl)
       ∙ ap (λ (t : List ℕ). said 0 [] ++ t)
       (end-line 4 s (pointed-formed 79 (omega arith) after-point after-formed) (dottedMemory 79 m′) p (dotted 79 (dotted 0 (zeros 1600))) 2 80
       (dotted-screen m′ memory (dotted 0 (zeros 1600)) screen (dotted-zeros 0) 79) points-left refl)

@@ -20,7 +20,6 @@ use Rattle.model.specs.Refusals.{LENT, STATE, refusal}
 use Rattle.model.specs.Calls.{lentTest, stateTest}
 use Rattle.laws.specs.Tests.{and-true}
 use Rattle.laws.specs.Windows.{head-part}
-use Rattle.record.specs.declared.entry.Entry.{Entry}
 use Rattle.record.specs.Entry.{Chosen, Entered}
 
 -- ---- the entry
@@ -36,30 +35,23 @@ module _ {v : Glass} (others : Bool) (r : List ℕ) (k : Chosen (length r) v) wh
   valid-as : {t u : Bool} → t ≡ valid (geometry v) r → t ≡ u → valid (glassOf (length r)) r ≡ u
   valid-as g j = ap (λ (x : Geometry). valid x r) (sym (k .glass)) ∙ sym g ∙ j
 
-  pub enters : {h : Head} {t : Bool} → ((i : ℕ) → getD r i 0 < 256) → (eqb (length r) (v .bytes) && others) ≡ true → h ≡ headOf r → t ≡ valid (geometry v) r → t ≡ true
-      → Entered others r (record { code = 0; head = h })
-  unfolding refusal decode Bytes
-  enters b e f g j =
+  pub enters : {t : Bool} → ((i : ℕ) → getD r i 0 < 256) → (eqb (length r) (v .bytes) && others) ≡ true → t ≡ valid (geometry v) r → t ≡ true → Entered others r 0
+  unfolding refusal Bytes
+  enters b e g j =
       record {
         code = rw (lent-as e, valid-as g j);
-        lent = λ z. and-true (eqb (length r) (v .bytes)) others e .1;
         passing = λ z. record { glass = rw (k .glass) at (k .suits .glass); sized = lent-sized others r k e ∙ ap recordBytes (k .glass); bytes = b; passes = valid-as g j };
-        head = λ z. f ∙ sym (head-part (glassOf (length r)) r);
       }
 
-  -- a refusal's number and nothing more
-  refuses : {e : Entry} (n : ℕ) → (n ≡ 0 → ⊥) → refusal (lentTest (glassOf (length r)) r others ∷ stateTest (glassOf (length r)) r ∷ []) ≡ n → e .code ≡ n → Entered others r e
-  refuses n h t f = record { code = f ∙ sym t; lent = λ z. absurd (h (sym f ∙ z)); passing = λ z. absurd (h (sym f ∙ z)); head = λ z. absurd (h (sym f ∙ z)) }
-
-  pub breaks-state : {t : Bool} {e : Entry} → (eqb (length r) (v .bytes) && others) ≡ true → t ≡ valid (geometry v) r → t ≡ false → e .code ≡ STATE → Entered others r e
+  pub breaks-state : {t : Bool} → (eqb (length r) (v .bytes) && others) ≡ true → t ≡ valid (geometry v) r → t ≡ false → Entered others r STATE
   unfolding refusal
-  breaks-state s g j f = refuses STATE (λ z. omega arith) (rw (lent-as s, valid-as g j)) f
+  breaks-state s g j = record { code = rw (lent-as s, valid-as g j); passing = λ z. absurd (omega arith) }
 
-  pub breaks-lent : {e : Entry} → (eqb (length r) (v .bytes) && others) ≡ false → e .code ≡ LENT → Entered others r e
+  pub breaks-lent : (eqb (length r) (v .bytes) && others) ≡ false → Entered others r LENT
   unfolding refusal
-  breaks-lent s f = refuses LENT (λ z. omega arith) (rw (lent-as s)) f
+  breaks-lent s = record { code = rw (lent-as s); passing = λ z. absurd (omega arith) }
 
--- ---- the head that open, reset and a refusal have
+-- ---- the head that open and reset leave
 
 pub is-clear-head : (graphics text version : ℕ) {q : Rect} → q ≡ none
     → record { graphics = graphics; text = text; row = 0; column = 0; screen = 0; print = 0; cursor = 0; version = version; dirty = q } ≡ clearHead graphics text version

@@ -1,58 +1,67 @@
--- A store by the numbers of the glass that was chosen is one for the glass that the record's length tells.
-use mathlib.Core.Path.{_≡_, sym, ap, _∙_}
+-- Stores over a record that passes, for the glass that its length tells: what they leave passes where its state is well formed, and two of them are one.
+use mathlib.Core.Path.{_≡_, refl, sym, ap, subst, _∙_}
 use mathlib.Core.List.{List}
 use Prim.Native.Nat.{ℕ, _≤_}
 use lib.ListN.{length}
-use Rattle.model.specs.declared.Canvas.{Canvas}
 use Rattle.model.specs.declared.Head.{Head}
 use Rattle.model.specs.declared.glass.Glass.{Glass}
 use Rattle.model.specs.Geometry.{Geometry}
-use Rattle.model.specs.Glass.{geometry, canvas, glassOf, Suits}
-use Rattle.model.specs.Marks.{whole}
+use Rattle.model.specs.Glass.{geometry, glassOf}
 use Rattle.model.specs.Memory.{withWindow}
-use Rattle.model.specs.Record.{headBytes, State, decode, encode, bytesOfHead, withHead}
-use Rattle.laws.specs.Record.{Passing, put-head, encode-decode, sized-decode}
-use Rattle.laws.specs.Panels.{Known}
-use Rattle.laws.specs.Updates.{head-in, whole-of}
+use Rattle.model.specs.Record.{headBytes, recordBytes, bytesOfHead, State, decode, encode, WellFormed}
+use Rattle.laws.specs.Record.{Passing, decode-encode}
+use Rattle.laws.specs.States.{encode-passing}
+use Rattle.laws.specs.Updates.{head-in, in-head}
 use Rattle.record.specs.Entry.{Chosen}
-use Rattle.record.specs.Update.{updated}
-
-pub known-glass : {v : Glass} {r : List ℕ} → Chosen (length r) v → Passing (glassOf (length r)) r → Known v r
-known-glass k p = record { suits = k .suits; passing = rw (k .glass) p }
-
-pub passes-for : {v : Glass} {r : List ℕ} → Chosen (length r) v → Known v r → Passing (glassOf (length r)) r
-passes-for k n = rw (← k .glass) (n .passing)
-
-pub head-for : {v : Glass} (r : List ℕ) {h : Head} → Chosen (length r) v → h ≡ decode (glassOf (length r)) r .head → h ≡ decode (geometry v) r .head
-head-for r k e = e ∙ ap (λ (g : Geometry). decode g r .head) (sym (k .glass))
-
-pub whole-for : {v : Glass} {k : Canvas} → Suits v → k ≡ canvas v → whole (k .stride) (k .height) ≡ whole (v .stride) (v .height)
-whole-for {v} z e = whole-of v e
+use Rattle.record.specs.Update.{updated, onHead}
 
 -- what is as long has the same glass
 pub chosen-as : {v : Glass} {n m : ℕ} → m ≡ n → Chosen n v → Chosen m v
 chosen-as e k = rw e k
 
--- another record of the same glass has its length
-pub still-chosen : {v : Glass} {r s : List ℕ} → Known v r → Known v s → Chosen (length r) v → Chosen (length s) v
-still-chosen n m k = rw (m .passing .sized ∙ sym (n .passing .sized)) k
+pub passes-as : {v : Glass} {n : ℕ} (s : List ℕ) → Chosen n v → length s ≡ n → Passing (geometry v) s → Passing (glassOf (length s)) s
+passes-as s k e p = subst (λ (g : Geometry). Passing g s) (k .glass ∙ ap glassOf (sym e)) p
 
-module _ {v : Glass} (r : List ℕ) {s : List ℕ} (f : Geometry → State → State) (k : Chosen (length r) v) where
-  pub updates : s ≡ encode (geometry v) (f (geometry v) (decode (geometry v) r)) → s ≡ updated f r
-  unfolding updated
-  updates e = e ∙ ap (λ (g : Geometry). encode g (f g (decode g r))) (k .glass)
+-- and its record the same length
+pub sized-for : {v : Glass} (r : List ℕ) → Chosen (length r) v → length r ≡ recordBytes (glassOf (length r)) → length r ≡ recordBytes (geometry v)
+sized-for r k e = e ∙ sym (ap recordBytes (k .glass))
 
-  pub updated-for : s ≡ updated f r → s ≡ encode (geometry v) (f (geometry v) (decode (geometry v) r))
-  unfolding updated
-  updated-for e = e ∙ ap (λ (g : Geometry). encode g (f g (decode g r))) (sym (k .glass))
-
--- ---- another head
+pub passes-for : {v : Glass} {r : List ℕ} → Chosen (length r) v → Passing (glassOf (length r)) r → Passing (geometry v) r
+passes-for k p = rw (k .glass) p
 
 pub head-there : {r : List ℕ} → Passing (glassOf (length r)) r → headBytes ≤ length r
 head-there {r} p = rw (p .sized) (head-in (glassOf (length r)))
 
-pub sets-head : {r : List ℕ} (n : Head) {s : List ℕ} → Passing (glassOf (length r)) r → s ≡ withWindow 0 (bytesOfHead n) r → s ≡ updated (λ g s. withHead n s) r
+-- the glass that was chosen is the one that the length tells
+pub updates : {v : Glass} (r : List ℕ) {s : List ℕ} (f : Geometry → State → State) → Chosen (length r) v → s ≡ encode (geometry v) (f (geometry v) (decode (geometry v) r)) → s ≡ updated f r
 unfolding updated
-sets-head {r} n p e =
-    let g = glassOf (length r) in
-    e ∙ ap (withWindow 0 (bytesOfHead n)) (sym (encode-decode g r p)) ∙ put-head g n (decode g r) (p .glass) (sized-decode g r (p .sized))
+updates r f k e = e ∙ ap (λ (g : Geometry). encode g (f g (decode g r))) (k .glass)
+
+pub updated-for : {v : Glass} (r : List ℕ) {s : List ℕ} (f : Geometry → State → State) → Chosen (length r) v → s ≡ updated f r → s ≡ encode (geometry v) (f (geometry v) (decode (geometry v) r))
+unfolding updated
+updated-for r f k e = e ∙ ap (λ (g : Geometry). encode g (f g (decode g r))) (sym (k .glass))
+
+-- another head
+pub sets-head : {r s : List ℕ} (h : Head) → Passing (glassOf (length r)) r → s ≡ withWindow 0 (bytesOfHead h) r → s ≡ updated (onHead (λ x. h)) r
+unfolding updated
+sets-head {r} h p e = e ∙ in-head (glassOf (length r)) r p (withWindow 0 (bytesOfHead h)) (λ x. h) refl
+
+-- a store that leaves a well formed state, and another one after it
+module _ {r s : List ℕ} (f : Geometry → State → State) (p : Passing (glassOf (length r)) r) (w : WellFormed (glassOf (length r)) (f (glassOf (length r)) (decode (glassOf (length r)) r)))
+    (e : s ≡ updated f r) where
+  passes : Passing (glassOf (length r)) s
+  unfolding updated
+  passes = subst (Passing (glassOf (length r))) (sym e) (encode-passing (glassOf (length r)) (p .glass) _ w)
+
+  long : length s ≡ length r
+  long = passes .sized ∙ sym (p .sized)
+
+  pub still-passes : Passing (glassOf (length s)) s
+  still-passes = subst (λ (n : ℕ). Passing (glassOf n) s) (sym long) passes
+
+  pub then-updated : (h : Geometry → State → State) {t : List ℕ} → t ≡ updated h s → t ≡ updated (λ g x. h g (f g x)) r
+  unfolding updated
+  then-updated h q =
+      let g = glassOf (length r) in
+      q ∙ ap (λ (n : ℕ). encode (glassOf n) (h (glassOf n) (decode (glassOf n) s))) long
+      ∙ ap (λ (x : State). encode g (h g x)) (ap (decode g) e ∙ decode-encode g _ (p .glass) w)

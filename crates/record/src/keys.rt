@@ -1,8 +1,9 @@
 // Key addresses, and memory as `new` and `reset` leave it.
+use crate::glass;
 use model::glass::Glass;
 ghost use mathlib.Core.Path.{_≡_};
 ghost use lib.ListN.{length};
-ghost use Rattle.model.specs.Glass.{geometry, Suits};
+ghost use Rattle.model.specs.Glass.{geometry, glassOf, Suits};
 ghost use Rattle.model.specs.Record.{recordBytes, decode};
 ghost use Rattle.model.specs.Open.{isKey, withKeys, clearMemory};
 
@@ -34,12 +35,11 @@ fn write_keys(rec: &[u8], glass: Glass, memory: &mut [u8])
     }
 }
 
-pub fn clear_memory(rec: &[u8], glass: Glass, memory: &mut [u8])
-    requires { ⌜ Suits glass ⌝ }
-    requires { ⌜ (length (now rec) ≡ recordBytes (geometry glass)) × (length (now memory) ≡ 65536) ⌝ }
-    ensures { λ _. ⌜ now (memory .exit) ≡ clearMemory (decode (geometry glass) (now (rec .entry)) .keys) ⌝ }
+pub fn clear_memory(rec: &[u8], memory: &mut [u8])
+    requires { ⌜ (length (now rec) ≡ recordBytes (glassOf (length (now rec)))) × (length (now memory) ≡ 65536) ⌝ }
+    ensures { λ _. ⌜ now (memory .exit) ≡ clearMemory (decode (glassOf (length (now (rec .entry)))) (now (rec .entry)) .keys) ⌝ }
 {
     slices::clear(memory);
     memory[65535] = 64;
-    write_keys(rec, glass, memory);
+    write_keys(rec, glass::glass_of(rec.len()), memory);
 }

@@ -1,6 +1,7 @@
 // The lent record: the glass that it is for, its fields read and written in place, its panels marked, the STATE test, and the entry of every call.
 pub mod entry;
 pub mod glass;
+pub mod head;
 pub mod keys;
 pub mod layout;
 pub mod open;

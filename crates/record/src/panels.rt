@@ -15,7 +15,6 @@ ghost use Rattle.model.specs.Record.{at, panel, recordBytes};
 ghost use Rattle.model.specs.Marks.{owingEach};
 ghost use Rattle.laws.specs.Owed.{owedAt};
 ghost use Rattle.laws.specs.Record.{Passing};
-ghost use Rattle.laws.specs.Panels.{Known};
 ghost use Rattle.laws.specs.Marking.{eachFrom, BandMarked};
 ghost use Rattle.record.specs.Update.{updated};
 
@@ -57,7 +56,8 @@ fn owe_band(rec: &mut [u8], glass: Glass, i: usize, q: Rect, whole: bool)
 
 // The mark's part in band i, which begins at line lo, owed to each panel.
 fn mark_band(rec: &mut [u8], glass: Glass, i: usize, lo: u16, m: Rect)
-    requires { ⌜ Known glass (now rec) ⌝ }
+    requires { ⌜ Suits glass ⌝ }
+    requires { ⌜ Passing (geometry glass) (now rec) ⌝ }
     requires { ⌜ (i < glass .bands) × (lo ≡ i * glass .band) ⌝ }
     ensures { λ _. ⌜ BandMarked (geometry glass) m i (now (rec .entry)) (now (rec .exit)) ⌝ }
 {

@@ -1,4 +1,5 @@
 // STATE: what every part of a record must be, for the glass that is told.
+use crate::head;
 use crate::panels;
 use marks::rect;
 use model::Head;
@@ -9,7 +10,7 @@ ghost use mathlib.Core.Path.{_≡_};
 ghost use Prim.Native.Nat.{_<_};
 ghost use lib.ListN.{length};
 ghost use Rattle.model.specs.Glass.{geometry, Suits};
-ghost use Rattle.model.specs.Record.{at, panel, recordBytes, headOf, pendingOf, windows, headFits, edgeFits, pendingFits, valid};
+ghost use Rattle.model.specs.Record.{at, panel, recordBytes, pendingOf, windows, headFits, edgeFits, pendingFits, valid};
 ghost use Rattle.laws.specs.StateTest.{panelsFit};
 
 // WINDOW: both windows lie in memory and share no byte.
@@ -74,16 +75,16 @@ fn panels_fit(rec: &[u8], glass: Glass) -> bool
     true
 }
 
-// Whether the record, whose head is h, passes STATE. It returns at the first part that fails: tests joined by `&` would keep all their answers at once.
-pub fn is_valid(rec: &[u8], glass: Glass, h: Head) -> bool
+// Whether the record passes STATE. It returns at the first part that fails: tests joined by `&` would keep all their answers at once.
+pub fn is_valid(rec: &[u8], glass: Glass) -> bool
     requires { ⌜ Suits glass ⌝ }
-    requires { ⌜ (length (now rec) ≡ recordBytes (geometry glass)) × (h ≡ headOf (now rec)) ⌝ }
+    requires { ⌜ length (now rec) ≡ recordBytes (geometry glass) ⌝ }
     ensures { λ r. ⌜ r ≡ valid (geometry glass) (now (rec .entry)) ⌝ }
 {
     let from = glass.flags;
     let to = glass.others;
     let at = glass.edge;
-    if !head_fits(glass, h) {
+    if !head_fits(glass, head::load_head(rec)) {
         return false;
     }
     if !edge_fits(rec[at]) {

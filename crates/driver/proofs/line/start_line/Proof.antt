@@ -1,23 +1,28 @@
 -- Each write finds the device not busy; the fourth finds a line that fits.
+use mathlib.Core.Path.{refl}
 use Rattle.model.specs.Geometry.{base}
-use Rattle.driver.specs.Line.{ready-line, ready-first, ready-count, after-line, after-first, ready-start, line-starts}
+use Rattle.model.specs.Controller.{takesWrite, registersAfter}
+use Rattle.driver.specs.Line.{ready-field, after-field, ready-start, line-starts}
 use borrow.Author.Needs.{needs}
 use Rattle.driver.proofs.line.start_line.Statement.{statement}
 use Rattle.driver.proofs.line.start_line.Tie as tie
 
 write-requires : tie.Need-write-requires
-write-requires c κs = ready-line base (c .before .before .pre .0) _
+unfolding takesWrite
+write-requires c κs = ready-field base (c .before .before .pre .0) _ _ refl
 
 write-requires-2 : tie.Need-write-requires-2
+unfolding takesWrite registersAfter
 write-requires-2 c κs =
     let w = c .before .before .before in
-    ready-first base (after-line base (w .before .before .before .pre .0) (w .write .ensures)) _
+    ready-field base (after-field base (w .before .before .before .pre .0) 1 _ refl refl (w .write .ensures)) _ _ refl
 
 write-requires-3 : tie.Need-write-requires-3
+unfolding takesWrite registersAfter
 write-requires-3 c κs =
     let w₂ = c .before .before .before in
     let w₁ = w₂ .before .before .before .before in
-    ready-count base (after-first base (after-line base (w₁ .before .before .before .pre .0) (w₁ .write .ensures)) (w₂ .write2 .ensures)) _
+    ready-field base (after-field base (after-field base (w₁ .before .before .before .pre .0) 1 _ refl refl (w₁ .write .ensures)) 2 _ refl refl (w₂ .write2 .ensures)) _ _ refl
 
 write-requires-4 : tie.Need-write-requires-4
 write-requires-4 c κs =

@@ -1,7 +1,7 @@
 -- A start and a data write for each byte: the list of the line's writes.
 use native.Mathlib.Omega.{arith}
 use Rattle.model.specs.Geometry.{base}
-use Rattle.driver.proofs.Driving.{line-made}
+use Rattle.driver.specs.Line.{line-made}
 use borrow.Author.Needs.{needs}
 use Rattle.driver.proofs.line.write_line.Statement.{statement}
 use Rattle.driver.proofs.line.write_line.Tie as tie
@@ -63,7 +63,7 @@ same-length c = search needs
 returns : tie.Need-returns
 returns c =
     let b = c .before .before in
-    record { left = line-made _ _ _ _ _ _ (c .before .before .before .before .before .before .before .start-line .result) (b .write-bytes .result) _ _ _ _ (c .before .before .before .before .before .before .before .start-line .ensures .left) (b .write-bytes .ensures .left) (omega arith) (omega arith) }
+    record { left = line-made base _ _ _ _ _ _ (c .before .before .before .before .before .before .before .start-line .result) (b .write-bytes .result) _ _ _ _ (c .before .before .before .before .before .before .before .start-line .ensures .left) (b .write-bytes .ensures .left) (omega arith) (omega arith) }
 
 pub write-line-spec : {M : Type 1} → statement M
 write-line-spec =

@@ -1,44 +1,104 @@
-use mathlib.Core.Path.{_∙_}
-use Rattle.model.specs.Open.{resetState}
-use Rattle.laws.specs.Updates.{screen-small, resets}
-use Rattle.record.proofs.Updating.{known-glass, head-for, whole-for, updates, updated-for}
+-- No flags, then the whole screen owed, then a clear head: each leaves a state that is well formed.
+use mathlib.Core.Path.{_≡_, sym, ap, _∙_}
+use mathlib.Core.List.{List}
+use Prim.Native.Nat.{ℕ}
+use native.Mathlib.Omega.{arith}
+use lib.ListN.{length}
+use Rattle.model.specs.declared.Head.{Head}
+use Rattle.model.specs.declared.Rect.{Rect}
+use Rattle.model.specs.Geometry.{Geometry, height, cells}
+use Rattle.model.specs.Glass.{geometry, glassOf}
+use Rattle.model.specs.Memory.{withWindow}
+use Rattle.model.specs.Record.{State, bytesOfHead, decode, encode, withHead, withFlags, WellFormed}
+use Rattle.model.specs.Marks.{whole, owingEach}
+use Rattle.model.specs.Open.{clearHead, clearFlags, resetState}
+use Rattle.laws.specs.Record.{Passing}
+use Rattle.laws.specs.Flags.{length-no-flags}
+use Rattle.laws.specs.States.{well-formed}
+use Rattle.laws.specs.Formed.{flags-formed, owing-formed}
+use Rattle.laws.specs.Updates.{head-decoded, in-head, screen-small, whole-of}
+use Rattle.record.specs.Update.{updated, onHead}
+use Rattle.record.proofs.Updating.{head-there, sets-head, still-passes, then-updated}
 use borrow.Author.Needs.{needs}
 use Rattle.record.proofs.update.reset_record.Statement.{statement}
 use Rattle.record.proofs.update.reset_record.Tie as tie
 
+abbrev cleared : Geometry → State → State
+cleared g x = withFlags (clearFlags g) x
+
+-- no flags
+flagless : (r : List ℕ) → Passing (glassOf (length r)) r → WellFormed (glassOf (length r)) (cleared (glassOf (length r)) (decode (glassOf (length r)) r))
+flagless r p = let g = glassOf (length r) in flags-formed g (decode g r) (well-formed g r p) (clearFlags g) (length-no-flags (cells g))
+
+module _ {r s t : List ℕ} (q : Rect) (p : Passing (glassOf (length r)) r) (e : s ≡ updated cleared r) (f : t ≡ updated (λ g x. owingEach g q x) s) where
+  owing-all : WellFormed (glassOf (length r)) (owingEach (glassOf (length r)) q (cleared (glassOf (length r)) (decode (glassOf (length r)) r)))
+  owing-all = owing-formed (glassOf (length r)) q _ (flagless r p)
+
+  owed : t ≡ updated (λ g x. owingEach g q (cleared g x)) r
+  owed = then-updated cleared p (flagless r p) e (λ g x. owingEach g q x) f
+
+  owed-passes : Passing (glassOf (length t)) t
+  owed-passes = still-passes (λ g x. owingEach g q (cleared g x)) p owing-all owed
+
+  -- and the head
+  resets : {h : Head} {u : List ℕ} → let g = glassOf (length r) in q ≡ whole (g .stride) (height g) → h ≡ (let x = decode g r .head in clearHead (x .graphics) (x .text) (x .version))
+      → u ≡ withWindow 0 (bytesOfHead h) t → u ≡ updated resetState r
+  unfolding updated resetState
+  resets {h} w n d =
+      let g = glassOf (length r) in
+      let s = decode g r in
+      then-updated (λ g x. owingEach g q (cleared g x)) p owing-all owed (onHead (λ x. h)) (sets-head h owed-passes d)
+      ∙ (λ i. encode g (withHead (n i) (owingEach g (w i) (cleared g s))))
+
+load-head-requires : tie.Need-load-head-requires
+load-head-requires c κs = head-there (c .before .before .before .pre)
+
 glass-of-requires : tie.Need-glass-of-requires
 glass-of-requires c κs = search needs
 
-clear-head-requires : tie.Need-clear-head-requires
-clear-head-requires c κs = search needs
+clear-flags-requires : tie.Need-clear-flags-requires
+clear-flags-requires c κs = search needs
 
 canvas-of-requires : tie.Need-canvas-of-requires
 canvas-of-requires c κs = search needs
 
 whole-screen-requires : tie.Need-whole-screen-requires
-whole-screen-requires c κs = screen-small _ (c .before .before .before .glass-of .ensures .suits) (c .canvas-of .ensures)
+whole-screen-requires c κs = screen-small _ (c .before .before .before .before .before .before .before .before .glass-of .ensures .suits) (c .canvas-of .ensures)
 
-owed-marks-requires : tie.Need-owed-marks-requires
-owed-marks-requires c κs = search needs
+mark-panels-requires : tie.Need-mark-panels-requires
+mark-panels-requires c κs = let s = c .before .before .before .before .before .before .before .before .before .before .before in still-passes cleared (s .pre) (flagless (s .args .rec .now) (s .pre)) (c .before .before .before .before .before .clear-flags .ensures)
 
-clear-record-requires : tie.Need-clear-record-requires
-clear-record-requires c κs = search needs
+clear-head-requires : tie.Need-clear-head-requires
+clear-head-requires c κs = search needs
+
+store-head-requires : tie.Need-store-head-requires
+store-head-requires c κs = head-there (owed-passes (c .before .before .before .before .before .whole-screen .result) (c .before .before .before .before .before .before .before .before .before .before .before .before .before .before .before .before .pre) (c .before .before .before .before .before .before .before .before .before .before .clear-flags .ensures) (c .before .before .before .before .mark-panels .ensures))
 
 same-length : tie.Need-same-length
 same-length c = search needs
 
 returns : tie.Need-returns
-returns c = let s = c .before .before .before .before .before .before .before .before .before .before in let chosen = c .before .before .before .before .before .before .before .before .glass-of .ensures in updates _ resetState chosen (resets (known-glass chosen (s .pre .0)) (head-for _ chosen (s .pre .1)) (c .before .before .before .before .before .before .before .clear-head .ensures) (c .before .before .before .before .whole-screen .ensures ∙ whole-for (chosen .suits) (c .before .before .before .before .before .canvas-of .ensures)) (c .before .before .before .owed-marks .ensures .0) (c .before .before .before .owed-marks .ensures .1) (updated-for _ _ chosen (c .before .before .clear-record .ensures)))
+returns c =
+    let s = c .before .before .before .before .before .before .before .before .before .before .before .before .before .before .before .before .before .before .before in
+    let r = s .args .rec .now in
+    let g = glassOf (length r) in
+    let v = c .before .before .before .before .before .before .before .before .before .before .before .before .before .before .before .before .before .glass-of .result in
+    let k = c .before .before .before .before .before .before .before .before .before .before .before .before .before .before .before .before .before .glass-of .ensures in
+    let q = c .before .before .before .before .before .before .before .before .whole-screen .ensures ∙ whole-of v (c .before .before .before .before .before .before .before .before .before .canvas-of .ensures) ∙ ap (whole (v .stride)) (k .suits .is-height) ∙ ap (λ (x : Geometry). whole (x .stride) (height x)) (k .glass) in
+    let h = c .before .before .before .clear-head .ensures ∙ ap (λ (x : Head). clearHead (x .graphics) (x .text) (x .version)) (c .before .before .before .before .before .before .before .before .before .before .before .before .before .before .before .load-head .ensures ∙ sym (head-decoded g r)) in
+    resets (c .before .before .before .before .before .before .before .before .whole-screen .result) (s .pre) (c .before .before .before .before .before .before .before .before .before .before .before .before .before .clear-flags .ensures) (c .before .before .before .before .before .before .before .mark-panels .ensures) q h (c .before .before .store-head .ensures)
 
 pub reset-record-spec : {M : Type 1} → statement M
 reset-record-spec =
     tie.close
     (tie.spec
     glass-of-requires
-    clear-head-requires
+    load-head-requires
+    clear-flags-requires
     canvas-of-requires
     whole-screen-requires
-    owed-marks-requires
-    clear-record-requires
+    mark-panels-requires
+    clear-head-requires
+    store-head-requires
     same-length
     returns)

@@ -1,7 +1,7 @@
 use mathlib.Core.Path.{refl}
 use Rattle.model.specs.Text.{printMode}
-use Rattle.heads.proofs.print_mode.Statement.{statement}
-use Rattle.heads.proofs.print_mode.Tie as tie
+use Rattle.record.proofs.head.print_mode.Statement.{statement}
+use Rattle.record.proofs.head.print_mode.Tie as tie
 
 returns : tie.Need-returns
 unfolding printMode

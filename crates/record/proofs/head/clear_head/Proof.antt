@@ -1,7 +1,7 @@
 use Rattle.record.proofs.Entering.{is-clear-head}
 use borrow.Author.Needs.{needs}
-use Rattle.record.proofs.layout.clear_head.Statement.{statement}
-use Rattle.record.proofs.layout.clear_head.Tie as tie
+use Rattle.record.proofs.head.clear_head.Statement.{statement}
+use Rattle.record.proofs.head.clear_head.Tie as tie
 
 empty-requires : tie.Need-empty-requires
 empty-requires c κs = search needs
