@@ -7,14 +7,14 @@ use native.Mathlib.Nat.{mod-lt, div-lt-iff-lt-mul, mul-le-mul-left, mul-le-mul-r
 use native.Mathlib.Omega.{arith}
 use borrow.Author.Tests.{leb-true, ltb-true}
 use lib.Dec.{leb, ltb}
-use lib.ListN.{set}
+use lib.ListN.{length, set}
 use Rattle.model.specs.declared.Rect.{Rect}
 use Rattle.model.specs.declared.Head.{Head}
 use Rattle.model.specs.declared.Marks.{Marks}
 use Rattle.model.specs.declared.glass.Glass.{Glass}
 use Rattle.model.specs.Geometry.{screenBytes}
-use Rattle.model.specs.Glass.{geometry, lineParts, Suits}
-use Rattle.model.specs.Record.{decode, encode, withHead}
+use Rattle.model.specs.Glass.{geometry, glassOf, lineParts, Suits}
+use Rattle.model.specs.Record.{decode, encode}
 use Rattle.model.specs.Marks.{marked}
 use Rattle.model.specs.Open.{isKey}
 use Rattle.model.specs.Poke.{ignored, poked, byteRect, inScreen, pokeMark}
@@ -25,7 +25,10 @@ use Rattle.laws.specs.Reciprocals.{line-of-byte, column-of-byte}
 use Rattle.laws.specs.Updates.{unmarked}
 use Rattle.record.specs.Update.{updated}
 use Rattle.record.proofs.Updating.{updated-for}
+use Rattle.record.specs.Entry.{Chosen}
 use Rattle.record.specs.Given.{Given}
+use Rattle.record.proofs.Updating.{passes-for}
+use Rattle.record.proofs.Drawing.{Loaded, lands}
 use Rattle.accepted.specs.ScreenByte.{ScreenByte}
 
 pub is-ignored : (keys : List ℕ) (a : ℕ) {k : Bool} → k ≡ isKey keys a → (leb 57344 a || k) ≡ ignored keys a
@@ -84,26 +87,29 @@ pub eight-pixels : (st i : ℕ) {l t r b : ℕ} → l ≡ 8 * (i % st) → t ≡
     → record { left = l; top = t; right = r; bottom = b } ≡ byteRect st i
 eight-pixels st i p q e f = λ j. record { left = p j; top = q j; right = (e ∙ (λ k. p k + 8)) j; bottom = (f ∙ (λ k. q k + 1)) j }
 
-module _ {v : Glass} {r : List ℕ} {h : Head} {m : List ℕ} (w : Given v r h m) (a b : ℕ) where
-  pub poke-ignored : {t : Bool} → t ≡ ignored (decode (geometry v) r .keys) a → t ≡ true
-      → answered 0 [] (lent r m []) ≡ done (geometry v) (writeByte a b) (lent r m [])
-  unfolding done poked pokeMark
-  poke-ignored e f = rw (sym e ∙ f) (λ i. answered 0 [] (lent (sym (unmarked (geometry v) r (w .known .passing)) i) m []))
+-- ignored: nothing changes
+pub poke-ignored : {v : Glass} {r m : List ℕ} → Given r m → Chosen (length r) v → (a b : ℕ) {t : Bool} → t ≡ ignored (decode (geometry v) r .keys) a → t ≡ true
+    → answered 0 [] (lent r m []) ≡ done (glassOf (length r)) (writeByte a b) (lent r m [])
+unfolding done poked pokeMark
+poke-ignored {v} {r} {m} w k a b e f =
+    lands (writeByte a b) (lent r m []) k (rw (sym e ∙ f) (λ i. answered 0 [] (lent (sym (unmarked (geometry v) r (passes-for k (w .passing))) i) m [])))
 
+module _ {v : Glass} {r : List ℕ} {h : Head} {m : List ℕ} (w : Loaded v r h m) (a b : ℕ) where
   module _ {t u : Bool} (e : t ≡ ignored (decode (geometry v) r .keys) a) (f : t ≡ false) (p : u ≡ inScreen (geometry v) (h .graphics) a) where
-    pub poke-elsewhere : u ≡ false → answered 0 [] (lent r (set m a b) []) ≡ done (geometry v) (writeByte a b) (lent r m [])
+    pub poke-elsewhere : u ≡ false → answered 0 [] (lent r (set m a b) []) ≡ done (glassOf (length r)) (writeByte a b) (lent r m [])
     unfolding done poked pokeMark
     poke-elsewhere l =
         let g = geometry v in
         let o = sym (ap (λ (x : Head). inScreen g (x .graphics) a) (w .head)) ∙ sym p ∙ l in
-        rw (sym e ∙ f, o) (λ i. answered 0 [] (lent (sym (unmarked g r (w .known .passing)) i) (set m a b) []))
+        lands (writeByte a b) (lent r m []) (w .chosen) (rw (sym e ∙ f, o) (λ i. answered 0 [] (lent (sym (unmarked g r (w .passing)) i) (set m a b) [])))
 
     pub poke-screen : {q : Rect} {k : Marks} {s : List ℕ} → u ≡ true → q ≡ byteRect (v .stride) (a - h .graphics) → k ≡ both q
-        → s ≡ updated (λ g x. marked g (k .dirty) (k .owed) (withHead h x)) r
-        → answered 0 [] (lent s (set m a b) []) ≡ done (geometry v) (writeByte a b) (lent r m [])
+        → s ≡ updated (λ g x. marked g (k .dirty) (k .owed) x) r
+        → answered 0 [] (lent s (set m a b) []) ≡ done (glassOf (length r)) (writeByte a b) (lent r m [])
     unfolding done poked pokeMark
     poke-screen {k = y} l c j n =
         let g = geometry v in
         let o = sym (ap (λ (x : Head). inScreen g (x .graphics) a) (w .head)) ∙ sym p ∙ l in
         let k = j ∙ ap both (c ∙ ap (λ (x : Head). byteRect (v .stride) (a - x .graphics)) (w .head)) in
-        rw (sym e ∙ f, o) (λ i. answered 0 [] (lent ((updated-for r (λ d x. marked d (y .dirty) (y .owed) (withHead h x)) (w .chosen) n ∙ (λ d. encode g (marked g (k d .dirty) (k d .owed) (withHead (w .head d) (decode g r))))) i) (set m a b) []))
+        let rec = updated-for r (λ d x. marked d (y .dirty) (y .owed) x) (w .chosen) n ∙ (λ d. encode g (marked g (k d .dirty) (k d .owed) (decode g r))) in
+        lands (writeByte a b) (lent r m []) (w .chosen) (rw (sym e ∙ f, o) (λ i. answered 0 [] (lent (rec i) (set m a b) [])))

@@ -20,17 +20,11 @@ use Rattle.model.specs.Calls.{send, lent, answered, sentNumbers, done}
 use Rattle.laws.specs.Sending.{SentOn, sent-proper}
 use Rattle.send.specs.Line.{LineOn}
 use Rattle.record.specs.Entry.{Chosen}
-use Rattle.record.specs.Given.{Given}
-use Rattle.record.proofs.Updating.{known-glass, head-for}
 use Rattle.accepted.specs.NoLine.{noLine}
-use Rattle.accepted.specs.GivenBy.{GivenBy}
 use Rattle.accepted.specs.LineSent.{LineSent, numbersOf}
-use Rattle.record.proofs.Drawing.{screenPart, screen-is, screen-part}
+use Rattle.record.proofs.Drawing.{screenPart, Loaded, screen-is, screen-part}
 
 -- for the glass that the code has asked for
-pub given-for : {v : Glass} {r : List ℕ} {h : Head} {m : List ℕ} → Chosen (length r) v → GivenBy r h m → Given v r h m
-given-for {r = r} c w = record { chosen = c; known = known-glass c (w .passing); head = head-for r c (w .head); memory = w .memory }
-
 pub panel-for : {v : Glass} {n k p : ℕ} → Chosen n v → (p ≡ screenBytes (glassOf n)) × (k < glassOf n .panels) → (p ≡ screenBytes (geometry v)) × (k < v .panels)
 panel-for {k = k} c l = (l .0 ∙ sym (ap screenBytes (c .glass)), subst (λ (g : Geometry). k < g .panels) (sym (c .glass)) (l .1))
 
@@ -38,7 +32,7 @@ pub sent-for : {v : Glass} (k : ℕ) (r m p : List ℕ) {q : Rect} {r′ p′ : 
 sent-for k r m p {q} {r′} {p′} c e = subst (λ (g : Geometry). LineSent g k r m p q r′ p′) (c .glass) e
 
 -- panel j is sent to, which is the one that is named, k
-module _ {v : Glass} {r : List ℕ} {h : Head} {m : List ℕ} (w : Given v r h m) (k : ℕ) {j : ℕ} {q : Rect} {s : List ℕ} (sent : SentOn v j r q s) (named : j ≡ k) {t : Bool}
+module _ {v : Glass} {r : List ℕ} {h : Head} {m : List ℕ} (w : Loaded v r h m) (k : ℕ) {j : ℕ} {q : Rect} {s : List ℕ} (sent : SentOn v j r q s) (named : j ≡ k) {t : Bool}
     (e : t ≡ isEmpty q) where
   i : SentOn v k r q s
   i = rw (← named) sent
@@ -53,8 +47,8 @@ module _ {v : Glass} {r : List ℕ} {h : Head} {m : List ℕ} (w : Given v r h m
   pub may-copy : {a : Canvas} {p : List ℕ} → t ≡ false → a ≡ canvas v → (length p ≡ screenBytes (geometry v)) × (k < v .panels)
       → LineOn (a .stride) (a .height) (screenPart v h m) p q
   may-copy f c l =
-      let z = w .known .suits in
-      let n = sent-proper (w .known) (l .1) i e f in
+      let z = w .chosen .suits in
+      let n = sent-proper z (w .passing) (l .1) i e f in
       rw c (record {
         screen = screen-part w {k = canvas v} refl;
         panel = l .0 ∙ ap (λ (x : ℕ). v .stride * x) (sym (z .is-height));

@@ -1,5 +1,4 @@
 pub mod Opened
 pub mod NoLine
-pub mod GivenBy
 pub mod LineSent
 pub mod ScreenByte

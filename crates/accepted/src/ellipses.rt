@@ -41,7 +41,7 @@ pub fn draw_ellipse(
     let from = load_head(rec).graphics as usize;
     let to = from + glass.screen;
     let d = draw_mode(mode);
-    let edge = edge_of(rec, glass);
+    let edge = edge_of(rec);
     let m = draw::draw_ellipse(
         canvas_of(glass),
         &mut memory[from..to],

@@ -29,7 +29,7 @@ pub fn draw_line(
     let from = load_head(rec).graphics as usize;
     let to = from + glass.screen;
     let d = draw_mode(mode);
-    let edge = edge_of(rec, glass);
+    let edge = edge_of(rec);
     let m = draw::draw_line(
         canvas_of(glass),
         &mut memory[from..to],
@@ -67,7 +67,7 @@ pub fn draw_box(
     let from = load_head(rec).graphics as usize;
     let to = from + glass.screen;
     let d = draw_mode(mode);
-    let edge = edge_of(rec, glass);
+    let edge = edge_of(rec);
     let m = draw::draw_box(
         canvas_of(glass),
         &mut memory[from..to],

@@ -6,6 +6,7 @@ use record::head::load_head;
 use record::update;
 ghost use mathlib.Core.Path.{_≡_};
 ghost use mathlib.Core.List.{[]};
+ghost use lib.ListN.{length};
 ghost use Rattle.model.specs.Geometry.{height};
 ghost use Rattle.model.specs.Glass.{glassOf};
 ghost use Rattle.model.specs.Memory.{screenOf};

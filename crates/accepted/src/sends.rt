@@ -55,11 +55,11 @@ pub fn send_line(rec: &mut [u8], memory: &[u8], panel: &mut [u8], k: usize) -> R
     ensures { λ q. ⌜ LineSent (glassOf (length (now (rec .entry)))) k (now (rec .entry)) (now (memory .entry)) (now (panel .entry)) q (now (rec .exit)) (now (panel .exit)) ⌝ }
 {
     let glass = glass_of(rec.len());
+    let from = load_head(rec).graphics as usize;
     let q = pending::send_panel(rec, glass, k, panel_at(glass, k));
     if rect::is_empty(q) {
         return q;
     }
-    let from = load_head(rec).graphics as usize;
     let to = from + glass.screen;
     line::copy_line(canvas_of(glass), &memory[from..to], panel, q);
     q

@@ -61,12 +61,12 @@ pub fn drive(
 {
     // a send, written out as `sends::send_line` is, so that each of the two has it inline
     let glass = glass_of(rec.len());
+    let from = load_head(rec).graphics as usize;
     let q = pending::send_panel(rec, glass, k, panel_at(glass, k));
     let sent = sends::answer(q);
     if rect::is_empty(q) {
         return sent;
     }
-    let from = load_head(rec).graphics as usize;
     let to = from + glass.screen;
     copy_line(canvas_of(glass), &memory[from..to], image, q);
     store_registers(registers, line::write_line(r, panel, image, q));

@@ -5,7 +5,7 @@ use model::glass::Glass;
 use model::glass::SMALL;
 ghost use mathlib.Core.Path.{_≡_};
 ghost use lib.ListN.{length};
-ghost use Rattle.model.specs.Glass.{canvas, geometry, Suits};
+ghost use Rattle.model.specs.Glass.{canvas, glassOf};
 ghost use Rattle.model.specs.Record.{recordBytes, decode};
 ghost use Rattle.model.specs.Lines.{edgeOf};
 ghost use Rattle.record.specs.Entry.{Chosen};
@@ -27,12 +27,11 @@ pub fn canvas_of(glass: Glass) -> Canvas
 }
 
 // By the edge flag of the record.
-pub fn edge_of(rec: &[u8], glass: Glass) -> Edge
-    requires { ⌜ Suits glass ⌝ }
-    requires { ⌜ length (now rec) ≡ recordBytes (geometry glass) ⌝ }
-    ensures { λ r. ⌜ r ≡ edgeOf (decode (geometry glass) (now (rec .entry)) .edge) ⌝ }
+pub fn edge_of(rec: &[u8]) -> Edge
+    requires { ⌜ length (now rec) ≡ recordBytes (glassOf (length (now rec))) ⌝ }
+    ensures { λ r. ⌜ r ≡ edgeOf (decode (glassOf (length (now (rec .entry)))) (now (rec .entry)) .edge) ⌝ }
 {
-    let at = glass.edge;
+    let at = glass_of(rec.len()).edge;
     if rec[at] == 0 {
         Edge::Clamp
     } else {

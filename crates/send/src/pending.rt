@@ -8,10 +8,10 @@ use record::panels;
 ghost use mathlib.Core.Path.{_≡_};
 ghost use Prim.Native.Nat.{_+_, _*_, _<_, _≤_, min};
 ghost use lib.ListN.{length};
-ghost use Rattle.model.specs.Glass.{geometry};
+ghost use Rattle.model.specs.Glass.{geometry, Suits};
 ghost use Rattle.model.specs.Record.{at, panel};
 ghost use Rattle.model.specs.Sends.{nextLine};
-ghost use Rattle.laws.specs.Panels.{Known};
+ghost use Rattle.laws.specs.Record.{Passing};
 ghost use Rattle.laws.specs.Sending.{InHand, SentOn};
 
 // With nothing in hand, the first band that owes anything moves into hand. The panel's part begins at byte `at`.
@@ -53,7 +53,8 @@ fn count_line(sent: u32) -> u32
 
 // One line of panel k, whose part begins at byte `start`, counts as sent: the rectangle whose top line it is, empty where there is none.
 pub fn send_panel(rec: &mut [u8], glass: Glass, k: usize, start: usize) -> Rect
-    requires { ⌜ Known glass (now rec) × (k < glass .panels) ⌝ }
+    requires { ⌜ Suits glass ⌝ }
+    requires { ⌜ Passing (geometry glass) (now rec) × (k < glass .panels) ⌝ }
     requires { ⌜ start ≡ at (geometry glass) (panel k) ⌝ }
     ensures { λ r. ⌜ SentOn glass k (now (rec .entry)) r (now (rec .exit)) ⌝ }
 {

@@ -4,11 +4,19 @@ use Rattle.model.specs.declared.Edge.{Edge}
 use Rattle.model.specs.declared.DrawMode.{DrawMode}
 use Rattle.model.specs.Marks.{Drawing}
 use Rattle.model.specs.Ellipses.{radiiFit, ellipse}
-use Rattle.model.specs.Calls.{filled, done}
-use Rattle.record.proofs.Drawing.{screen-room, screen-part, drew, stands}
+use Rattle.model.specs.Shapes.{filled}
+use Rattle.model.specs.Calls.{done}
+use Rattle.record.proofs.Updating.{head-there}
+use Rattle.record.proofs.Drawing.{loaded, screen-room, screen-part, drew}
 use borrow.Author.Needs.{needs}
 use Rattle.accepted.proofs.ellipses.draw_ellipse.Statement.{statement}
 use Rattle.accepted.proofs.ellipses.draw_ellipse.Tie as tie
+
+glass-of-requires : tie.Need-glass-of-requires
+glass-of-requires c κs = search needs
+
+load-head-requires : tie.Need-load-head-requires
+load-head-requires c κs = head-there (c .before .before .before .before .pre .0 .passing)
 
 cast-from : tie.Need-cast-from
 cast-from c = search needs
@@ -20,7 +28,7 @@ draw-mode-requires : tie.Need-draw-mode-requires
 draw-mode-requires c κs = search needs
 
 edge-of-requires : tie.Need-edge-of-requires
-edge-of-requires c κs = let w = c .before .before .before .before .before .before .pre .0 in (w .known .suits, w .known .passing .sized)
+edge-of-requires c κs = c .before .before .before .before .before .before .before .before .before .pre .0 .passing .sized
 
 canvas-of-requires : tie.Need-canvas-of-requires
 canvas-of-requires c κs = search needs
@@ -32,18 +40,15 @@ part-draw-ellipse-start : tie.Need-part-draw-ellipse-start
 part-draw-ellipse-start c = search needs
 
 part-draw-ellipse-end : tie.Need-part-draw-ellipse-end
-part-draw-ellipse-end c = screen-room (c .before .before .before .before .before .before .before .before .pre .0)
+part-draw-ellipse-end c = screen-room (loaded (c .before .before .before .before .before .before .before .before .before .before .before .pre .0) (c .before .before .before .before .before .before .before .before .glass-of .ensures) (c .before .before .before .before .before .before .load-head .ensures))
 
 draw-ellipse-requires : tie.Need-draw-ellipse-requires
-draw-ellipse-requires c κs =
-    let canvas-of = c .before in
-    let draw-mode = canvas-of .before .before .before in
-    let start = draw-mode .before .before .before .before .before in
-    let a = start .args in
-    (screen-part (start .pre .0) (canvas-of .canvas-of .ensures), ap (radiiFit (a .rx) (a .ry) (filled (a .fill))) (draw-mode .draw-mode .ensures) ∙ start .pre .1)
+draw-ellipse-requires c κs = 
+    let s = c .before .before .before .before .before .before .before .before .before .before .before .before in
+    (screen-part (loaded (s .pre .0) (c .before .before .before .before .before .before .before .before .before .glass-of .ensures) (c .before .before .before .before .before .before .before .load-head .ensures)) (c .before .canvas-of .ensures), ap (radiiFit (s .args .rx) (s .args .ry) (filled (s .args .fill))) (c .before .before .before .before .draw-mode .ensures) ∙ s .pre .1)
 
-mark-head-requires : tie.Need-mark-head-requires
-mark-head-requires c κs = stands (c .before .before .before .before .before .before .before .before .before .before .before .before .before .pre .0)
+mark-requires : tie.Need-mark-requires
+mark-requires c κs = c .before .before .before .before .before .before .before .before .before .before .before .before .before .before .before .before .pre .0 .passing
 
 same-length : tie.Need-same-length
 same-length c = search needs
@@ -54,30 +59,11 @@ same-length-2 c = search needs
 returns : tie.Need-returns
 unfolding done
 returns c =
-    let mark-head = c .before .before in
-    let drawn = mark-head .before .before .before .before in
-    let canvas-of = drawn .before .before in
-    let edge-of = canvas-of .before in
-    let draw-mode = edge-of .before .before in
-    let start = draw-mode .before .before .before .before .before in
-    let a = start .args in
-    let shape : ℕ → ℕ → Edge × DrawMode → Drawing = λ st h p. ellipse st h (p .0) (a .x) (a .y) (a .rx) (a .ry) (filled (a .fill)) (p .1) in
-    drew (start .pre .0) shape _ _ (λ i. (edge-of .edge-of .ensures i, draw-mode .draw-mode .ensures i)) (canvas-of .canvas-of .ensures) (drawn .draw-ellipse .ensures) (mark-head .mark-head .ensures)
+    let s = c .before .before .before .before .before .before .before .before .before .before .before .before .before .before .before .before .before .before .before in
+    let a = s .args in
+    drew (loaded (s .pre .0) (c .before .before .before .before .before .before .before .before .before .before .before .before .before .before .before .before .glass-of .ensures) (c .before .before .before .before .before .before .before .before .before .before .before .before .before .before .load-head .ensures)) (λ (st h : ℕ) (p : Edge × DrawMode). ellipse st h (p .0) (a .x) (a .y) (a .rx) (a .ry) (filled (a .fill)) (p .1)) _ _ (λ i. (c .before .before .before .before .before .before .before .before .before .edge-of .ensures i, c .before .before .before .before .before .before .before .before .before .before .before .draw-mode .ensures i)) (c .before .before .before .before .before .before .before .before .canvas-of .ensures) (c .before .before .before .before .before .before .draw-ellipse .ensures) (c .before .before .mark .ensures)
 
 pub draw-ellipse-spec : {M : Type 1} → statement M
 draw-ellipse-spec =
     tie.close
-    (tie.spec
-    cast-from
-    add-to
-    draw-mode-requires
-    edge-of-requires
-    canvas-of-requires
-    sub-draw-ellipse
-    part-draw-ellipse-start
-    part-draw-ellipse-end
-    draw-ellipse-requires
-    mark-head-requires
-    same-length
-    same-length-2
-    returns)
+    (tie.spec glass-of-requires load-head-requires cast-from add-to draw-mode-requires edge-of-requires canvas-of-requires sub-draw-ellipse part-draw-ellipse-start part-draw-ellipse-end draw-ellipse-requires mark-requires same-length same-length-2 returns)

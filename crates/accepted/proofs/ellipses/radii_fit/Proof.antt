@@ -1,6 +1,6 @@
 use mathlib.Core.Path.{ap, _∙_}
 use Rattle.model.specs.Ellipses.{radiiFit}
-use Rattle.model.specs.Calls.{filled}
+use Rattle.model.specs.Shapes.{filled}
 use borrow.Author.Needs.{needs}
 use Rattle.accepted.proofs.ellipses.radii_fit.Statement.{statement}
 use Rattle.accepted.proofs.ellipses.radii_fit.Tie as tie

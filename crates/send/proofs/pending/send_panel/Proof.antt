@@ -12,16 +12,16 @@ mul-in-hand : tie.Need-mul-in-hand
 mul-in-hand c = search needs
 
 add-in-hand : tie.Need-add-in-hand
-add-in-hand c = let s = c .before .before in omega (arith, panel-room (s .pre .0) (s .pre .1))
+add-in-hand c = let s = c .before .before in omega (arith, panel-room (s .pre .0) (s .pre .1 .0) (s .pre .1 .1))
 
 sent-at-requires : tie.Need-sent-at-requires
-sent-at-requires c κs = let s = c .before .before in short-room (s .pre .0) (s .pre .1)
+sent-at-requires c κs = let s = c .before .before in short-room (s .pre .0) (s .pre .1 .0) (s .pre .1 .1)
 
 load-four-requires : tie.Need-load-four-requires
-load-four-requires c κs = let s = c .before .before .before .before in omega (arith, panel-room (s .pre .0) (s .pre .1), c .before .sent-at .ensures)
+load-four-requires c κs = let s = c .before .before .before .before in omega (arith, panel-room (s .pre .0) (s .pre .1 .0) (s .pre .1 .1), c .before .sent-at .ensures)
 
 take-hand-requires : tie.Need-take-hand-requires
-take-hand-requires c κs = let s = c .before .before .before .before .before .before in omega (arith, panel-room (s .pre .0) (s .pre .1))
+take-hand-requires c κs = let s = c .before .before .before .before .before .before in omega (arith, panel-room (s .pre .0) (s .pre .1 .0) (s .pre .1 .1))
 
 is-empty-requires : tie.Need-is-empty-requires
 is-empty-requires c κs = search needs
@@ -35,18 +35,18 @@ returns c =
     let t = c .before .before .before .before in
     let s = t .before .before .before .before .before .before .before in
     record {
-      line = line-sent (s .args .k) (s .pre .0 .0) (s .pre .0 .1) (s .pre .1) (t .take-hand .ensures);
-      left = idle (s .args .k) (s .pre .0 .0) (s .pre .0 .1) (s .pre .1) (t .take-hand .ensures) (c .before .is-empty .ensures) (c .if1 .taken);
+      line = line-sent (s .args .k) (s .pre .0) (s .pre .1 .0 .0) (s .pre .1 .0 .1) (s .pre .1 .1) (t .take-hand .ensures);
+      left = idle (s .args .k) (s .pre .0) (s .pre .1 .0 .0) (s .pre .1 .0 .1) (s .pre .1 .1) (t .take-hand .ensures) (c .before .is-empty .ensures) (c .if1 .taken);
     }
 
 next-line-requires : tie.Need-next-line-requires
 next-line-requires c κs =
     let t = c .before .before .before .before .before in
     let s = t .before .before .before .before .before .before .before in
-    line-follows (s .args .k) (s .pre .0 .0) (s .pre .0 .1) (s .pre .1) (t .take-hand .ensures)
+    line-follows (s .args .k) (s .pre .0) (s .pre .1 .0 .0) (s .pre .1 .0 .1) (s .pre .1 .1) (t .take-hand .ensures)
 
 store-rect-requires : tie.Need-store-rect-requires
-store-rect-requires c κs = let s = c .before .before .before .before .before .before .before .before .before .before .before .before .before in omega (arith, panel-room (s .pre .0) (s .pre .1))
+store-rect-requires c κs = let s = c .before .before .before .before .before .before .before .before .before .before .before .before .before in omega (arith, panel-room (s .pre .0) (s .pre .1 .0) (s .pre .1 .1))
 
 count-line-requires : tie.Need-count-line-requires
 count-line-requires c κs = search needs
@@ -55,7 +55,7 @@ store-four-requires : tie.Need-store-four-requires
 store-four-requires c κs =
     let n = c .before .before .before .before .before .before .before .before .before .before .before .before .before .before .before in
     let s = n .before .before .before in
-    count-room (s .pre .0) (s .pre .1) (n .sent-at .ensures) (omega (arith, c .before .before .before .rec2 .given, c .before .before .before .before .before .before .before .before .before .before .rec .given))
+    count-room (s .pre .0) (s .pre .1 .0) (s .pre .1 .1) (n .sent-at .ensures) (omega (arith, c .before .before .before .rec2 .given, c .before .before .before .before .before .before .before .before .before .before .rec .given))
 
 same-length-2 : tie.Need-same-length-2
 same-length-2 c = search needs
@@ -71,8 +71,8 @@ returns-2 c =
     let s = n .before .before .before in
     let counted = c .before .before .before .count-line .ensures ∙ ap (λ (n : ℕ). min (n + 1) 4294967295) (l .load-four .ensures) in
     record {
-      line = line-sent (s .args .k) (s .pre .0 .0) (s .pre .0 .1) (s .pre .1) (t .take-hand .ensures);
-      left = sends (s .args .k) (s .pre .0 .0) (s .pre .0 .1) (s .pre .1) (t .take-hand .ensures) (e .is-empty .ensures) (b .before .before .before .if1 .left)
+      line = line-sent (s .args .k) (s .pre .0) (s .pre .1 .0 .0) (s .pre .1 .0 .1) (s .pre .1 .1) (t .take-hand .ensures);
+      left = sends (s .args .k) (s .pre .0) (s .pre .1 .0 .0) (s .pre .1 .0 .1) (s .pre .1 .1) (t .take-hand .ensures) (e .is-empty .ensures) (b .before .before .before .if1 .left)
           (b .before .next-line .ensures) (b .store-rect .ensures) (n .sent-at .ensures) counted (c .before .before .store-four .ensures);
     }
 
