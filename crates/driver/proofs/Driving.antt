@@ -7,7 +7,6 @@ use native.Mathlib.Omega.{arith}
 use lib.ListN.{length}
 use borrow.Author.Tests.{not-true, not-false, lt-ltb, le-ltb}
 use Rattle.model.specs.declared.Rect.{Rect}
-use Rattle.model.specs.declared.Head.{Head}
 use Rattle.model.specs.declared.Sent.{Sent}
 use Rattle.model.specs.declared.Registers.{Registers}
 use Rattle.model.specs.Geometry.{base}
@@ -18,10 +17,10 @@ use Rattle.model.specs.Sends.{takeOwed}
 use Rattle.model.specs.Calls.{send, answered, sentNumbers, Outcome}
 use Rattle.model.specs.Controller.{registerBytes, Device, device, registersOf, bytesOfRegisters, registersFit, busy, answer, runDevice}
 use Rattle.model.specs.Driver.{driven, driverTests, lineWrites, driverWrites, driveDone}
+use Rattle.laws.specs.Record.{Passing}
 use Rattle.laws.specs.States.{well-formed}
 use Rattle.laws.specs.Bands.{to-send}
 use Rattle.device.specs.Registers.{bytes-back}
-use Rattle.accepted.specs.GivenBy.{GivenBy}
 use Rattle.accepted.specs.LineSent.{LineSent, numbersOf}
 use Rattle.accepted.proofs.Sending.{send-done}
 use Rattle.driver.specs.Line.{OnGlass, LineWritten}
@@ -34,9 +33,9 @@ module _ {r m i : List ℕ} {k : ℕ} {q : Rect} {r′ i′ : List ℕ} (s : Lin
   empty-as e f = ap isEmpty (sym (s .line)) ∙ sym e ∙ f
 
   -- the line lies on the glass
-  pub on-glass : {h : Head} {t : Bool} → GivenBy r h m → k < base .panels → t ≡ isEmpty q → t ≡ false → OnGlass base (q .top) (q .left) (q .right)
+  pub on-glass : {t : Bool} → Passing base r → k < base .panels → t ≡ isEmpty q → t ≡ false → OnGlass base (q .top) (q .left) (q .right)
   on-glass w there e f =
-      let p = to-send base pending (well-formed base r (w .passing) .panels k there) (empty-as e f) in
+      let p = to-send base pending (well-formed base r w .panels k there) (empty-as e f) in
       rw (s .line) (record { on = omega arith; wide = p .wide; within = p .right-in })
 
   module _ {a : Sent} (n : (a .code ≡ 0) × (sentNumbers a ≡ numbersOf q)) where
