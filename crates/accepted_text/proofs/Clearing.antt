@@ -1,5 +1,6 @@
 -- Text and screen cleared in memory, and the record with them.
-use mathlib.Core.Path.{_≡_, ap, _∙_}
+use mathlib.Core.Logic.{inr}
+use mathlib.Core.Path.{_≡_, sym, ap, _∙_}
 use mathlib.Core.List.{List, []}
 use Prim.Native.Nat.{ℕ, _+_, _-_, _≤_}
 use native.Mathlib.Omega.{arith}
@@ -9,21 +10,25 @@ use Rattle.model.specs.declared.Canvas.{Canvas}
 use Rattle.model.specs.declared.Head.{Head}
 use Rattle.model.specs.declared.Marks.{Marks}
 use Rattle.model.specs.declared.glass.Glass.{Glass}
-use Rattle.model.specs.Glass.{geometry, canvas, Suits}
+use Rattle.model.specs.Geometry.{Geometry, height, cells}
+use Rattle.model.specs.Glass.{geometry, glassOf, canvas, Suits}
 use Rattle.model.specs.Memory.{zeros, withWindow}
-use Rattle.model.specs.Record.{decode, encode, withHead, withFlags}
-use Rattle.model.specs.Marks.{whole, marked}
+use Rattle.model.specs.Record.{headOf, State, decode, encode, withFlags, WellFormed}
+use Rattle.model.specs.Marks.{whole, updateDirty, marked}
 use Rattle.model.specs.Open.{clearFlags}
 use Rattle.model.specs.Text.{atPlace, withScreenMode, clearedState, clearedMemory}
-use Rattle.model.specs.Calls.{lent, cleared}
-use Rattle.laws.specs.Parts.{part-back}
+use Rattle.model.specs.Calls.{Outcome, cls, setScreenMode, lent, answered, cleared, done}
+use Rattle.laws.specs.Parts.{part-length, part-back}
 use Rattle.laws.specs.Loops.{length-zeros}
 use Rattle.laws.specs.Memory.{length-withWindow}
-use Rattle.laws.specs.Updates.{whole-of}
-use Rattle.record.specs.Update.{updated}
-use Rattle.record.proofs.Updating.{updated-for}
-use Rattle.record.specs.Given.{Given}
-use Rattle.laws.specs.Parts.{part-length}
+use Rattle.laws.specs.Flags.{length-no-flags}
+use Rattle.laws.specs.Record.{Passing}
+use Rattle.laws.specs.States.{well-formed}
+use Rattle.laws.specs.Formed.{flags-formed, marked-formed}
+use Rattle.laws.specs.Updates.{head-decoded, whole-of}
+use Rattle.record.specs.Entry.{Chosen}
+use Rattle.record.specs.Update.{updated, onHead}
+use Rattle.record.proofs.Updating.{still-passes, then-updated}
 
 -- a part that was lent and cleared
 cleared-part : (a n : ℕ) (m : List ℕ) {s : List ℕ} → a + n ≤ length m → s ≡ zeros (length (take (a + n - a) (drop a m)))
@@ -44,14 +49,45 @@ windows-cleared v h m {s} z p q e f =
     cleared-part (h .graphics) (v .screen) (putMid (h .text) (h .text + v .cells - h .text) m s) (omega arith) f
     ∙ (λ i. withWindow (h .graphics) (zeros (z .is-screen i)) ((a ∙ ap (λ (n : ℕ). withWindow (h .text) (zeros n) m) (z .is-cells)) i))
 
-pub was-cleared : {v : Glass} {r : List ℕ} {h : Head} {m : List ℕ} (w : Given v r h m) (mode : ℕ) {n : Head} {k : Canvas} {c : Marks} {s t : List ℕ}
-    → t ≡ clearedMemory (geometry v) h m → k ≡ canvas v → c .dirty ≡ whole (k .stride) (k .height) → c .owed ≡ whole (k .stride) (k .height) → n ≡ atPlace 0 0 (withScreenMode mode h)
-    → s ≡ updated (λ g x. marked g (c .dirty) (c .owed) (withHead n (withFlags (clearFlags g) x))) r
-    → lent s t [] ≡ cleared (geometry v) mode (lent r m [])
-unfolding cleared clearedState
-was-cleared {v} {r} {h} {m} w mode {n} {c = c} f k d o e q =
-    let g = geometry v in
-    let all = whole-of v k ∙ ap (whole (v .stride)) (w .known .suits .is-height) in
-    let a = e ∙ ap (λ (x : Head). atPlace 0 0 (withScreenMode mode x)) (w .head) in
-    let rec = updated-for r (λ j x. marked j (c .dirty) (c .owed) (withHead n (withFlags (clearFlags j) x))) (w .chosen) q in
-    λ i. lent ((rec ∙ (λ j. encode g (marked g ((d ∙ all) j) ((o ∙ all) j) (withHead (a j) (withFlags (clearFlags g) (decode g r)))))) i) ((f ∙ ap (λ (x : Head). clearedMemory g x m) (w .head)) i) []
+-- ---- the record: no flags, the whole screen marked, then another head
+
+-- the whole of the chosen screen is that of the glass that the length tells
+whole-as : {n : ℕ} {v : Glass} {k : Canvas} → Chosen n v → k ≡ canvas v → let g = glassOf n in whole (k .stride) (k .height) ≡ whole (g .stride) (height g)
+whole-as {v = v} w e = whole-of v e ∙ ap (whole (v .stride)) (w .suits .is-height) ∙ ap (λ (g : Geometry). whole (g .stride) (height g)) (w .glass)
+
+abbrev unflagged : Geometry → State → State
+unflagged g x = withFlags (clearFlags g) x
+
+module _ {r s : List ℕ} (p : Passing (glassOf (length r)) r) (e : s ≡ updated unflagged r) where
+  none-formed : let g = glassOf (length r) in WellFormed g (unflagged g (decode g r))
+  none-formed = let g = glassOf (length r) in flags-formed g (decode g r) (well-formed g r p) (clearFlags g) (length-no-flags (cells g))
+
+  pub flagless : Passing (glassOf (length s)) s
+  flagless = still-passes unflagged p none-formed e
+
+  module _ {v : Glass} {k : Canvas} (c : Marks) {t : List ℕ} (w : Chosen (length r) v) (q : k ≡ canvas v)
+      (n : (c .dirty ≡ whole (k .stride) (k .height)) × (c .owed ≡ whole (k .stride) (k .height))) (f : t ≡ updated (λ g x. marked g (c .dirty) (c .owed) x) s) where
+    all-formed : let g = glassOf (length s) in WellFormed g (marked g (c .dirty) (c .owed) (decode g s))
+    all-formed =
+        let g = glassOf (length s) in
+        let z = p .glass in
+        marked-formed g (c .dirty) (c .owed) (decode g s) (rw (n .0 ∙ whole-as w q) (inr (omega (arith, z .columns, z .cursor, z .row, z .filled, z .high)))) (well-formed g s flagless)
+
+    pub all-marked : Passing (glassOf (length t)) t
+    all-marked = still-passes (λ g x. marked g (c .dirty) (c .owed) x) flagless all-formed f
+
+    pub was-cleared : (mode : ℕ) {h : Head} (m : List ℕ) {n u : List ℕ} → h ≡ headOf r → n ≡ clearedMemory (geometry v) h m → u ≡ updated (onHead (λ x. atPlace 0 0 (withScreenMode mode x))) t
+        → answered 0 [] (lent u n []) ≡ done (glassOf (length r)) (setScreenMode mode) (lent r m [])
+    unfolding done cleared clearedState updated marked updateDirty
+    was-cleared mode m h o u =
+        let g = glassOf (length r) in
+        let set = onHead (λ x. atPlace 0 0 (withScreenMode mode x)) in
+        let all = whole-as w q in
+        let two = then-updated (λ y x. marked y (c .dirty) (c .owed) x) flagless all-formed f set u in
+        let rec = then-updated unflagged p none-formed e (λ y x. set y (marked y (c .dirty) (c .owed) x)) two ∙ (λ i. encode g (set g (marked g ((n .0 ∙ all) i) ((n .1 ∙ all) i) (unflagged g (decode g r))))) in
+        λ i. answered 0 [] (lent (rec i) ((o ∙ (λ j. clearedMemory (w .glass j) ((h ∙ sym (head-decoded g r)) j) m)) i) [])
+
+-- the screen mode stays
+pub keeps-mode : (r m : List ℕ) {h : Head} {o : Outcome} → h ≡ headOf r → o ≡ done (glassOf (length r)) (setScreenMode (h .screen)) (lent r m []) → o ≡ done (glassOf (length r)) cls (lent r m [])
+unfolding done
+keeps-mode r m e o = let g = glassOf (length r) in o ∙ ap (λ (x : Head). answered 0 [] (cleared g (x .screen) (lent r m []))) (e ∙ sym (head-decoded g r))

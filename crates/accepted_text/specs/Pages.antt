@@ -15,6 +15,7 @@ abbrev pub placeOf : Head → Place
 placeOf h = record { row = h .row; column = h .column; scrolls = 0 }
 
 -- record and memory with the head at p, and with the screen scrolled and owed where p says so
-pub record PageStored (g : Geometry) (r m : List ℕ) (h : Head) (p : Place) (s n : List ℕ) : Type 0 where
-  pub rec : s ≡ encode g (marked g none (scrollMark (g .stride) (height g) (screenScrolls (h .screen) (p .scrolls))) (withHead (atPlace (p .row) (p .column) h) (decode g r)))
-  pub memory : n ≡ scrolledMemory g (h .graphics) (screenScrolls (h .screen) (p .scrolls)) m
+pub record PageStored (g : Geometry) (r m : List ℕ) (p : Place) (s n : List ℕ) : Type 0 where
+  pub rec : let x = decode g r in
+      s ≡ encode g (marked g none (scrollMark (g .stride) (height g) (screenScrolls (x .head .screen) (p .scrolls))) (withHead (atPlace (p .row) (p .column) (x .head)) x))
+  pub memory : let h = decode g r .head in n ≡ scrolledMemory g (h .graphics) (screenScrolls (h .screen) (p .scrolls)) m

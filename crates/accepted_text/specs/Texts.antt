@@ -1,12 +1,12 @@
--- The GLYPH test of a flush, as code makes it over the text's window of memory.
+-- The GLYPH test of a flush, for the glass that the record's length tells.
 use mathlib.Core.Bool.{Bool}
 use mathlib.Core.List.{List}
 use Prim.Native.Nat.{ℕ}
-use Rattle.model.specs.declared.Head.{Head}
-use Rattle.model.specs.Geometry.{Geometry, rows, columns, cells}
-use Rattle.model.specs.Memory.{window}
-use Rattle.model.specs.Glyphs.{Fonts}
-use Rattle.flush.specs.Fits.{textFits}
+use lib.ListN.{length}
+use Rattle.model.specs.Glass.{glassOf}
+use Rattle.model.specs.Record.{decode}
+use Rattle.model.specs.Glyphs.{Fonts, fontsFit}
+use Rattle.model.specs.Flush.{flushStores}
 
-abbrev pub glyphsFit : Geometry → List ℕ → Head → Fonts → Bool
-glyphsFit g m h f = textFits (columns g) (rows g) (window (h .text) (cells g) m) (h .version) f
+abbrev pub glyphsFit : List ℕ → List ℕ → Fonts → Bool
+glyphsFit r m f = let g = glassOf (length r) in fontsFit (flushStores g f (decode g r) m)

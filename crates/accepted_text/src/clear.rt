@@ -37,8 +37,8 @@ pub fn set_screen_mode(rec: &mut [u8], memory: &mut [u8], mode: u8)
     let glass = glass_of(rec.len());
     clear_windows(memory, glass, load_head(rec));
     update::clear_flags(rec);
-    head::set_first_place(rec, mode);
     update::mark(rec, mark::whole_marks(canvas_of(glass)));
+    head::set_first_place(rec, mode);
 }
 
 // The screen mode stays.

@@ -13,20 +13,19 @@ use Rattle.model.specs.declared.Register.{Register}
 use Rattle.model.specs.declared.glass.Glass.{Glass}
 use Rattle.model.specs.Geometry.{base, screenBytes, memoryBytes}
 use Rattle.model.specs.Refusals.{STATE, REGISTER, Test, test, refusal, ruled}
-use Rattle.model.specs.Calls.{lentTest, stateTest}
 use Rattle.model.specs.Controller.{registerBytes, registerOf, registersOf, bytesOfRegisters, registersFit, busy, takesWrite, registersRead, DeviceCall, write, read, device, Device, Answer, answer, deviceRefusals, deviceNumbers, deviceDone, deviceOutcome}
 use Rattle.model.specs.Driver.{Driven, driven, besideFits, driverTests, driveRefusals, driveDone, driveOutcome}
 use Rattle.laws.specs.Tests.{by-test, and-true}
-use Rattle.record.specs.declared.entry.Entry.{Entry}
 use Rattle.record.specs.Entry.{Chosen, Entered}
-use Rattle.accepted.specs.GivenBy.{GivenBy}
+use Rattle.record.specs.Given.{Given}
 use Rattle.device.specs.declared.entry.DeviceEntry.{DeviceEntry}
 use Rattle.device.specs.Registers.{bytes-back}
 use Rattle.device.specs.Entry.{DeviceEntered, lengths}
 use Rattle.device.specs.Writing.{Ready, Written}
 use Rattle.device.specs.Device.{Sound, taken, not-taken, write-outcome}
 use Rattle.driver.specs.Line.{Idle}
-use Rattle.caption.proofs.Calls.{before-stops, before-passes}
+use Rattle.laws.specs.Calls.{refusal-first, refusal-append}
+use Rattle.caption.proofs.Calls.{entered, enters, beside}
 
 -- a code and numbers that are equal to those
 pub as-answer : {A : Type 0} {j k : ℕ} {ms ns : List ℕ} (l : A) {o : Answer A} → j ≡ k → ms ≡ ns → answer k ns l ≡ o → answer j ms l ≡ o
@@ -42,7 +41,7 @@ device-refused c d (suc k) e n = rw e refl
 module _ (b p : List ℕ) {e : DeviceEntry} (n : DeviceEntered b (length p) e) where
   pub device-stops : (c : DeviceCall) → e .code ≢ 0 → answer (e .code) (deviceNumbers c) (device b p) ≡ deviceOutcome base c (device b p)
   unfolding deviceRefusals
-  device-stops c h = device-refused c (device b p) (e .code) (before-stops (test 1 (lengths b (length p))) (test STATE (registersFit base (registersOf b))) _ (e .code) (n .code) h) h
+  device-stops c h = device-refused c (device b p) (e .code) (refusal-first (test 1 (lengths b (length p)) ∷ test STATE (registersFit base (registersOf b)) ∷ []) _ (e .code) (sym (n .code)) h) h
 
   module _ (z : e .code ≡ 0) where
     sound : Sound base (device b p)
@@ -84,7 +83,7 @@ drive-refused k l (suc c) e n = rw e refl
 -- what a device that is tested is
 pub record Tested (k : ℕ) (x : Registers) : Type 0 where
   pub fits : registersFit base x ≡ true
-  pub there : k < 4
+  pub there : k < base .panels
   pub not-busy : busy x ≡ false
 
 pub tested : (k : ℕ) (x : Registers) {t : ℕ} → t ≡ refusal (driverTests base k x) → t ≡ 0 → Tested k x
@@ -92,12 +91,12 @@ unfolding refusal
 tested k x e z =
     let q : refusal (driverTests base k x) ≡ 0 = sym e ∙ z in
     by-test (registersFit base x)
-    (λ f. by-test (ltb k 4)
-    (λ h. by-test (busy x) (λ y. absurd (let w : 10 ≡ 0 = rw (f, h, y) at q in omega arith)) (λ y. record { fits = f; there = ltb-true k 4 h; not-busy = y }))
+    (λ f. by-test (ltb k (base .panels))
+    (λ h. by-test (busy x) (λ y. absurd (let w : 10 ≡ 0 = rw (f, h, y) at q in omega arith)) (λ y. record { fits = f; there = ltb-true k (base .panels) h; not-busy = y }))
     (λ h. absurd (let w : 9 ≡ 0 = rw (f, h) at q in omega arith)))
     (λ f. absurd (let w : 2 ≡ 0 = rw f at q in omega arith))
 
-module _ (r m b p i : List ℕ) (k : ℕ) {e : Entry} {v : Glass} (c : Chosen (length r) v)
+module _ (r m b p i : List ℕ) (k : ℕ) {e : ℕ} {v : Glass} (c : Chosen (length r) v)
     (o : Entered (eqb (length m) memoryBytes && ((eqb (length b) registerBytes && eqb (length p) (v .screen)) && eqb (length i) (v .screen))) r e) where
   abbrev l : Driven
   l = driven r m (device b p) i
@@ -111,14 +110,14 @@ module _ (r m b p i : List ℕ) (k : ℕ) {e : Entry} {v : Glass} (c : Chosen (l
   abbrev rest : List Test
   rest = driverTests base k (registersOf b)
 
-  pub drive-stops : e .code ≢ 0 → answer (e .code) (0 ∷ 0 ∷ 0 ∷ 0 ∷ []) l ≡ driveOutcome base k l
+  pub drive-stops : e ≢ 0 → answer e (0 ∷ 0 ∷ 0 ∷ 0 ∷ []) l ≡ driveOutcome base k l
   unfolding driveRefusals
-  drive-stops h = drive-refused k l (e .code) (before-stops (lentTest base r (besideFits base l)) (stateTest base r) rest (e .code) (here .code) h) h
+  drive-stops h = drive-refused k l e (refusal-first (entered r (besideFits base l)) rest e (sym (here .code)) h) h
 
-  module _ (z : e .code ≡ 0) where
+  module _ (z : e ≡ 0) where
     lengths-fit : (length m ≡ memoryBytes) × (length b ≡ registerBytes) × (length p ≡ screenBytes base) × (length i ≡ screenBytes base)
     lengths-fit =
-        let t = and-true (eqb (length m) memoryBytes) _ (here .lent z) in
+        let t = and-true (eqb (length m) memoryBytes) _ (beside here z) in
         let u = and-true _ (eqb (length i) (screenBytes base)) (t .1) in
         let w = and-true (eqb (length b) registerBytes) (eqb (length p) (screenBytes base)) (u .0) in
         (eqb-true _ _ (t .0), eqb-true _ _ (w .0), eqb-true _ _ (w .1), eqb-true _ _ (u .1))
@@ -128,7 +127,7 @@ module _ (r m b p i : List ℕ) (k : ℕ) {e : Entry} {v : Glass} (c : Chosen (l
 
     own : refusal (driveRefusals base k l) ≡ refusal rest
     unfolding driveRefusals
-    own = before-passes (lentTest base r (besideFits base l)) (stateTest base r) rest (sym z ∙ here .code) (λ j. omega arith) (λ j. omega arith)
+    own = refusal-append (entered r (besideFits base l)) rest (enters here z)
 
     module _ {x : Registers} {t : ℕ} (f : x ≡ registersOf b) (q : t ≡ refusal (driverTests base k x)) where
       is-rest : refusal rest ≡ t
@@ -141,8 +140,8 @@ module _ (r m b p i : List ℕ) (k : ℕ) {e : Entry} {v : Glass} (c : Chosen (l
       unfolding driveOutcome ruled
       drive-ends y d = let s : refusal (driveRefusals base k l) ≡ 0 = own ∙ is-rest ∙ y in d ∙ rw s refl
 
-      pub drive-given : GivenBy r (e .head) m
-      drive-given = record { passing = o .passing z; head = o .head z; memory = lengths-fit .0 }
+      pub drive-given : Given r m
+      drive-given = record { passing = o .passing z; memory = lengths-fit .0 }
 
       pub drive-image : length i ≡ screenBytes base
       drive-image = lengths-fit .3

@@ -11,7 +11,7 @@ use Rattle.model.specs.declared.glass.Glass.{Glass}
 use Rattle.model.specs.Geometry.{Geometry}
 use Rattle.model.specs.Bytes.{Words}
 use Rattle.model.specs.Glass.{geometry, glassOf}
-use Rattle.model.specs.Record.{windows, edgeFits}
+use Rattle.model.specs.Record.{recordBytes, windows, edgeFits}
 use Rattle.model.specs.Refusals.{LENT, WINDOW, VALUE}
 use Rattle.model.specs.Calls.{Outcome, opening, lent, answered, refusals, done, outcome}
 use Rattle.laws.specs.Tests.{and-true}
@@ -42,20 +42,19 @@ module _ {v : Glass} (r m : List ℕ) (graphics text version : ℕ) (keys : List
         is-refused g (opening graphics text version keys edge) (lent r m []) VALUE
         (passes LENT _ (lent-as (eqb (length m) 65536) r k e) (passes WINDOW _ (windows-as w f) (fails [] (ap (λ (y : Bool). leb version 1 && y) (sym i) ∙ h)))) (λ z. omega arith)
 
-    pub open-ends : {o : Outcome} {x : Bool} → t ≡ true → x ≡ edgeFits edge → (leb version 1 && x) ≡ true → o ≡ done (geometry v) (opening graphics text version keys edge) (lent r m [])
+    pub open-ends : {o : Outcome} {x : Bool} → t ≡ true → x ≡ edgeFits edge → (leb version 1 && x) ≡ true → o ≡ done g (opening graphics text version keys edge) (lent r m [])
         → o ≡ outcome g (opening graphics text version keys edge) (lent r m [])
     unfolding refusals
     open-ends f i h d =
-        d ∙ ap (λ (x : Geometry). done x (opening graphics text version keys edge) (lent r m [])) (k .glass)
-        ∙ is-done g (opening graphics text version keys edge) (lent r m [])
+        d ∙ is-done g (opening graphics text version keys edge) (lent r m [])
         (passes LENT _ (lent-as (eqb (length m) 65536) r k e) (passes WINDOW _ (windows-as w f) (passes VALUE [] (ap (λ (y : Bool). leb version 1 && y) (sym i) ∙ h) none-left)))
 
-    pub may-open : {x : Bool} → t ≡ true → x ≡ edgeFits edge → (leb version 1 && x) ≡ true → length keys ≡ 8 → Words keys → Opened v r m graphics text version keys edge
+    pub may-open : {x : Bool} → t ≡ true → x ≡ edgeFits edge → (leb version 1 && x) ≡ true → length keys ≡ 8 → Words keys → Opened r m graphics text version keys edge
     may-open {x} f i h n ws =
         let listed = and-true (leb version 1) x h in
         record {
-          chosen = k;
-          sized = lent-sized (eqb (length m) 65536) r k e;
+          glass = rw (k .glass) at (k .suits .glass);
+          sized = lent-sized (eqb (length m) 65536) r k e ∙ ap recordBytes (k .glass);
           memory = eqb-true (length m) 65536 (and-true (eqb (length r) (v .bytes)) (eqb (length m) 65536) e .1);
-          told = record { apart = sym w ∙ f; listed = listed .0; flag = sym i ∙ listed .1; count = n; words = ws };
+          told = record { apart = windows-as w f; listed = listed .0; flag = sym i ∙ listed .1; count = n; words = ws };
         }

@@ -3,7 +3,8 @@ use mathlib.Core.Bool.{cond}
 use mathlib.Core.List.{List, [], _∷_}
 use Prim.Native.Nat.{ℕ}
 use lib.ListN.{drop}
-use Rattle.model.specs.Calls.{drawPoint, drawLine, writeByte, send}
+use Rattle.model.specs.Shapes.{point, line}
+use Rattle.model.specs.Calls.{draw, writeByte, send}
 use Rattle.model.specs.Script.Read.{Taken, tookNone, took, Match, unmatched, matchedWith, ScriptLine, callLine, badLine}
 use Rattle.script.specs.declared.Got.{Got}
 use Rattle.script.specs.declared.Got.the-variants.{Nothing, At}
@@ -28,8 +29,8 @@ unfoldable pub matchOf : Fields → Match
 matchOf f = cond (f .ok) (matchedWith (fieldsOf f)) unmatched
 
 unfoldable pub meaning : Form → ScriptLine
-meaning (Point x y m) = callLine (drawPoint x y m)
-meaning (LineForm x y z w m) = callLine (drawLine x y z w m)
+meaning (Point x y m) = callLine (draw (point x y m))
+meaning (LineForm x y z w m) = callLine (draw (line x y z w m))
 meaning (Poke a v) = callLine (writeByte a v)
 meaning Send = callLine (send 0)
 meaning Bad = badLine

@@ -9,7 +9,8 @@ use lib.ListN.{length}
 use Rattle.model.specs.declared.Sent.{Sent}
 use Rattle.model.specs.Geometry.{base}
 use Rattle.model.specs.Refusals.{refusal, ruled}
-use Rattle.model.specs.Calls.{Call, drawPoint, drawLine, writeByte, send, Lent, lent, Outcome, answered, sentNumbers, refusals, numbers, drawingWith, done, refused, outcome}
+use Rattle.model.specs.Shapes.{Shape, point, line}
+use Rattle.model.specs.Calls.{Call, draw, writeByte, send, Lent, lent, Outcome, answered, sentNumbers, refusals, numbers, drawingWith, done, refused, outcome}
 use Rattle.model.specs.Characters.{bytesOf}
 use Rattle.model.specs.Script.Read.{callLine}
 use Rattle.model.specs.Script.Output.{printed, spaced, said, linePrints, lineLeaves, ending}
@@ -93,13 +94,9 @@ beside p (suc n) f f′ d d′ h e = h (suc n)
 pub record Beside (c : Call) : Type 0 where
   same : (r m p : List ℕ) → outcome base c (lent r m p) ≡ withPanel p (outcome base c (lent r m []))
 
-pub beside-point : (x y md : ℕ) → Beside (drawPoint x y md)
+pub beside-draw : (z : Shape) → Beside (draw z)
 unfolding outcome refusals refused done answered drawingWith
-beside-point x y md = record { same = λ r m p. beside p (refusal (refusals base (drawPoint x y md) (lent r m []))) _ _ _ _ (λ k. refl) refl }
-
-pub beside-line : (x y z w md : ℕ) → Beside (drawLine x y z w md)
-unfolding outcome refusals refused done answered drawingWith
-beside-line x y z w md = record { same = λ r m p. beside p (refusal (refusals base (drawLine x y z w md) (lent r m []))) _ _ _ _ (λ k. refl) refl }
+beside-draw z = record { same = λ r m p. beside p (refusal (refusals base (draw z) (lent r m []))) _ _ _ _ (λ k. refl) refl }
 
 pub beside-poke : (a v : ℕ) → Beside (writeByte a v)
 unfolding outcome refusals refused done answered
@@ -129,11 +126,11 @@ module _ (f : Form) (c : Call) (n at k : ℕ) (r m p r′ m′ o : List ℕ) (a 
   unfolding answered
   plain-answered o′ d e b w = rw e (call-answered n at k [] c (lent r m p) (lent r′ m′ p) o (b .same r m p ∙ ap (withPanel p) (sym a)) o′ d w)
 
-pub means-point : (f : Form) (x y md : ℕ) → f ≡ Point x y md → meaning f ≡ callLine (drawPoint x y md)
+pub means-point : (f : Form) (x y md : ℕ) → f ≡ Point x y md → meaning f ≡ callLine (draw (point x y md))
 unfolding meaning
 means-point f x y md e = rw e
 
-pub means-line : (f : Form) (x y z w md : ℕ) → f ≡ LineForm x y z w md → meaning f ≡ callLine (drawLine x y z w md)
+pub means-line : (f : Form) (x y z w md : ℕ) → f ≡ LineForm x y z w md → meaning f ≡ callLine (draw (line x y z w md))
 unfolding meaning
 means-line f x y z w md e = rw e
 

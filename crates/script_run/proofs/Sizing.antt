@@ -12,7 +12,8 @@ use Rattle.model.specs.Geometry.{base}
 use Rattle.model.specs.Rects.{isEmpty}
 use Rattle.model.specs.Refusals.{ruled}
 use Rattle.model.specs.Sends.{takeOwed, lineNumbers, sendNumbers}
-use Rattle.model.specs.Calls.{drawPoint, drawLine, writeByte, send, Lent, Outcome, answered, numbers, done, refused, outcome}
+use Rattle.model.specs.Shapes.{Shape, point, line}
+use Rattle.model.specs.Calls.{draw, writeByte, send, Lent, Outcome, answered, numbers, done, refused, outcome}
 use Rattle.model.specs.Characters.{bytesOf}
 use Rattle.model.specs.Script.Read.{Match, unmatched, matchedWith, ScriptLine, badLine, ifMatched, pointForm, lineForm, pokeForm, sendForm, readLine, scriptLines, readScript}
 use Rattle.model.specs.Script.Output.{spelled, decimal, spaced, printed, said, linePrints, lineLeaves, opened, ending, runLinesFrom, runLines, longest, scriptText}
@@ -50,13 +51,9 @@ unfolding ruled
 ruled-le zero f d h e = e
 ruled-le (suc n) f d h e = h (suc n)
 
-point-le : (x y m : ℕ) (l : Lent) → length (outcome base (drawPoint x y m) l .numbers) ≤ 4
+draw-le : (z : Shape) (l : Lent) → length (outcome base (draw z) l .numbers) ≤ 4
 unfolding outcome refused done answered
-point-le x y m l = ruled-le _ _ _ (λ k. omega arith) (omega arith)
-
-line-le : (x y z w m : ℕ) (l : Lent) → length (outcome base (drawLine x y z w m) l .numbers) ≤ 4
-unfolding outcome refused done answered
-line-le x y z w m l = ruled-le _ _ _ (λ k. omega arith) (omega arith)
+draw-le z l = ruled-le _ _ _ (λ k. omega arith) (omega arith)
 
 poke-le : (a v : ℕ) (l : Lent) → length (outcome base (writeByte a v) l .numbers) ≤ 4
 unfolding outcome refused done answered
@@ -83,8 +80,8 @@ choose-short (matchedWith fs) f z h k = h fs
 form-short : (s : List ℕ) → Short (readLine s)
 unfolding readLine linePrints
 form-short s =
-    choose-short _ pointForm _ (λ fs n l. said-le _ _ (point-le _ _ _ l))
-    (choose-short _ lineForm _ (λ fs n l. said-le _ _ (line-le _ _ _ _ _ l))
+    choose-short _ pointForm _ (λ fs n l. said-le _ _ (draw-le _ l))
+    (choose-short _ lineForm _ (λ fs n l. said-le _ _ (draw-le _ l))
     (choose-short _ pokeForm _ (λ fs n l. said-le _ _ (poke-le _ _ l))
     (choose-short _ sendForm badLine (λ fs n l. said-le _ _ (send-le l)) (λ n l. omega (arith, printed-le (bytesOf "bad") (n ∷ []))))))
 

@@ -52,18 +52,5 @@ returns c =
 pub clear-windows-spec : {M : Type 1} → statement M
 clear-windows-spec =
     tie.close
-    (tie.spec
-    cast-text
-    add-end
-    sub-clear
-    part-clear-start
-    part-clear-end
-    clear-requires
-    cast-from
-    add-to
-    sub-clear-2
-    part-clear-start-2
-    part-clear-end-2
-    clear-requires-2
-    same-length
-    returns)
+    (tie.spec cast-text add-end sub-clear part-clear-start part-clear-end clear-requires cast-from add-to sub-clear-2 part-clear-start-2 part-clear-end-2 clear-requires-2
+    same-length returns)

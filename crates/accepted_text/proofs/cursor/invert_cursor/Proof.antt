@@ -38,14 +38,4 @@ returns c = let k = c .before .before .before .before .before in c .before .befo
 pub invert-cursor-spec : {M : Type 1} → statement M
 invert-cursor-spec =
     tie.close
-    (tie.spec
-    mul-left
-    mul-top
-    mul-right
-    sub-right
-    add-right
-    sub-bottom
-    add-bottom
-    draw-filled-box-requires
-    same-length
-    returns)
+    (tie.spec mul-left mul-top mul-right sub-right add-right sub-bottom add-bottom draw-filled-box-requires same-length returns)

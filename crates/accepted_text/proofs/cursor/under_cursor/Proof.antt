@@ -31,12 +31,4 @@ returns c = let p = c .before .before .before .before .before .pre in byte-under
 pub under-cursor-spec : {M : Type 1} → statement M
 under-cursor-spec =
     tie.close
-    (tie.spec
-    cast-text
-    cast-cell
-    mul-cell
-    cast-cell-2
-    add-cell
-    add-result
-    shared-slice-read-result
-    returns)
+    (tie.spec cast-text cast-cell mul-cell cast-cell-2 add-cell add-result shared-slice-read-result returns)

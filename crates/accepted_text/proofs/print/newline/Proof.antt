@@ -1,10 +1,16 @@
 use native.Mathlib.Omega.{arith}
-use Rattle.model.specs.Print.{newlineOn}
-use Rattle.record.proofs.Drawing.{text-room}
-use Rattle.accepted_text.proofs.Printing.{flags-end, ready, few-scrolls, newline-keeps, place-in, given-after, page-stored, newline-left}
+use Rattle.record.proofs.Updating.{head-there}
+use Rattle.record.proofs.Drawing.{loaded, text-room}
+use Rattle.accepted_text.proofs.Printing.{flags-end, ready, few-scrolls, newline-keeps, store-given, page-stored, newline-left}
 use borrow.Author.Needs.{needs}
 use Rattle.accepted_text.proofs.print.newline.Statement.{statement}
 use Rattle.accepted_text.proofs.print.newline.Tie as tie
+
+glass-of-requires : tie.Need-glass-of-requires
+glass-of-requires c κs = search needs
+
+load-head-requires : tie.Need-load-head-requires
+load-head-requires c κs = head-there (c .before .before .before .before .pre .passing)
 
 cast-text : tie.Need-cast-text
 cast-text c = search needs
@@ -22,7 +28,7 @@ part-newline-start : tie.Need-part-newline-start
 part-newline-start c = search needs
 
 part-newline-end : tie.Need-part-newline-end
-part-newline-end c = text-room (c .before .before .before .before .before .pre)
+part-newline-end c = let l = c .before .before .before in text-room (loaded (l .before .before .before .before .before .pre) (l .before .before .glass-of .ensures) (l .load-head .ensures))
 
 sub-newline-2 : tie.Need-sub-newline-2
 sub-newline-2 c = search needs
@@ -31,22 +37,22 @@ part-newline-start-2 : tie.Need-part-newline-start-2
 part-newline-start-2 c = search needs
 
 part-newline-end-2 : tie.Need-part-newline-end-2
-part-newline-end-2 c = flags-end (c .before .before .before .before .before .before .pre)
+part-newline-end-2 c = let l = c .before .before .before .before in flags-end (loaded (l .before .before .before .before .before .pre) (l .before .before .glass-of .ensures) (l .load-head .ensures))
 
 newline-requires : tie.Need-newline-requires
-newline-requires c κs = let w = c .before .before .before .before .before .before .before .pre in let e = c .before .before .place-of .ensures in (ready w e 0 (omega arith), few-scrolls w e)
+newline-requires c κs =
+    let l = c .before .before .before .before .before in let w = loaded (l .before .before .before .before .before .pre) (l .before .before .glass-of .ensures) (l .load-head .ensures) in
+    let e = c .before .before .place-of .ensures in
+    (ready w e 0 (omega arith), few-scrolls w e)
 
 store-page-requires : tie.Need-store-page-requires
 store-page-requires c κs =
     let newline = c .before .before .before .before .before .before in
     let place-of = newline .before .before .before in
-    let k = place-of .before .before .before .before .before in
-    let v = k .args .glass in
-    let f = newlineOn (v .rows) (v .columns) in
-    let w = k .pre in
-    let e = place-of .place-of .ensures in
-    let u = newline .newline .ensures in
-    (given-after w e f (newline-keeps w) u, place-in w e f (newline-keeps w) u)
+    let load-head = place-of .before .before .before in
+    let start = load-head .before .before .before .before .before in
+    let w = loaded (start .pre) (load-head .before .before .glass-of .ensures) (load-head .load-head .ensures) in
+    store-given w (place-of .place-of .ensures) _ (newline-keeps w) (newline .newline .ensures)
 
 same-length : tie.Need-same-length
 same-length c = search needs
@@ -59,27 +65,13 @@ returns c =
     let store-page = c .before .before .before .before in
     let newline = store-page .before .before .before .before .before .before .before in
     let place-of = newline .before .before .before in
-    let k = place-of .before .before .before .before .before in
-    let v = k .args .glass in
-    let f = newlineOn (v .rows) (v .columns) in
-    let w = k .pre in
-    newline-left w (page-stored w (place-of .place-of .ensures) f (newline-keeps w) (newline .newline .ensures) (store-page .store-page .ensures))
+    let load-head = place-of .before .before .before in
+    let start = load-head .before .before .before .before .before in
+    let w = loaded (start .pre) (load-head .before .before .glass-of .ensures) (load-head .load-head .ensures) in
+    newline-left w (page-stored w (place-of .place-of .ensures) _ (newline-keeps w) (newline .newline .ensures) (store-page .store-page .ensures))
 
 pub newline-spec : {M : Type 1} → statement M
 newline-spec =
     tie.close
-    (tie.spec
-    cast-text
-    add-end
-    place-of-requires
-    sub-newline
-    part-newline-start
-    part-newline-end
-    sub-newline-2
-    part-newline-start-2
-    part-newline-end-2
-    newline-requires
-    store-page-requires
-    same-length
-    same-length-2
-    returns)
+    (tie.spec glass-of-requires load-head-requires cast-text add-end place-of-requires sub-newline part-newline-start part-newline-end sub-newline-2 part-newline-start-2
+    part-newline-end-2 newline-requires store-page-requires same-length same-length-2 returns)

@@ -1,13 +1,17 @@
 use native.Mathlib.Omega.{arith}
-use mathlib.Core.Bool.{not}
-use lib.Dec.{eqb}
-use Rattle.model.specs.Print.{printOn}
 use Rattle.laws.specs.Pages.{print-sheet}
-use Rattle.record.proofs.Drawing.{text-room}
-use Rattle.accepted_text.proofs.Printing.{flags-end, ready, no-scrolls, place-in, given-after, page-stored, print-left}
+use Rattle.record.proofs.Updating.{head-there}
+use Rattle.record.proofs.Drawing.{loaded, text-room}
+use Rattle.accepted_text.proofs.Printing.{flags-end, ready, no-scrolls, store-given, page-stored, print-left}
 use borrow.Author.Needs.{needs}
 use Rattle.accepted_text.proofs.print.print.Statement.{statement}
 use Rattle.accepted_text.proofs.print.print.Tie as tie
+
+glass-of-requires : tie.Need-glass-of-requires
+glass-of-requires c κs = search needs
+
+load-head-requires : tie.Need-load-head-requires
+load-head-requires c κs = head-there (c .before .before .before .before .before .pre .passing)
 
 cast-text : tie.Need-cast-text
 cast-text c = search needs
@@ -25,7 +29,7 @@ part-print-start : tie.Need-part-print-start
 part-print-start c = search needs
 
 part-print-end : tie.Need-part-print-end
-part-print-end c = text-room (c .before .before .before .before .before .before .before .pre)
+part-print-end c = let l = c .before .before .before .before in text-room (loaded (l .before .before .before .before .before .before .pre) (l .before .before .glass-of .ensures) (l .load-head .ensures))
 
 sub-print-2 : tie.Need-sub-print-2
 sub-print-2 c = search needs
@@ -34,30 +38,22 @@ part-print-start-2 : tie.Need-part-print-start-2
 part-print-start-2 c = search needs
 
 part-print-end-2 : tie.Need-part-print-end-2
-part-print-end-2 c = flags-end (c .before .before .before .before .before .before .before .before .pre)
+part-print-end-2 c = let l = c .before .before .before .before .before in flags-end (loaded (l .before .before .before .before .before .before .pre) (l .before .before .glass-of .ensures) (l .load-head .ensures))
 
 print-requires : tie.Need-print-requires
 print-requires c κs =
-    let place-of = c .before .before .before in
-    let start = place-of .before .before .before .before .before .before in
-    let w = start .pre in
-    let e = place-of .place-of .ensures in
+    let l = c .before .before .before .before .before .before in let w = loaded (l .before .before .before .before .before .before .pre) (l .before .before .glass-of .ensures) (l .load-head .ensures) in
+    let e = c .before .before .before .place-of .ensures in
     (ready w e 1 (omega arith), no-scrolls w e)
 
 store-page-requires : tie.Need-store-page-requires
 store-page-requires c κs =
     let print = c .before .before .before .before .before .before in
     let place-of = print .before .before .before .before in
-    let k = place-of .before .before .before .before .before .before in
-    let a = k .args in
-    let v = a .glass in
-    let i = not (eqb (a .h .print) 0) in
-    let f = printOn (v .rows) (v .columns) i (a .bytes .now) in
-    let keeps = print-sheet (v .rows) (v .columns) i (a .bytes .now) in
-    let w = k .pre in
-    let e = place-of .place-of .ensures in
-    let u = print .print .ensures in
-    (given-after w e f keeps u, place-in w e f keeps u)
+    let load-head = place-of .before .before .before in
+    let start = load-head .before .before .before .before .before .before in
+    let w = loaded (start .pre) (load-head .before .before .glass-of .ensures) (load-head .load-head .ensures) in
+    store-given w (place-of .place-of .ensures) _ (print-sheet _ _ _ _) (print .print .ensures)
 
 same-length : tie.Need-same-length
 same-length c = search needs
@@ -70,30 +66,13 @@ returns c =
     let store-page = c .before .before .before .before in
     let print = store-page .before .before .before .before .before .before .before in
     let place-of = print .before .before .before .before in
-    let k = place-of .before .before .before .before .before .before in
-    let a = k .args in
-    let v = a .glass in
-    let i = not (eqb (a .h .print) 0) in
-    let f = printOn (v .rows) (v .columns) i (a .bytes .now) in
-    let keeps = print-sheet (v .rows) (v .columns) i (a .bytes .now) in
-    let w = k .pre in
-    print-left w (a .bytes .now) (page-stored w (place-of .place-of .ensures) f keeps (print .print .ensures) (store-page .store-page .ensures))
+    let load-head = place-of .before .before .before in
+    let start = load-head .before .before .before .before .before .before in
+    let w = loaded (start .pre) (load-head .before .before .glass-of .ensures) (load-head .load-head .ensures) in
+    print-left w (start .args .bytes .now) (page-stored w (place-of .place-of .ensures) _ (print-sheet _ _ _ _) (print .print .ensures) (store-page .store-page .ensures))
 
 pub print-spec : {M : Type 1} → statement M
 print-spec =
     tie.close
-    (tie.spec
-    cast-text
-    add-end
-    place-of-requires
-    sub-print
-    part-print-start
-    part-print-end
-    sub-print-2
-    part-print-start-2
-    part-print-end-2
-    print-requires
-    store-page-requires
-    same-length
-    same-length-2
-    returns)
+    (tie.spec glass-of-requires load-head-requires cast-text add-end place-of-requires sub-print part-print-start part-print-end sub-print-2 part-print-start-2 part-print-end-2
+    print-requires store-page-requires same-length same-length-2 returns)

@@ -1,4 +1,4 @@
-use Rattle.script_run.proofs.Running.{plain-room, plain-answered, means-point, means-line, means-poke, beside-point, beside-line, beside-poke, send-room, send-answered, bad-room, bad-answered}
+use Rattle.script_run.proofs.Running.{plain-room, plain-answered, means-point, means-line, means-poke, beside-draw, beside-poke, send-room, send-answered, bad-room, bad-answered}
 use borrow.Author.Needs.{needs}
 use Rattle.script_run.proofs.runner.answer_line.Statement.{statement}
 use Rattle.script_run.proofs.runner.answer_line.Tie as tie
@@ -10,7 +10,7 @@ caption-draw-point-requires : tie.Need-caption-draw-point-requires
 caption-draw-point-requires c κs = search needs
 
 put-code-requires : tie.Need-put-code-requires
-put-code-requires c κs = search (plain-room, means-point, beside-point)
+put-code-requires c κs = search (plain-room, means-point, beside-draw)
 
 enum-known-form-2 : tie.Need-enum-known-form-2
 enum-known-form-2 c = search needs
@@ -19,7 +19,7 @@ caption-draw-line-requires : tie.Need-caption-draw-line-requires
 caption-draw-line-requires c κs = search needs
 
 put-code-requires-2 : tie.Need-put-code-requires-2
-put-code-requires-2 c κs = search (plain-room, means-line, beside-line)
+put-code-requires-2 c κs = search (plain-room, means-line, beside-draw)
 
 enum-known-form-3 : tie.Need-enum-known-form-3
 enum-known-form-3 c = search needs
@@ -61,7 +61,7 @@ same-length-3 : tie.Need-same-length-3
 same-length-3 c = search needs
 
 returns : tie.Need-returns
-returns c = search (plain-answered, means-point, beside-point)
+returns c = search (plain-answered, means-point, beside-draw)
 
 same-length-4 : tie.Need-same-length-4
 same-length-4 c = search needs
@@ -73,7 +73,7 @@ same-length-6 : tie.Need-same-length-6
 same-length-6 c = search needs
 
 returns-2 : tie.Need-returns-2
-returns-2 c = search (plain-answered, means-line, beside-line)
+returns-2 c = search (plain-answered, means-line, beside-draw)
 
 same-length-7 : tie.Need-same-length-7
 same-length-7 c = search needs
