@@ -13,15 +13,7 @@ ghost use Rattle.model.specs.Shapes.{line, box, fillFits};
 ghost use Rattle.model.specs.Calls.{draw, lent, answered, done};
 ghost use Rattle.record.specs.Given.{Given};
 
-pub fn draw_line(
-    rec: &mut [u8],
-    memory: &mut [u8],
-    x1: u8,
-    y1: u8,
-    x2: u8,
-    y2: u8,
-    mode: u8,
-)
+pub fn draw_line(rec: &mut [u8], memory: &mut [u8], x1: u8, y1: u8, x2: u8, y2: u8, mode: u8)
     requires { ⌜ Given (now rec) (now memory) ⌝ }
     ensures { λ _. ⌜ answered 0 [] (lent (now (rec .exit)) (now (memory .exit)) []) ≡ done (glassOf (length (now (rec .entry)))) (draw (line x1 y1 x2 y2 mode)) (lent (now (rec .entry)) (now (memory .entry)) []) ⌝ }
 {

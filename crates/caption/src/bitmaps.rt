@@ -33,16 +33,7 @@ pub extern "C" fn caption_paint_bitmap(
     if !bitmaps::source_fits(memory.len(), address, width, height) {
         return refusal::SOURCE;
     }
-    bitmaps::paint_bitmap(
-        rec,
-        memory,
-        address,
-        x,
-        y,
-        width,
-        height,
-        mode,
-    );
+    bitmaps::paint_bitmap(rec, memory, address, x, y, width, height, mode);
     0
 }
 
@@ -70,15 +61,6 @@ pub extern "C" fn caption_paint_bitmap_by_bytes(
     if !bitmaps::source_fits(memory.len(), address, width, height) {
         return refusal::SOURCE;
     }
-    bitmaps::paint_bitmap_by_bytes(
-        rec,
-        memory,
-        address,
-        x,
-        y,
-        width,
-        height,
-        mode,
-    );
+    bitmaps::paint_bitmap_by_bytes(rec, memory, address, x, y, width, height, mode);
     0
 }

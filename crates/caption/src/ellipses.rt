@@ -35,16 +35,7 @@ pub extern "C" fn caption_draw_ellipse(
     if !ellipses::radii_fit(rx, ry, fill, mode) {
         return refusal::RADIUS;
     }
-    ellipses::draw_ellipse(
-        rec,
-        memory,
-        x,
-        y,
-        rx,
-        ry,
-        fill,
-        mode,
-    );
+    ellipses::draw_ellipse(rec, memory, x, y, rx, ry, fill, mode);
     0
 }
 

@@ -31,15 +31,6 @@ pub extern "C" fn caption_flush<'a>(
     if !flushes::glyphs_fit(rec, memory, ascii8, ascii16, gb, emoji, list, extra) {
         return refusal::GLYPH;
     }
-    flushes::flush(
-        rec,
-        memory,
-        ascii8,
-        ascii16,
-        gb,
-        emoji,
-        list,
-        extra,
-    );
+    flushes::flush(rec, memory, ascii8, ascii16, gb, emoji, list, extra);
     0
 }

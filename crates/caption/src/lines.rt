@@ -29,15 +29,7 @@ pub extern "C" fn caption_draw_line(
     if mode > 3 {
         return refusal::VALUE;
     }
-    lines::draw_line(
-        rec,
-        memory,
-        x1,
-        y1,
-        x2,
-        y2,
-        mode,
-    );
+    lines::draw_line(rec, memory, x1, y1, x2, y2, mode);
     0
 }
 
@@ -61,15 +53,6 @@ pub extern "C" fn caption_draw_box(
     if !lines::fill_fits(fill, mode) {
         return refusal::VALUE;
     }
-    lines::draw_box(
-        rec,
-        memory,
-        x1,
-        y1,
-        x2,
-        y2,
-        fill,
-        mode,
-    );
+    lines::draw_box(rec, memory, x1, y1, x2, y2, fill, mode);
     0
 }

@@ -11,14 +11,7 @@ ghost use Rattle.model.specs.Record.{recordBytes, encode};
 ghost use Rattle.model.specs.Open.{openState};
 ghost use Rattle.laws.specs.Opening.{Told};
 
-pub fn open_record(
-    rec: &mut [u8],
-    graphics: u16,
-    text: u16,
-    version: u8,
-    keys: [u32; 8],
-    edge: u8,
-)
+pub fn open_record(rec: &mut [u8], graphics: u16, text: u16, version: u8, keys: [u32; 8], edge: u8)
     requires { ⌜ (length (now rec) ≡ recordBytes (glassOf (length (now rec)))) × Told (glassOf (length (now rec))) graphics text version keys edge ⌝ }
     ensures { λ _. ⌜ now (rec .exit) ≡ encode (glassOf (length (now (rec .entry)))) (openState (glassOf (length (now (rec .entry)))) graphics text version keys edge) ⌝ }
 {

@@ -43,7 +43,7 @@ part-draw-ellipse-end : tie.Need-part-draw-ellipse-end
 part-draw-ellipse-end c = screen-room (loaded (c .before .before .before .before .before .before .before .before .before .before .before .pre .0) (c .before .before .before .before .before .before .before .before .glass-of .ensures) (c .before .before .before .before .before .before .load-head .ensures))
 
 draw-ellipse-requires : tie.Need-draw-ellipse-requires
-draw-ellipse-requires c κs = 
+draw-ellipse-requires c κs =
     let s = c .before .before .before .before .before .before .before .before .before .before .before .before in
     (screen-part (loaded (s .pre .0) (c .before .before .before .before .before .before .before .before .before .glass-of .ensures) (c .before .before .before .before .before .before .before .load-head .ensures)) (c .before .canvas-of .ensures), ap (radiiFit (s .args .rx) (s .args .ry) (filled (s .args .fill))) (c .before .before .before .before .draw-mode .ensures) ∙ s .pre .1)
 

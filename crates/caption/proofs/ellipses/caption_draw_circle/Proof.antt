@@ -17,5 +17,4 @@ unfolding outcome refusals refused done
 returns c = c .before .before .before .before .caption-draw-ellipse .ensures
 
 pub caption-draw-circle-spec : {M : Type 1} → statement M
-caption-draw-circle-spec =
-    tie.close (tie.spec caption-draw-ellipse-requires same-length same-length-2 returns)
+caption-draw-circle-spec = tie.close (tie.spec caption-draw-ellipse-requires same-length same-length-2 returns)

@@ -1,11 +1,8 @@
-use Rattle.record.proofs.Drawing.{text-room}
-use native.Mathlib.Omega.{arith}
-use mathlib.Core.Path.{refl, sym, _∙_}
+use mathlib.Core.Path.{refl}
 use mathlib.Core.List.{[]}
-use borrow.Author.Tests.{not-true, not-false}
+use native.Mathlib.Omega.{arith}
 use Rattle.model.specs.Refusals.{GLYPH}
-use Rattle.caption.proofs.Calls.{fails, passes, none-left, stops, stops-later, ends}
-use Rattle.caption.proofs.Flushing.{given-list, glyph-test, text-kept}
+use Rattle.caption.proofs.Calls.{fails, passes, failed, passed, none-left, stops, stops-later, finishes, given-list}
 use borrow.Author.Needs.{needs}
 use Rattle.caption.proofs.flushes.caption_flush.Statement.{statement}
 use Rattle.caption.proofs.flushes.caption_flush.Tie as tie
@@ -19,14 +16,8 @@ same-length c = search needs
 returns : tie.Need-returns
 returns c = stops _ _ refl (c .before .enter .ensures) (c .if1 .taken)
 
-glass-of-requires : tie.Need-glass-of-requires
-glass-of-requires c κs = search needs
-
 glyphs-fit-requires : tie.Need-glyphs-fit-requires
-glyphs-fit-requires c κs =
-    let a = c .before .before .before .before .before .before .before .before .before .before .before .before .before .before .args in
-    let k = c .before .glass-of .ensures in
-    (k .suits, text-room (given-list (a .memory .now) (a .list .now) k (c .before .before .before .before .enter .ensures) (c .before .before .before .if1 .left)))
+glyphs-fit-requires c κs = let a = c .before .before .before .before .before .before .before .before .before .before .before .before .before .args in given-list (a .memory .now) (a .list .now) (c .before .before .before .enter .ensures) (c .before .before .if1 .left)
 
 same-length-2 : tie.Need-same-length-2
 same-length-2 c = search needs
@@ -35,10 +26,10 @@ same-length-3 : tie.Need-same-length-3
 same-length-3 c = search needs
 
 returns-2 : tie.Need-returns-2
-returns-2 c = let a = c .before .before .before .before .before .before .before .before .before .before .before .before .before .before .before .before .args in stops-later _ _ refl (c .before .before .before .before .before .before .enter .ensures) (c .before .before .before .before .before .if1 .left) GLYPH (fails [] (glyph-test (a .memory .now) (a .list .now) (c .before .before .before .glass-of .ensures) (c .before .before .before .before .before .before .enter .ensures) (c .before .before .before .before .before .if1 .left) _ (c .before .glyphs-fit .ensures) (not-true _ (c .if2 .taken)))) (λ z. omega arith)
+returns-2 c = stops-later _ _ refl (c .before .before .before .before .before .enter .ensures) (c .before .before .before .before .if1 .left) GLYPH (fails [] (failed (c .before .glyphs-fit .ensures) (c .if2 .taken))) (λ z. omega arith)
 
 flush-requires : tie.Need-flush-requires
-flush-requires c κs = let a = c .before .before .before .before .before .before .before .before .before .before .before .before .before .before .before .before .before .before .args in let k = c .before .before .before .before .before .glass-of .ensures in (given-list _ (a .list .now) k (c .before .before .before .before .before .before .before .before .enter .ensures) (c .before .before .before .before .before .before .before .if1 .left), (text-kept k, sym (c .before .before .before .glyphs-fit .ensures) ∙ not-false _ (c .before .before .if2 .left)))
+flush-requires c κs = let a = c .before .before .before .before .before .before .before .before .before .before .before .before .before .before .before .before .before .args in (given-list (a .memory .now) (a .list .now) (c .before .before .before .before .before .before .before .enter .ensures) (c .before .before .before .before .before .before .if1 .left), passed (c .before .before .before .glyphs-fit .ensures) (c .before .before .if2 .left))
 
 same-length-4 : tie.Need-same-length-4
 same-length-4 c = search needs
@@ -47,21 +38,7 @@ same-length-5 : tie.Need-same-length-5
 same-length-5 c = search needs
 
 returns-3 : tie.Need-returns-3
-returns-3 c = let a = c .before .before .before .before .before .before .before .before .before .before .before .before .before .before .before .before .before .before .before .before .before .before .before .args in let k = c .before .before .before .before .before .before .before .before .before .before .glass-of .ensures in ends _ _ refl (c .before .before .before .before .before .before .before .before .before .before .before .before .before .enter .ensures) (c .before .before .before .before .before .before .before .before .before .before .before .before .if1 .left) k (passes GLYPH [] (glyph-test (a .memory .now) (a .list .now) k (c .before .before .before .before .before .before .before .before .before .before .before .before .before .enter .ensures) (c .before .before .before .before .before .before .before .before .before .before .before .before .if1 .left) _ (c .before .before .before .before .before .before .before .before .glyphs-fit .ensures) (not-false _ (c .before .before .before .before .before .before .before .if2 .left))) none-left) (c .before .before .before .before .flush .ensures)
+returns-3 c = finishes _ _ refl (c .before .before .before .before .before .before .before .before .before .before .before .before .enter .ensures) (c .before .before .before .before .before .before .before .before .before .before .before .if1 .left) (passes GLYPH [] (passed (c .before .before .before .before .before .before .before .before .glyphs-fit .ensures) (c .before .before .before .before .before .before .before .if2 .left)) none-left) (c .before .before .before .before .flush .ensures)
 
 pub caption-flush-spec : {M : Type 1} → statement M
-caption-flush-spec =
-    tie.close
-    (tie.spec
-    enter-requires
-    same-length
-    returns
-    glass-of-requires
-    glyphs-fit-requires
-    same-length-2
-    same-length-3
-    returns-2
-    flush-requires
-    same-length-4
-    same-length-5
-    returns-3)
+caption-flush-spec = tie.close (tie.spec enter-requires same-length returns glyphs-fit-requires same-length-2 same-length-3 returns-2 flush-requires same-length-4 same-length-5 returns-3)

@@ -1,8 +1,8 @@
-use native.Mathlib.Omega.{arith}
 use mathlib.Core.Path.{refl}
 use mathlib.Core.List.{[]}
+use native.Mathlib.Omega.{arith}
 use Rattle.model.specs.Refusals.{VALUE}
-use Rattle.caption.proofs.Calls.{fails, passes, failed, passed, none-left, stops, stops-later, ends, given}
+use Rattle.caption.proofs.Calls.{fails, passes, failed, passed, none-left, stops, stops-later, finishes, given}
 use borrow.Author.Needs.{needs}
 use Rattle.caption.proofs.lines.caption_draw_box.Statement.{statement}
 use Rattle.caption.proofs.lines.caption_draw_box.Tie as tie
@@ -25,11 +25,8 @@ same-length-2 c = search needs
 returns-2 : tie.Need-returns-2
 returns-2 c = stops-later _ _ refl (c .before .before .before .enter .ensures) (c .before .before .if1 .left) VALUE (fails [] (failed (c .before .fill-fits .ensures) (c .if2 .taken))) (λ z. omega arith)
 
-glass-of-requires : tie.Need-glass-of-requires
-glass-of-requires c κs = search needs
-
 draw-box-requires : tie.Need-draw-box-requires
-draw-box-requires c κs = given (c .glass-of .ensures) (c .before .before .before .before .before .before .enter .ensures) (c .before .before .before .before .before .if1 .left)
+draw-box-requires c κs = given _ (c .before .before .before .before .before .enter .ensures) (c .before .before .before .before .if1 .left)
 
 same-length-3 : tie.Need-same-length-3
 same-length-3 c = search needs
@@ -38,20 +35,7 @@ same-length-4 : tie.Need-same-length-4
 same-length-4 c = search needs
 
 returns-3 : tie.Need-returns-3
-returns-3 c = ends _ _ refl (c .before .before .before .before .before .before .before .before .before .before .before .enter .ensures) (c .before .before .before .before .before .before .before .before .before .before .if1 .left) (c .before .before .before .before .before .glass-of .ensures) (passes VALUE [] (passed (c .before .before .before .before .before .before .before .before .before .fill-fits .ensures) (c .before .before .before .before .before .before .before .before .if2 .left)) none-left) (c .before .before .before .before .draw-box .ensures)
+returns-3 c = finishes _ _ refl (c .before .before .before .before .before .before .before .before .before .before .enter .ensures) (c .before .before .before .before .before .before .before .before .before .if1 .left) (passes VALUE [] (passed (c .before .before .before .before .before .before .before .before .fill-fits .ensures) (c .before .before .before .before .before .before .before .if2 .left)) none-left) (c .before .before .before .before .draw-box .ensures)
 
 pub caption-draw-box-spec : {M : Type 1} → statement M
-caption-draw-box-spec =
-    tie.close
-    (tie.spec
-    enter-requires
-    same-length
-    returns
-    fill-fits-requires
-    same-length-2
-    returns-2
-    glass-of-requires
-    draw-box-requires
-    same-length-3
-    same-length-4
-    returns-3)
+caption-draw-box-spec = tie.close (tie.spec enter-requires same-length returns fill-fits-requires same-length-2 returns-2 draw-box-requires same-length-3 same-length-4 returns-3)

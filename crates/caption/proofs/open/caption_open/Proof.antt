@@ -15,17 +15,11 @@ edge-fits-requires c κs = search needs
 
 open-requires : tie.Need-open-requires
 open-requires c κs =
-    let if3 = c .before .before in
-    let edge-fits = if3 .before in
-    let if2 = edge-fits .before in
-    let windows-fit = if2 .before in
-    let if1 = windows-fit .before in
-    let glass-of = if1 .before .before in
-    let s = glass-of .before .before .before in
+    let s = c .before .before .before .before .before .before .before .before .before .before .before in
     let a = s .args in
     let f = s .fits in
-    may-open (a .rec .now) (a .memory .now) (a .graphics) (a .text) (a .version) _ (a .edge) (glass-of .glass-of .ensures) (if1 .if1 .taken) (windows-fit .windows-fit .ensures) (if2 .if2 .taken)
-    (edge-fits .edge-fits .ensures) (if3 .if3 .taken) refl
+    may-open (a .rec .now) (a .memory .now) (a .graphics) (a .text) (a .version) _ (a .edge) (c .before .before .before .before .before .before .before .before .glass-of .ensures) (c .before .before .before .before .before .before .if1 .taken) (c .before .before .before .before .before .windows-fit .ensures) (c .before .before .before .before .if2 .taken)
+    (c .before .before .before .edge-fits .ensures) (c .before .before .if3 .taken) refl
     (f .keys0 .fits, (f .keys1 .fits, (f .keys2 .fits, (f .keys3 .fits, (f .keys4 .fits, (f .keys5 .fits, (f .keys6 .fits, (f .keys7 .fits, tt))))))))
 
 same-length : tie.Need-same-length
@@ -35,47 +29,16 @@ same-length-2 : tie.Need-same-length-2
 same-length-2 c = search needs
 
 returns : tie.Need-returns
-returns c =
-    let opens = c .before .before .before .before in
-    let if3 = opens .before .before .before in
-    let edge-fits = if3 .before in
-    let if2 = edge-fits .before in
-    let windows-fit = if2 .before in
-    let if1 = windows-fit .before in
-    let s = if1 .before .before .before .before .before in
-    open-ends _ _ _ _ _ _ (s .args .edge) (if1 .before .before .glass-of .ensures) (if1 .if1 .taken) (windows-fit .windows-fit .ensures) (if2 .if2 .taken)
-    (edge-fits .edge-fits .ensures) (if3 .if3 .taken) (opens .«open» .ensures)
+returns c = open-ends _ _ _ _ _ _ (c .before .before .before .before .before .before .before .before .before .before .before .before .before .before .before .before .args .edge) (c .before .before .before .before .before .before .before .before .before .before .before .before .before .glass-of .ensures) (c .before .before .before .before .before .before .before .before .before .before .before .if1 .taken) (c .before .before .before .before .before .before .before .before .before .before .windows-fit .ensures) (c .before .before .before .before .before .before .before .before .before .if2 .taken) (c .before .before .before .before .before .before .before .before .edge-fits .ensures) (c .before .before .before .before .before .before .before .if3 .taken) (c .before .before .before .before .«open» .ensures)
 
 returns-2 : tie.Need-returns-2
-returns-2 c =
-    let edge-fits = c .before in
-    let if2 = edge-fits .before in
-    let windows-fit = if2 .before in
-    let if1 = windows-fit .before in
-    let s = if1 .before .before .before .before .before in
-    open-value _ _ _ _ _ _ (s .args .edge) (if1 .before .before .glass-of .ensures) (if1 .if1 .taken) (windows-fit .windows-fit .ensures) (if2 .if2 .taken)
-    (edge-fits .edge-fits .ensures) (c .if3 .left)
+returns-2 c = open-value _ _ _ _ _ _ (c .before .before .before .before .before .before .before .before .before .args .edge) (c .before .before .before .before .before .before .glass-of .ensures) (c .before .before .before .before .if1 .taken) (c .before .before .before .windows-fit .ensures) (c .before .before .if2 .taken) (c .before .edge-fits .ensures) (c .if3 .left)
 
 returns-3 : tie.Need-returns-3
-returns-3 c =
-    let windows-fit = c .before in
-    let if1 = windows-fit .before in
-    open-window _ _ _ _ _ _ _ (if1 .before .before .glass-of .ensures) (if1 .if1 .taken) (windows-fit .windows-fit .ensures) (c .if2 .left)
+returns-3 c = open-window _ _ _ _ _ _ _ (c .before .before .before .before .glass-of .ensures) (c .before .before .if1 .taken) (c .before .windows-fit .ensures) (c .if2 .left)
 
 returns-4 : tie.Need-returns-4
 returns-4 c = open-lent _ _ _ _ _ _ _ (c .before .before .glass-of .ensures) (c .if1 .left)
 
 pub caption-open-spec : {M : Type 1} → statement M
-caption-open-spec =
-    tie.close
-    (tie.spec
-    glass-of-requires
-    windows-fit-requires
-    edge-fits-requires
-    open-requires
-    same-length
-    same-length-2
-    returns
-    returns-2
-    returns-3
-    returns-4)
+caption-open-spec = tie.close (tie.spec glass-of-requires windows-fit-requires edge-fits-requires open-requires same-length same-length-2 returns returns-2 returns-3 returns-4)

@@ -26,12 +26,10 @@ no-line-requires c κs = search needs
 same-length : tie.Need-same-length
 same-length c = search needs
 
--- refused at the entry
 returns : tie.Need-returns
 returns c =
     let a = c .before .before .before .before .before .before .before .before .before .args in
-    let g = c .before .before .before .before .before .glass-of .ensures in
-    let n = entered-panel (a .memory .now) (a .panel .now) g (c .before .before .enter .ensures) in
+    let n = entered-panel (a .memory .now) (a .panel .now) (c .before .before .before .before .before .glass-of .ensures) (c .before .before .enter .ensures) in
     as-answered _ (ap (λ (s : Sent). s .code) (c .no-line .ensures)) (ap sentNumbers (c .no-line .ensures)) (stops _ _ refl n (c .before .if1 .taken))
 
 no-line-requires-2 : tie.Need-no-line-requires-2
@@ -40,7 +38,6 @@ no-line-requires-2 c κs = search needs
 same-length-2 : tie.Need-same-length-2
 same-length-2 c = search needs
 
--- no such panel
 returns-2 : tie.Need-returns-2
 returns-2 c =
     let a = c .before .before .before .before .before .before .before .before .before .before .before .args in
@@ -51,8 +48,8 @@ returns-2 c =
 
 send-line-requires : tie.Need-send-line-requires
 send-line-requires c κs =
-    let g = c .before .before .before .before .before .before .before .before .glass-of .ensures in
     let a = c .before .before .before .before .before .before .before .before .before .before .before .before .args in
+    let g = c .before .before .before .before .before .before .before .before .glass-of .ensures in
     let p = given-panel (a .memory .now) (a .panel .now) g (c .before .before .before .before .before .enter .ensures) (c .before .before .before .before .if1 .left) in
     (p .0, (p .1, omega (arith, c .before .before .if2 .left, ap (λ (x : Geometry). x .panels) (g .glass))))
 
@@ -65,30 +62,13 @@ same-length-3 c = search needs
 same-length-4 : tie.Need-same-length-4
 same-length-4 c = search needs
 
--- sent
 returns-3 : tie.Need-returns-3
 returns-3 c =
-    let e = c .before .before .before .before .before .before .before .before .before .before .before in
-    let g = e .before .before .before .glass-of .ensures in
-    let a = e .before .before .before .before .before .before .before .args in
-    let n = entered-panel (a .memory .now) (a .panel .now) g (e .enter .ensures) in
+    let a = c .before .before .before .before .before .before .before .before .before .before .before .before .before .before .before .before .before .before .args in
+    let g = c .before .before .before .before .before .before .before .before .before .before .before .before .before .before .glass-of .ensures in
+    let n = entered-panel (a .memory .now) (a .panel .now) g (c .before .before .before .before .before .before .before .before .before .before .before .enter .ensures) in
     finishes _ _ refl n (c .before .before .before .before .before .before .before .before .before .before .if1 .left) (passes PANEL [] (below g (λ x. x .panels) refl (a .number) (omega (arith, c .before .before .before .before .before .before .before .before .if2 .left))) none-left)
     (send-done (glassOf (length (a .rec .now))) (a .number) (a .rec .now) (a .memory .now) (a .panel .now) (c .before .before .before .before .before .send-line .ensures) (c .answer .ensures))
 
 pub caption-send-spec : {M : Type 1} → statement M
-caption-send-spec =
-    tie.close
-    (tie.spec
-    glass-of-requires
-    enter-requires
-    no-line-requires
-    same-length
-    returns
-    no-line-requires-2
-    same-length-2
-    returns-2
-    send-line-requires
-    answer-requires
-    same-length-3
-    same-length-4
-    returns-3)
+caption-send-spec = tie.close (tie.spec glass-of-requires enter-requires no-line-requires same-length returns no-line-requires-2 same-length-2 returns-2 send-line-requires answer-requires same-length-3 same-length-4 returns-3)
