@@ -255,9 +255,8 @@ pub fn draw_ellipse(
     }
     let op = raster_op(mode);
     draw_walk(canvas, screen, edge, x, y, rx, ry, fill, op);
-    let dirty = ellipse_mark(canvas, x, y, rx, ry);
     if fill {
-        return owed_by_edge(canvas, edge, dirty);
+        return owed_by_edge(canvas, edge, ellipse_mark(canvas, x, y, rx, ry));
     }
-    owed_as_is(dirty)
+    owed_as_is(ellipse_mark(canvas, x, y, rx, ry))
 }

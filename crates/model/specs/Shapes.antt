@@ -9,13 +9,10 @@ use Rattle.model.specs.Geometry.{Geometry, height}
 use Rattle.model.specs.Memory.{window}
 use Rattle.model.specs.Refusals.{VALUE, SOURCE, RADIUS, ENDLESS, Test, test}
 use Rattle.model.specs.Marks.{Drawing}
-use Rattle.model.specs.Points.{drawMode}
 use Rattle.model.specs.Points as points
 use Rattle.model.specs.Lines as lines
 use Rattle.model.specs.Boxes as boxes
-use Rattle.model.specs.Ellipses.{radiiFit, stepsFit}
 use Rattle.model.specs.Ellipses as ellipses
-use Rattle.model.specs.Bitmaps.{paintMode, sourceBytes, sourceFits}
 use Rattle.model.specs.Bitmaps as bitmaps
 
 pub data Shape : Type 0 where
@@ -52,8 +49,8 @@ filled n = eqb n 1
 -- RADIUS and ENDLESS come after the two early returns of an ellipse
 abbrev pub ellipseTests : ℕ → ℕ → ℕ → ℕ → List Test
 ellipseTests rx ry fill mode =
-    test VALUE (fillFits fill mode) ∷ test RADIUS (radiiFit rx ry (filled fill) (drawMode mode)) ∷
-    test ENDLESS (stepsFit rx ry (filled fill) (drawMode mode)) ∷ []
+    test VALUE (fillFits fill mode) ∷ test RADIUS (ellipses.radiiFit rx ry (filled fill) (points.drawMode mode)) ∷
+    test ENDLESS (ellipses.stepsFit rx ry (filled fill) (points.drawMode mode)) ∷ []
 
 abbrev pub shapeTests : Shape → List Test
 shapeTests (point x y mode) = test VALUE (leb mode 3) ∷ []
@@ -61,13 +58,13 @@ shapeTests (line x1 y1 x2 y2 mode) = test VALUE (leb mode 3) ∷ []
 shapeTests (box x1 y1 x2 y2 fill mode) = test VALUE (fillFits fill mode) ∷ []
 shapeTests (circle x y r fill mode) = ellipseTests r r fill mode
 shapeTests (ellipse x y rx ry fill mode) = ellipseTests rx ry fill mode
-shapeTests (bitmap a x y w n mode) = test VALUE (leb mode 4) ∷ test SOURCE (sourceFits a w n) ∷ []
+shapeTests (bitmap a x y w n mode) = test VALUE (leb mode 4) ∷ test SOURCE (bitmaps.sourceFits a w n) ∷ []
 
 -- on a glass, with horizontal lines as the edge flag has them and a bitmap's source in the memory m
 abbrev pub drawingOf : Geometry → Edge → List ℕ → Shape → Drawing
-drawingOf g edge m (point x y mode) = points.point (g .stride) (height g) x y (drawMode mode)
-drawingOf g edge m (line x1 y1 x2 y2 mode) = lines.line (g .stride) (height g) edge x1 y1 x2 y2 (drawMode mode)
-drawingOf g edge m (box x1 y1 x2 y2 fill mode) = boxes.box (g .stride) (height g) edge x1 y1 x2 y2 (filled fill) (drawMode mode)
-drawingOf g edge m (circle x y r fill mode) = ellipses.circle (g .stride) (height g) edge x y r (filled fill) (drawMode mode)
-drawingOf g edge m (ellipse x y rx ry fill mode) = ellipses.ellipse (g .stride) (height g) edge x y rx ry (filled fill) (drawMode mode)
-drawingOf g edge m (bitmap a x y w n mode) = bitmaps.bitmap (g .stride) (height g) (window a (sourceBytes w n) m) x y w n (paintMode mode)
+drawingOf g edge m (point x y mode) = points.point (g .stride) (height g) x y (points.drawMode mode)
+drawingOf g edge m (line x1 y1 x2 y2 mode) = lines.line (g .stride) (height g) edge x1 y1 x2 y2 (points.drawMode mode)
+drawingOf g edge m (box x1 y1 x2 y2 fill mode) = boxes.box (g .stride) (height g) edge x1 y1 x2 y2 (filled fill) (points.drawMode mode)
+drawingOf g edge m (circle x y r fill mode) = ellipses.circle (g .stride) (height g) edge x y r (filled fill) (points.drawMode mode)
+drawingOf g edge m (ellipse x y rx ry fill mode) = ellipses.ellipse (g .stride) (height g) edge x y rx ry (filled fill) (points.drawMode mode)
+drawingOf g edge m (bitmap a x y w n mode) = bitmaps.bitmap (g .stride) (height g) (window a (bitmaps.sourceBytes w n) m) x y w n (bitmaps.paintMode mode)

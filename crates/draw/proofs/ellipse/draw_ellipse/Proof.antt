@@ -41,12 +41,11 @@ same-length-2 c = search needs
 
 returns-3 : tie.Need-returns-3
 returns-3 c =
-    let w = c .before .before .before .before .before in
-    let k = w .before .before in
-    let n = k .before .before in
-    let p = n .before .before in
-    ellipse-filled _ _ _ _ _ _ _ _ _ _ _ _ (c .before .if3 .taken) (c .owed-by-edge .ensures) (c .before .before .ellipse-mark .ensures) (p .before .before .pre .1)
-    (p .is-point .ensures) (n .before .if1 .left) (n .is-nothing .ensures) (k .before .if2 .left) (k .raster-op .ensures .1) (w .draw-walk .ensures)
+    ellipse-filled _ _ _ _ _ _ _ _ _ _ _ _ (c .before .before .if3 .taken) (c .owed-by-edge .ensures) (c .before .ellipse-mark .ensures) (c .before .before .before .before .before .before .before .before .before .before .before .before .before .pre .1)
+    (c .before .before .before .before .before .before .before .before .before .before .before .is-point .ensures) (c .before .before .before .before .before .before .before .before .before .before .if1 .left) (c .before .before .before .before .before .before .before .before .before .is-nothing .ensures) (c .before .before .before .before .before .before .before .before .if2 .left) (c .before .before .before .before .before .before .before .raster-op .ensures .1) (c .before .before .before .before .before .draw-walk .ensures)
+
+ellipse-mark-requires-2 : tie.Need-ellipse-mark-requires-2
+ellipse-mark-requires-2 c κs = search needs
 
 owed-as-is-requires : tie.Need-owed-as-is-requires
 owed-as-is-requires c κs = search needs
@@ -56,30 +55,8 @@ same-length-3 c = search needs
 
 returns-4 : tie.Need-returns-4
 returns-4 c =
-    let w = c .before .before .before .before .before in
-    let k = w .before .before in
-    let n = k .before .before in
-    let p = n .before .before in
-    ellipse-outlined _ _ _ _ _ _ _ _ _ _ _ _ (c .before .if3 .left) (c .owed-as-is .ensures) (c .before .before .ellipse-mark .ensures) (p .before .before .pre .1)
-    (p .is-point .ensures) (n .before .if1 .left) (n .is-nothing .ensures) (k .before .if2 .left) (k .raster-op .ensures .1) (w .draw-walk .ensures)
+    ellipse-outlined _ _ _ _ _ _ _ _ _ _ _ _ (c .before .before .if3 .left) (c .owed-as-is .ensures) (c .before .ellipse-mark2 .ensures) (c .before .before .before .before .before .before .before .before .before .before .before .before .before .pre .1)
+    (c .before .before .before .before .before .before .before .before .before .before .before .is-point .ensures) (c .before .before .before .before .before .before .before .before .before .before .if1 .left) (c .before .before .before .before .before .before .before .before .before .is-nothing .ensures) (c .before .before .before .before .before .before .before .before .if2 .left) (c .before .before .before .before .before .before .before .raster-op .ensures .1) (c .before .before .before .before .before .draw-walk .ensures)
 
 pub draw-ellipse-spec : {M : Type 1} → statement M
-draw-ellipse-spec =
-    tie.close
-    (tie.spec
-    is-point-requires
-    draw-point-requires
-    same-length
-    returns
-    is-nothing-requires
-    no-marks-requires
-    returns-2
-    raster-op-requires
-    draw-walk-requires
-    ellipse-mark-requires
-    owed-by-edge-requires
-    same-length-2
-    returns-3
-    owed-as-is-requires
-    same-length-3
-    returns-4)
+draw-ellipse-spec = tie.close (tie.spec is-point-requires draw-point-requires same-length returns is-nothing-requires no-marks-requires returns-2 raster-op-requires draw-walk-requires ellipse-mark-requires owed-by-edge-requires same-length-2 returns-3 ellipse-mark-requires-2 owed-as-is-requires same-length-3 returns-4)
