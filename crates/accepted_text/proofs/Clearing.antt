@@ -10,25 +10,23 @@ use Rattle.model.specs.declared.Canvas.{Canvas}
 use Rattle.model.specs.declared.Head.{Head}
 use Rattle.model.specs.declared.Marks.{Marks}
 use Rattle.model.specs.declared.glass.Glass.{Glass}
-use Rattle.model.specs.Geometry.{Geometry, height, cells}
+use Rattle.model.specs.Geometry.{height, cells}
 use Rattle.model.specs.Glass.{geometry, glassOf, canvas, Suits}
 use Rattle.model.specs.Memory.{zeros, withWindow}
-use Rattle.model.specs.Record.{headOf, State, decode, encode, withFlags, WellFormed}
+use Rattle.model.specs.Record.{headOf, decode, encode, WellFormed}
 use Rattle.model.specs.Marks.{whole, updateDirty, marked}
-use Rattle.model.specs.Open.{clearFlags}
 use Rattle.model.specs.Text.{atPlace, withScreenMode, clearedState, clearedMemory}
 use Rattle.model.specs.Calls.{Outcome, cls, setScreenMode, lent, answered, cleared, done}
 use Rattle.laws.specs.Parts.{part-length, part-back}
 use Rattle.laws.specs.Loops.{length-zeros}
 use Rattle.laws.specs.Memory.{length-withWindow}
-use Rattle.laws.specs.Flags.{length-no-flags}
 use Rattle.laws.specs.Record.{Passing}
 use Rattle.laws.specs.States.{well-formed}
-use Rattle.laws.specs.Formed.{flags-formed, marked-formed}
-use Rattle.laws.specs.Updates.{head-decoded, whole-of}
+use Rattle.laws.specs.Formed.{marked-formed}
+use Rattle.laws.specs.Updates.{head-decoded}
 use Rattle.record.specs.Entry.{Chosen}
 use Rattle.record.specs.Update.{updated, onHead}
-use Rattle.record.proofs.Updating.{still-passes, then-updated}
+use Rattle.record.proofs.Updating.{whole-for, unflagged, unflagged-formed, still-passes, then-updated}
 
 -- a part that was lent and cleared
 cleared-part : (a n : ℕ) (m : List ℕ) {s : List ℕ} → a + n ≤ length m → s ≡ zeros (length (take (a + n - a) (drop a m)))
@@ -51,19 +49,9 @@ windows-cleared v h m {s} z p q e f =
 
 -- ---- the record: no flags, the whole screen marked, then another head
 
--- the whole of the chosen screen is that of the glass that the length tells
-whole-as : {n : ℕ} {v : Glass} {k : Canvas} → Chosen n v → k ≡ canvas v → let g = glassOf n in whole (k .stride) (k .height) ≡ whole (g .stride) (height g)
-whole-as {v = v} w e = whole-of v e ∙ ap (whole (v .stride)) (w .suits .is-height) ∙ ap (λ (g : Geometry). whole (g .stride) (height g)) (w .glass)
-
-abbrev unflagged : Geometry → State → State
-unflagged g x = withFlags (clearFlags g) x
-
 module _ {r s : List ℕ} (p : Passing (glassOf (length r)) r) (e : s ≡ updated unflagged r) where
-  none-formed : let g = glassOf (length r) in WellFormed g (unflagged g (decode g r))
-  none-formed = let g = glassOf (length r) in flags-formed g (decode g r) (well-formed g r p) (clearFlags g) (length-no-flags (cells g))
-
   pub flagless : Passing (glassOf (length s)) s
-  flagless = still-passes unflagged p none-formed e
+  flagless = still-passes unflagged p (unflagged-formed r p) e
 
   module _ {v : Glass} {k : Canvas} (c : Marks) {t : List ℕ} (w : Chosen (length r) v) (q : k ≡ canvas v)
       (n : (c .dirty ≡ whole (k .stride) (k .height)) × (c .owed ≡ whole (k .stride) (k .height))) (f : t ≡ updated (λ g x. marked g (c .dirty) (c .owed) x) s) where
@@ -71,7 +59,7 @@ module _ {r s : List ℕ} (p : Passing (glassOf (length r)) r) (e : s ≡ update
     all-formed =
         let g = glassOf (length s) in
         let z = p .glass in
-        marked-formed g (c .dirty) (c .owed) (decode g s) (rw (n .0 ∙ whole-as w q) (inr (omega (arith, z .columns, z .cursor, z .row, z .filled, z .high)))) (well-formed g s flagless)
+        marked-formed g (c .dirty) (c .owed) (decode g s) (rw (n .0 ∙ whole-for w q) (inr (omega (arith, z .columns, z .cursor, z .row, z .filled, z .high)))) (well-formed g s flagless)
 
     pub all-marked : Passing (glassOf (length t)) t
     all-marked = still-passes (λ g x. marked g (c .dirty) (c .owed) x) flagless all-formed f
@@ -82,9 +70,9 @@ module _ {r s : List ℕ} (p : Passing (glassOf (length r)) r) (e : s ≡ update
     was-cleared mode m h o u =
         let g = glassOf (length r) in
         let set = onHead (λ x. atPlace 0 0 (withScreenMode mode x)) in
-        let all = whole-as w q in
+        let all = whole-for w q in
         let two = then-updated (λ y x. marked y (c .dirty) (c .owed) x) flagless all-formed f set u in
-        let rec = then-updated unflagged p none-formed e (λ y x. set y (marked y (c .dirty) (c .owed) x)) two ∙ (λ i. encode g (set g (marked g ((n .0 ∙ all) i) ((n .1 ∙ all) i) (unflagged g (decode g r))))) in
+        let rec = then-updated unflagged p (unflagged-formed r p) e (λ y x. set y (marked y (c .dirty) (c .owed) x)) two ∙ (λ i. encode g (set g (marked g ((n .0 ∙ all) i) ((n .1 ∙ all) i) (unflagged g (decode g r))))) in
         λ i. answered 0 [] (lent (rec i) ((o ∙ (λ j. clearedMemory (w .glass j) ((h ∙ sym (head-decoded g r)) j) m)) i) [])
 
 -- the screen mode stays

@@ -1,6 +1,6 @@
 -- The ends of the entry: LENT refused, STATE refused, entered.
 use mathlib.Core.Path.{_≡_, sym, ap, _∙_}
-use mathlib.Core.List.{List, [], _∷_}
+use mathlib.Core.List.{List}
 use mathlib.Core.Bool.{Bool, true, false, _&&_}
 use Prim.Native.Nat.{ℕ, _<_}
 use native.Mathlib.Omega.{arith}
@@ -8,18 +8,15 @@ use borrow.Author.Tests.{eqb-true}
 use lib.Dec.{eqb}
 use lib.ListN.{length, getD}
 use Rattle.model.specs.declared.Rect.{Rect}
-use Rattle.model.specs.declared.Head.{Head}
 use Rattle.model.specs.Rects.{none}
 use Rattle.model.specs.Open.{clearHead}
 use Rattle.model.specs.declared.glass.Glass.{Glass}
 use Rattle.model.specs.Geometry.{Geometry}
 use Rattle.model.specs.Glass.{geometry, glassOf}
 use Rattle.model.specs.Bytes.{Bytes}
-use Rattle.model.specs.Record.{head, recordBytes, headOf, decode, valid}
+use Rattle.model.specs.Record.{head, recordBytes, valid}
 use Rattle.model.specs.Refusals.{LENT, STATE, refusal}
-use Rattle.model.specs.Calls.{lentTest, stateTest}
 use Rattle.laws.specs.Tests.{and-true}
-use Rattle.laws.specs.Windows.{head-part}
 use Rattle.record.specs.Entry.{Chosen, Entered}
 
 -- ---- the entry

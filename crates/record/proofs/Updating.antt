@@ -3,15 +3,20 @@ use mathlib.Core.Path.{_≡_, refl, sym, ap, subst, _∙_}
 use mathlib.Core.List.{List}
 use Prim.Native.Nat.{ℕ, _≤_}
 use lib.ListN.{length}
+use Rattle.model.specs.declared.Canvas.{Canvas}
 use Rattle.model.specs.declared.Head.{Head}
 use Rattle.model.specs.declared.glass.Glass.{Glass}
-use Rattle.model.specs.Geometry.{Geometry}
-use Rattle.model.specs.Glass.{geometry, glassOf}
+use Rattle.model.specs.Geometry.{Geometry, height, cells}
+use Rattle.model.specs.Glass.{geometry, canvas, glassOf}
 use Rattle.model.specs.Memory.{withWindow}
-use Rattle.model.specs.Record.{headBytes, recordBytes, bytesOfHead, State, decode, encode, WellFormed}
+use Rattle.model.specs.Record.{headBytes, recordBytes, bytesOfHead, State, decode, encode, withFlags, WellFormed}
+use Rattle.model.specs.Marks.{whole}
+use Rattle.model.specs.Open.{clearFlags}
 use Rattle.laws.specs.Record.{Passing, decode-encode}
-use Rattle.laws.specs.States.{encode-passing}
-use Rattle.laws.specs.Updates.{head-in, in-head}
+use Rattle.laws.specs.Flags.{length-no-flags}
+use Rattle.laws.specs.States.{well-formed, encode-passing}
+use Rattle.laws.specs.Formed.{flags-formed}
+use Rattle.laws.specs.Updates.{head-in, in-head, whole-of}
 use Rattle.record.specs.Entry.{Chosen}
 use Rattle.record.specs.Update.{updated, onHead}
 
@@ -40,6 +45,17 @@ updates r f k e = e ∙ ap (λ (g : Geometry). encode g (f g (decode g r))) (k .
 pub updated-for : {v : Glass} (r : List ℕ) {s : List ℕ} (f : Geometry → State → State) → Chosen (length r) v → s ≡ updated f r → s ≡ encode (geometry v) (f (geometry v) (decode (geometry v) r))
 unfolding updated
 updated-for r f k e = e ∙ ap (λ (g : Geometry). encode g (f g (decode g r))) (sym (k .glass))
+
+-- the whole of the chosen screen
+pub whole-for : {n : ℕ} {v : Glass} {k : Canvas} → Chosen n v → k ≡ canvas v → let g = glassOf n in whole (k .stride) (k .height) ≡ whole (g .stride) (height g)
+whole-for {v = v} c e = whole-of v e ∙ ap (whole (v .stride)) (c .suits .is-height) ∙ ap (λ (g : Geometry). whole (g .stride) (height g)) (c .glass)
+
+-- no flags
+abbrev pub unflagged : Geometry → State → State
+unflagged g x = withFlags (clearFlags g) x
+
+pub unflagged-formed : (r : List ℕ) → Passing (glassOf (length r)) r → let g = glassOf (length r) in WellFormed g (unflagged g (decode g r))
+unflagged-formed r p = let g = glassOf (length r) in flags-formed g (decode g r) (well-formed g r p) (clearFlags g) (length-no-flags (cells g))
 
 -- another head
 pub sets-head : {r s : List ℕ} (h : Head) → Passing (glassOf (length r)) r → s ≡ withWindow 0 (bytesOfHead h) r → s ≡ updated (onHead (λ x. h)) r

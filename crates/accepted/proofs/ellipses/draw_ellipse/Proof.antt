@@ -2,7 +2,6 @@ use mathlib.Core.Path.{ap, _∙_}
 use Prim.Native.Nat.{ℕ}
 use Rattle.model.specs.declared.Edge.{Edge}
 use Rattle.model.specs.declared.DrawMode.{DrawMode}
-use Rattle.model.specs.Marks.{Drawing}
 use Rattle.model.specs.Ellipses.{radiiFit, ellipse}
 use Rattle.model.specs.Shapes.{filled}
 use Rattle.model.specs.Calls.{done}

@@ -1,7 +1,6 @@
 use Prim.Native.Nat.{ℕ}
 use Rattle.model.specs.declared.Edge.{Edge}
 use Rattle.model.specs.declared.DrawMode.{DrawMode}
-use Rattle.model.specs.Marks.{Drawing}
 use Rattle.model.specs.Boxes.{box}
 use Rattle.model.specs.Shapes.{filled}
 use Rattle.model.specs.Calls.{done}

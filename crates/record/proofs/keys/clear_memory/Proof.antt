@@ -1,11 +1,9 @@
 use mathlib.Core.Path.{ap, _∙_}
-use mathlib.Core.List.{List}
-use Prim.Native.Nat.{ℕ}
 use native.Mathlib.Omega.{arith}
 use lib.ListN.{length, set, length-set}
 use Rattle.model.specs.Geometry.{Geometry}
 use Rattle.model.specs.Glass.{glassOf}
-use Rattle.model.specs.Record.{recordBytes, decode}
+use Rattle.model.specs.Record.{decode}
 use Rattle.model.specs.Open.{withKeys}
 use Rattle.laws.specs.Loops.{clears-memory}
 use Rattle.record.proofs.Updating.{sized-for}

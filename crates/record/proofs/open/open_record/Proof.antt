@@ -1,14 +1,11 @@
 use mathlib.Core.Path.{ap, sym, subst, _∙_}
-use mathlib.Core.List.{List}
-use Prim.Native.Nat.{ℕ}
 use native.Mathlib.Omega.{arith}
 use lib.ListN.{length}
 use Rattle.model.specs.Geometry.{Geometry}
-use Rattle.model.specs.Glass.{geometry, glassOf}
+use Rattle.model.specs.Glass.{glassOf}
 use Rattle.model.specs.Record.{encode}
 use Rattle.model.specs.Marks.{whole, owingEach}
 use Rattle.model.specs.Open.{openState}
-use Rattle.laws.specs.Record.{Passing}
 use Rattle.laws.specs.Updates.{head-in, keys-room, screen-small, whole-of}
 use Rattle.laws.specs.StateTest.{edge-room}
 use Rattle.laws.specs.Opening.{Told, opening-passes, opens}

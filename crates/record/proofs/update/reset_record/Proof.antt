@@ -2,43 +2,33 @@
 use mathlib.Core.Path.{_≡_, sym, ap, _∙_}
 use mathlib.Core.List.{List}
 use Prim.Native.Nat.{ℕ}
-use native.Mathlib.Omega.{arith}
 use lib.ListN.{length}
 use Rattle.model.specs.declared.Head.{Head}
 use Rattle.model.specs.declared.Rect.{Rect}
-use Rattle.model.specs.Geometry.{Geometry, height, cells}
-use Rattle.model.specs.Glass.{geometry, glassOf}
+use Rattle.model.specs.Geometry.{height}
+use Rattle.model.specs.Glass.{glassOf}
 use Rattle.model.specs.Memory.{withWindow}
-use Rattle.model.specs.Record.{State, bytesOfHead, decode, encode, withHead, withFlags, WellFormed}
+use Rattle.model.specs.Record.{bytesOfHead, decode, encode, withHead, WellFormed}
 use Rattle.model.specs.Marks.{whole, owingEach}
-use Rattle.model.specs.Open.{clearHead, clearFlags, resetState}
+use Rattle.model.specs.Open.{clearHead, resetState}
 use Rattle.laws.specs.Record.{Passing}
-use Rattle.laws.specs.Flags.{length-no-flags}
-use Rattle.laws.specs.States.{well-formed}
-use Rattle.laws.specs.Formed.{flags-formed, owing-formed}
-use Rattle.laws.specs.Updates.{head-decoded, in-head, screen-small, whole-of}
+use Rattle.laws.specs.Formed.{owing-formed}
+use Rattle.laws.specs.Updates.{head-decoded, screen-small}
 use Rattle.record.specs.Update.{updated, onHead}
-use Rattle.record.proofs.Updating.{head-there, sets-head, still-passes, then-updated}
+use Rattle.record.proofs.Updating.{head-there, whole-for, unflagged, unflagged-formed, sets-head, still-passes, then-updated}
 use borrow.Author.Needs.{needs}
 use Rattle.record.proofs.update.reset_record.Statement.{statement}
 use Rattle.record.proofs.update.reset_record.Tie as tie
 
-abbrev cleared : Geometry → State → State
-cleared g x = withFlags (clearFlags g) x
+module _ {r s t : List ℕ} (q : Rect) (p : Passing (glassOf (length r)) r) (e : s ≡ updated unflagged r) (f : t ≡ updated (λ g x. owingEach g q x) s) where
+  owing-all : WellFormed (glassOf (length r)) (owingEach (glassOf (length r)) q (unflagged (glassOf (length r)) (decode (glassOf (length r)) r)))
+  owing-all = owing-formed (glassOf (length r)) q _ (unflagged-formed r p)
 
--- no flags
-flagless : (r : List ℕ) → Passing (glassOf (length r)) r → WellFormed (glassOf (length r)) (cleared (glassOf (length r)) (decode (glassOf (length r)) r))
-flagless r p = let g = glassOf (length r) in flags-formed g (decode g r) (well-formed g r p) (clearFlags g) (length-no-flags (cells g))
-
-module _ {r s t : List ℕ} (q : Rect) (p : Passing (glassOf (length r)) r) (e : s ≡ updated cleared r) (f : t ≡ updated (λ g x. owingEach g q x) s) where
-  owing-all : WellFormed (glassOf (length r)) (owingEach (glassOf (length r)) q (cleared (glassOf (length r)) (decode (glassOf (length r)) r)))
-  owing-all = owing-formed (glassOf (length r)) q _ (flagless r p)
-
-  owed : t ≡ updated (λ g x. owingEach g q (cleared g x)) r
-  owed = then-updated cleared p (flagless r p) e (λ g x. owingEach g q x) f
+  owed : t ≡ updated (λ g x. owingEach g q (unflagged g x)) r
+  owed = then-updated unflagged p (unflagged-formed r p) e (λ g x. owingEach g q x) f
 
   owed-passes : Passing (glassOf (length t)) t
-  owed-passes = still-passes (λ g x. owingEach g q (cleared g x)) p owing-all owed
+  owed-passes = still-passes (λ g x. owingEach g q (unflagged g x)) p owing-all owed
 
   -- and the head
   resets : {h : Head} {u : List ℕ} → let g = glassOf (length r) in q ≡ whole (g .stride) (height g) → h ≡ (let x = decode g r .head in clearHead (x .graphics) (x .text) (x .version))
@@ -47,8 +37,8 @@ module _ {r s t : List ℕ} (q : Rect) (p : Passing (glassOf (length r)) r) (e :
   resets {h} w n d =
       let g = glassOf (length r) in
       let s = decode g r in
-      then-updated (λ g x. owingEach g q (cleared g x)) p owing-all owed (onHead (λ x. h)) (sets-head h owed-passes d)
-      ∙ (λ i. encode g (withHead (n i) (owingEach g (w i) (cleared g s))))
+      then-updated (λ g x. owingEach g q (unflagged g x)) p owing-all owed (onHead (λ x. h)) (sets-head h owed-passes d)
+      ∙ (λ i. encode g (withHead (n i) (owingEach g (w i) (unflagged g s))))
 
 load-head-requires : tie.Need-load-head-requires
 load-head-requires c κs = head-there (c .before .before .before .pre)
@@ -66,7 +56,7 @@ whole-screen-requires : tie.Need-whole-screen-requires
 whole-screen-requires c κs = screen-small _ (c .before .before .before .before .before .before .before .before .glass-of .ensures .suits) (c .canvas-of .ensures)
 
 mark-panels-requires : tie.Need-mark-panels-requires
-mark-panels-requires c κs = let s = c .before .before .before .before .before .before .before .before .before .before .before in still-passes cleared (s .pre) (flagless (s .args .rec .now) (s .pre)) (c .before .before .before .before .before .clear-flags .ensures)
+mark-panels-requires c κs = let s = c .before .before .before .before .before .before .before .before .before .before .before in still-passes unflagged (s .pre) (unflagged-formed (s .args .rec .now) (s .pre)) (c .before .before .before .before .before .clear-flags .ensures)
 
 clear-head-requires : tie.Need-clear-head-requires
 clear-head-requires c κs = search needs
@@ -82,9 +72,8 @@ returns c =
     let s = c .before .before .before .before .before .before .before .before .before .before .before .before .before .before .before .before .before .before .before in
     let r = s .args .rec .now in
     let g = glassOf (length r) in
-    let v = c .before .before .before .before .before .before .before .before .before .before .before .before .before .before .before .before .before .glass-of .result in
     let k = c .before .before .before .before .before .before .before .before .before .before .before .before .before .before .before .before .before .glass-of .ensures in
-    let q = c .before .before .before .before .before .before .before .before .whole-screen .ensures ∙ whole-of v (c .before .before .before .before .before .before .before .before .before .canvas-of .ensures) ∙ ap (whole (v .stride)) (k .suits .is-height) ∙ ap (λ (x : Geometry). whole (x .stride) (height x)) (k .glass) in
+    let q = c .before .before .before .before .before .before .before .before .whole-screen .ensures ∙ whole-for k (c .before .before .before .before .before .before .before .before .before .canvas-of .ensures) in
     let h = c .before .before .before .clear-head .ensures ∙ ap (λ (x : Head). clearHead (x .graphics) (x .text) (x .version)) (c .before .before .before .before .before .before .before .before .before .before .before .before .before .before .before .load-head .ensures ∙ sym (head-decoded g r)) in
     resets (c .before .before .before .before .before .before .before .before .whole-screen .result) (s .pre) (c .before .before .before .before .before .before .before .before .before .before .before .before .before .clear-flags .ensures) (c .before .before .before .before .before .before .before .mark-panels .ensures) q h (c .before .before .store-head .ensures)
 
