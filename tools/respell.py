@@ -13,6 +13,7 @@ import os
 import re
 import sys
 
+KEPT = {"and-true", "and-false"}  # std has them too
 LIBRARY = set("""length set take drop get_or map append replicate sum add mul sub min max and or not xor le lt suc zero
 reverse concat bit_and bit_or bit_xor cond eqb ltb leb""".split())
 SIGNATURE = re.compile(
@@ -70,7 +71,7 @@ def plan(root):
     functions |= LIBRARY
     want = {}
     for name in names:
-        if name in made:
+        if name in made or name in KEPT:
             continue
         new = camel_gone(name)
         if "-" in new:

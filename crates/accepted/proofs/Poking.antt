@@ -19,7 +19,7 @@ use Rattle.model.specs.Marks.{marked}
 use Rattle.model.specs.Open.{is_key}
 use Rattle.model.specs.Poke.{ignored, poked, byte_rect, in_screen, poke_mark}
 use Rattle.model.specs.Calls.{write_byte, lent, answered, done}
-use Rattle.laws.specs.Tests.{and_true}
+use Rattle.laws.specs.Tests.{and-true}
 use Rattle.laws.specs.Points.{both}
 use Rattle.laws.specs.Reciprocals.{line_of_byte, column_of_byte}
 use Rattle.laws.specs.Updates.{unmarked}
@@ -41,13 +41,13 @@ in-screen v g a z = ap (λ (n : ℕ). leb g a && ltb a (g + n)) z.is_screen
 
 pub from_base : (v : Glass) (g a : ℕ) {b : Bool} → b ≡ in_screen (geometry v) g a → b ≡ true → g ≤ a
 unfolding in_screen
-from_base v g a e f = leb-true g a (and_true (leb g a) (ltb a (g + screen_bytes (geometry v))) (sym e ∙ f)).0
+from_base v g a e f = leb-true g a (and-true (leb g a) (ltb a (g + screen_bytes (geometry v))) (sym e ∙ f)).0
 
 pub on_screen : (v : Glass) (g a : ℕ) {b : Bool} → Suits v → b ≡ in_screen (geometry v) g a → b ≡ true → ScreenByte v (a - g)
 unfolding in_screen
 on_screen v g a z e f =
     let s = screen_bytes (geometry v) in
-    let l : a < g + s = ltb-true a (g + s) (and_true (leb g a) (ltb a (g + s)) (sym e ∙ f)).1 in
+    let l : a < g + s = ltb-true a (g + s) (and-true (leb g a) (ltb a (g + s)) (sym e ∙ f)).1 in
     record { suits = z; below = omega (arith, z.is_screen, from_base v g a e f) }
 
 -- ---- the line and the column of a screen byte

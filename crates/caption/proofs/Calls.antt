@@ -14,7 +14,7 @@ use Rattle.model.specs.Glass.{geometry, glass_of}
 use Rattle.model.specs.Record.{record_bytes}
 use Rattle.model.specs.Refusals.{Test, test, refusal, ruled}
 use Rattle.model.specs.Calls.{Call, Lent, Outcome, answered, takes, lengths_fit, lent_test, state_test, entry_tests, own_tests, refusals, numbers, nought, refused, done, outcome}
-use Rattle.laws.specs.Tests.{and_true}
+use Rattle.laws.specs.Tests.{and-true}
 use Rattle.laws.specs.Calls.{AllPass, refusal-first, refusal-append, accepted_pass}
 use Rattle.record.specs.Entry.{Chosen, Entered}
 use Rattle.record.specs.Given.{Given}
@@ -68,7 +68,7 @@ enters {others} {r} e z = accepted_pass (entered r others) (omega arith, (omega 
 
 -- what is lent beside the record has its length
 pub beside : {others : Bool} {r : List ℕ} {n : ℕ} → Entered others r n → n ≡ 0 → others ≡ true
-beside {others} {r} e z = (and_true (eqb (length r) (record_bytes (glass_of (length r)))) others (enters e z).0).1
+beside {others} {r} e z = (and-true (eqb (length r) (record_bytes (glass_of (length r)))) others (enters e z).0).1
 
 -- and a memory beside it makes what an accepted call is given
 pub given : {r : List ℕ} (m : List ℕ) {n : ℕ} → Entered (eqb (length m) 65536) r n → n ≡ 0 → Given r m
@@ -76,7 +76,7 @@ given m e z = record { passing = e.passing z; memory = eqb-true (length m) 65536
 
 -- as a memory and an extra list of whole entries do
 pub given_list : {r : List ℕ} (m list : List ℕ) {n : ℕ} → Entered (eqb (length m) 65536 && eqb (length list % 6) 0) r n → n ≡ 0 → Given r m
-given_list m list e z = record { passing = e.passing z; memory = eqb-true (length m) 65536 (and_true (eqb (length m) 65536) (eqb (length list % 6) 0) (beside e z)).0 }
+given_list m list e z = record { passing = e.passing z; memory = eqb-true (length m) 65536 (and-true (eqb (length m) 65536) (eqb (length list % 6) 0) (beside e z)).0 }
 
 -- the entry makes the tests that stand first in a call's list
 abbrev pub Reads : Call → Lent → Type 0
@@ -123,5 +123,5 @@ module _ {r : List ℕ} (m p : List ℕ) {n : ℕ} {v : Glass} (k : Chosen (leng
 
   pub given_panel : n ≡ 0 → Given r m × (length p ≡ screen_bytes (glass_of (length r)))
   given_panel z =
-      let l = and_true (eqb (length m) 65536) (eqb (length p) (screen_bytes (glass_of (length r)))) (beside entered_panel z) in
+      let l = and-true (eqb (length m) 65536) (eqb (length p) (screen_bytes (glass_of (length r)))) (beside entered_panel z) in
       (record { passing = e.passing z; memory = eqb-true (length m) 65536 l.0 }, eqb-true (length p) (screen_bytes (glass_of (length r))) l.1)

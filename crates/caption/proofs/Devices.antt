@@ -15,7 +15,7 @@ use Rattle.model.specs.Geometry.{base, screen_bytes, memory_bytes}
 use Rattle.model.specs.Refusals.{STATE, REGISTER, Test, test, refusal, ruled}
 use Rattle.model.specs.Controller.{register_bytes, register_of, registers_of, bytes_of_registers, registers_fit, busy, takes_write, registers_read, DeviceCall, write, read, device, Device, Answer, answer, device_refusals, device_numbers, device_done, device_outcome}
 use Rattle.model.specs.Driver.{Driven, driven, beside_fits, driver_tests, drive_refusals, drive_done, drive_outcome}
-use Rattle.laws.specs.Tests.{by_test, and_true}
+use Rattle.laws.specs.Tests.{by_test, and-true}
 use Rattle.record.specs.Entry.{Chosen, Entered}
 use Rattle.record.specs.Given.{Given}
 use Rattle.device.specs.declared.entry.DeviceEntry.{DeviceEntry}
@@ -117,9 +117,9 @@ module _ (r m b p i : List ℕ) (k : ℕ) {e : ℕ} {v : Glass} (c : Chosen (len
   module _ (z : e ≡ 0) where
     lengths_fit : (length m ≡ memory_bytes) × (length b ≡ register_bytes) × (length p ≡ screen_bytes base) × (length i ≡ screen_bytes base)
     lengths_fit =
-        let t = and_true (eqb (length m) memory_bytes) _ (beside here z) in
-        let u = and_true _ (eqb (length i) (screen_bytes base)) t.1 in
-        let w = and_true (eqb (length b) register_bytes) (eqb (length p) (screen_bytes base)) u.0 in
+        let t = and-true (eqb (length m) memory_bytes) _ (beside here z) in
+        let u = and-true _ (eqb (length i) (screen_bytes base)) t.1 in
+        let w = and-true (eqb (length b) register_bytes) (eqb (length p) (screen_bytes base)) u.0 in
         (eqb-true _ _ t.0, eqb-true _ _ w.0, eqb-true _ _ w.1, eqb-true _ _ u.1)
 
     pub registers-lent : length b ≡ register_bytes

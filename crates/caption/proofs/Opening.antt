@@ -14,7 +14,7 @@ use Rattle.model.specs.Glass.{geometry, glass_of}
 use Rattle.model.specs.Record.{record_bytes, windows, edge_fits}
 use Rattle.model.specs.Refusals.{LENT, WINDOW, VALUE}
 use Rattle.model.specs.Calls.{Outcome, opening, lent, answered, refusals, done, outcome}
-use Rattle.laws.specs.Tests.{and_true}
+use Rattle.laws.specs.Tests.{and-true}
 use Rattle.record.specs.Entry.{Chosen}
 use Rattle.record.proofs.Entering.{lent_as, lent_sized}
 use Rattle.accepted.specs.Opened.{Opened}
@@ -51,10 +51,10 @@ module _ {v : Glass} (r m : List ℕ) (graphics text version : ℕ) (keys : List
 
     pub may_open : {x : Bool} → t ≡ true → x ≡ edge_fits edge → (leb version 1 && x) ≡ true → length keys ≡ 8 → Words keys → Opened r m graphics text version keys edge
     may_open {x} f i h n ws =
-        let listed = and_true (leb version 1) x h in
+        let listed = and-true (leb version 1) x h in
         record {
           glass = rw k.glass at k.suits.glass;
           sized = lent_sized (eqb (length m) 65536) r k e ∙ ap record_bytes k.glass;
-          memory = eqb-true (length m) 65536 (and_true (eqb (length r) v.bytes) (eqb (length m) 65536) e).1;
+          memory = eqb-true (length m) 65536 (and-true (eqb (length r) v.bytes) (eqb (length m) 65536) e).1;
           told = record { apart = windows_as w f; listed = listed.0; flag = sym i ∙ listed.1; count = n; words = ws };
         }

@@ -6,7 +6,7 @@ use Rattle.model.specs.Geometry.{base, screen_bytes}
 use Rattle.model.specs.Refusals.{LENT, STATE, test, refusal}
 use Rattle.model.specs.Controller.{register_bytes, registers_of, registers_fit}
 use Rattle.model.specs.declared.Registers.{Registers}
-use Rattle.laws.specs.Tests.{and_true}
+use Rattle.laws.specs.Tests.{and-true}
 use Rattle.device.specs.declared.entry.DeviceEntry.{DeviceEntry}
 
 abbrev pub lengths : List ℕ → ℕ → Bool
@@ -25,7 +25,7 @@ pub record DeviceEntered (b : List ℕ) (n : ℕ) (e : DeviceEntry) : Type 0 whe
 module _ (b : List ℕ) (n : ℕ) where
   pub sized : lengths b n ≡ true → (length b ≡ register_bytes) × (n ≡ screen_bytes base)
   sized l =
-      let t = and_true (eqb (length b) register_bytes) (eqb n (screen_bytes base)) l in
+      let t = and-true (eqb (length b) register_bytes) (eqb n (screen_bytes base)) l in
       (eqb-true (length b) register_bytes t.0, eqb-true n (screen_bytes base) t.1)
 
   pub wrong_length : {e : DeviceEntry} → lengths b n ≡ false → e.code ≡ LENT → DeviceEntered b n e

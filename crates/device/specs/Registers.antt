@@ -7,7 +7,7 @@ use Rattle.model.specs.declared.Register.{Register}
 use Rattle.model.specs.declared.Register.TheVariants.{Command, Line, First, Count, Data, Status, Enable, Reset, Beyond}
 use Rattle.model.specs.Geometry.{Geometry, height}
 use Rattle.model.specs.Controller.{register_bytes, registers_of, bytes_of_registers, busy, interrupt, enabled, status_of, line_tests, line_fits, register_tests, registers_fit, takes_write, registers_after, registers_read}
-use Rattle.laws.specs.Tests.{if_cases, by_test, by_eq, either, clash, tests, all_true, true_all, and_true, or_cases, or_left, or_right}
+use Rattle.laws.specs.Tests.{if_cases, by_test, by_eq, either, clash, tests, all_true, true_all, and-true, or_cases, or_left, or_right}
 
 -- a line of the panel, and bytes of it: what command 2 takes
 pub record LineIn (g : Geometry) (line first count : ℕ) : Type 0 where
@@ -86,7 +86,7 @@ status_small false false = omega arith
 command_passes : (g : Geometry) (r : Registers) (v : ℕ) → Passes g r → takes_write g r Command v ≡ true → Passes g (registers_after r Command v)
 unfolding takes_write registers_after
 command_passes g r v p t =
-    let k = and_true (not (busy r)) (leb v 1 || (eqb v 2 && line_fits g r)) t in
+    let k = and-true (not (busy r)) (leb v 1 || (eqb v 2 && line_fits g r)) t in
     let idle : busy r ≡ false = not-true (busy r) k.0 in
     by_eq v 2
     (λ e. rw e (record {
@@ -95,10 +95,10 @@ command_passes g r v p t =
       enable = p.enable;
       reset = p.reset;
       line = λ b. either (or_cases (leb v 1) (eqb v 2 && line_fits g r) k.1) (λ s. absurd (omega (arith, tests)))
-          (λ s. line_in g r (and_true (eqb v 2) (line_fits g r) s).1);
+          (λ s. line_in g r (and-true (eqb v 2) (line_fits g r) s).1);
     }))
     (λ n. rw (ne_eqb v 2 n) (record {
-      command = either (or_cases (leb v 1) (eqb v 2 && line_fits g r) k.1) (λ s. omega (arith, tests)) (λ s. absurd (n (eqb-true v 2 (and_true (eqb v 2) (line_fits g r) s).0)));
+      command = either (or_cases (leb v 1) (eqb v 2 && line_fits g r) k.1) (λ s. omega (arith, tests)) (λ s. absurd (n (eqb-true v 2 (and-true (eqb v 2) (line_fits g r) s).0)));
       status = p.status;
       enable = p.enable;
       reset = p.reset;

@@ -6,7 +6,7 @@ use crate::registers;
 use model::glass::{REGISTER_BYTES, SMALL};
 use model::{Registers, refusal};
 
-#[derive(Drop)]
+#[derive(Clone, Copy)]
 pub struct DeviceEntry {
     pub code: u32,
     pub registers: Registers,

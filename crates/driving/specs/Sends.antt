@@ -16,7 +16,7 @@ use Rattle.model.specs.Sends.{take_owed, copy_line, send_panel}
 use Rattle.model.specs.Calls.{send, lent, Outcome, answered, refusals, refused, done, outcome}
 use Rattle.model.specs.Controller.{register_bytes, registers_fit, busy, Device, device, Answer, answer, device_fits, run_device}
 use Rattle.model.specs.Driver.{Driven, driven, driver_writes, beside_fits, drive_refusals, drive_done, drive_outcome}
-use Rattle.laws.specs.Tests.{by_test, and_true}
+use Rattle.laws.specs.Tests.{by_test, and-true}
 use Rattle.laws.specs.Rects.{Proper}
 use Rattle.laws.specs.Bands.{to-send}
 use Rattle.laws.specs.Calls.{accepted_pass}
@@ -45,10 +45,10 @@ pub drivable : (g : Geometry) → IsGlass g → (k : ℕ) (l : Driven) → Bytes
 unfolding drive_refusals
 drivable g glass k l bytes a =
     let t = accepted_pass (drive_refusals g k l) (omega arith) a in
-    let n = and_true (eqb (length l.rec) (record_bytes g)) (beside_fits g l) t.0 in
-    let o = and_true (eqb (length l.memory) memory_bytes) (device_fits g l.device && eqb (length l.image) (screen_bytes g)) n.1 in
-    let i = and_true (device_fits g l.device) (eqb (length l.image) (screen_bytes g)) o.1 in
-    let d = and_true (eqb (length l.device.registers) register_bytes) (eqb (length l.device.panel) (screen_bytes g)) i.0 in
+    let n = and-true (eqb (length l.rec) (record_bytes g)) (beside_fits g l) t.0 in
+    let o = and-true (eqb (length l.memory) memory_bytes) (device_fits g l.device && eqb (length l.image) (screen_bytes g)) n.1 in
+    let i = and-true (device_fits g l.device) (eqb (length l.image) (screen_bytes g)) o.1 in
+    let d = and-true (eqb (length l.device.registers) register_bytes) (eqb (length l.device.panel) (screen_bytes g)) i.0 in
     record {
       lendable = record {
         passing = record { glass = glass; sized = eqb-true (length l.rec) (record_bytes g) n.0; bytes = bytes; passes = t.1.0 };

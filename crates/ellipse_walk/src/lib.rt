@@ -6,7 +6,7 @@ ghost use Rattle.ellipse_walk.specs.Walk.{axis_of, walk_of, parts_of, Stepped};
 use std::num::{wrapping_add_u8, wrapping_sub_u8};
 
 // The source's variables of one axis: fx, fx_neg, delta_x, tmp_x and inc_x, or those of y.
-#[derive(Drop)]
+#[derive(Clone, Copy)]
 pub struct EllipseAxis {
     pub f: u8,
     pub neg: bool,
@@ -16,7 +16,7 @@ pub struct EllipseAxis {
 }
 
 // Both axes, and fxy, fxy_neg and part_start.
-#[derive(Drop)]
+#[derive(Clone, Copy)]
 pub struct EllipseWalk {
     pub x: EllipseAxis,
     pub y: EllipseAxis,
@@ -26,13 +26,13 @@ pub struct EllipseWalk {
 }
 
 // The part that a step draws, if any: how far its corners lie from the centre.
-#[derive(Drop)]
+#[derive(Clone, Copy)]
 pub enum EllipsePart {
     Nothing,
     At(u8, u8),
 }
 
-#[derive(Drop)]
+#[derive(Clone, Copy)]
 pub struct EllipseStep {
     pub walk: EllipseWalk,
     pub part: EllipsePart,

@@ -16,7 +16,7 @@ use Rattle.model.specs.Bytes.{four}
 use Rattle.model.specs.Glyphs.{Fonts, digit, glyph_of, fonts_fit, code_stores}
 use Rattle.model.specs.declared.Shown.{Shown}
 use Rattle.model.specs.Flush.{top_of, right_of, flag_at, half_stores, glyph_stores, kind_stores, stores, text_stores, spot, shown_at, next_spot, walk}
-use Rattle.laws.specs.Tests.{by_lt, and_true}
+use Rattle.laws.specs.Tests.{by_lt, and-true}
 use Rattle.laws.specs.Glyphs.{fits-append, column_fits, lines_fits, code-fits}
 use Rattle.laws.specs.FlushWalk.{Within, rest, rest_more, rest_end, rest-start}
 use Rattle.flush.specs.Fits.{code_fits, glyph_fits, kind_fits, shown_fits, walk_fits, text_fits, entries_fit_from}
@@ -158,4 +158,4 @@ module _ (st n : ℕ) (text : List ℕ) (version : ℕ) (f : Fonts) where
 
     -- where the rest passes, what is shown here does
     pub fits_here : walk_fits version f (rest st n text s) ≡ true → shown_fits version f w ≡ true
-    fits_here k = (and_true (shown_fits version f w) (walk_fits version f (rest st n text (next_spot st w))) (sym fits-step ∙ k)).0
+    fits_here k = (and-true (shown_fits version f w) (walk_fits version f (rest st n text (next_spot st w))) (sym fits-step ∙ k)).0

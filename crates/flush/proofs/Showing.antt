@@ -17,7 +17,7 @@ use Rattle.model.specs.declared.Shown.{Shown}
 use Rattle.model.specs.declared.CellKind.TheVariants.{Blank, Single, Pair, Code}
 use Rattle.model.specs.Glyphs.{Fonts, digit, glyph_of, paint, column_stores, code_stores}
 use Rattle.model.specs.Flush.{is_last, kind_of, shown_at, top_of, right_of, flag_at, half_stores, glyph_stores, kind_stores}
-use Rattle.laws.specs.Tests.{tests, by_lt, if_cases, and_true, clash}
+use Rattle.laws.specs.Tests.{tests, by_lt, if_cases, and-true, clash}
 use Rattle.laws.specs.Glyphs.{paint-append, glyph_lines, paint_lines, part_lines}
 use Rattle.flush.specs.Fits.{code_fits, glyph_fits, kind_fits}
 use Rattle.flush.specs.Rooms.{OnScreen, Room, SpotRoom, PairRoom, ShownRoom, part_of, PartFits, code_end, is_hexadecimal}
@@ -45,7 +45,7 @@ hex_extra i e = rw e
 pub code-end : (font : List ℕ) (b : ℕ) → code_fits font b ≡ true → code_end b ≤ length font
 unfolding code_fits
 code-end font b e =
-    let p = and_true (leb (8 * digit (b / 16) + 8) (length font)) (leb (8 * digit (b % 16) + 8) (length font)) e in
+    let p = and-true (leb (8 * digit (b / 16) + 8) (length font)) (leb (8 * digit (b % 16) + 8) (length font)) e in
     omega (arith, leb-true (8 * digit (b / 16) + 8) (length font) p.0, leb-true (8 * digit (b % 16) + 8) (length font) p.1)
 
 module _ (ascii8 gb emoji extra : List ℕ) (lead trail : ℕ) where
@@ -67,7 +67,7 @@ module _ (ascii8 gb emoji extra : List ℕ) (lead trail : ℕ) where
   codes_end (Gb i) h y e = clash _ y h
   codes_end (Extra i) h y e = clash _ y h
   codes_end Hexadecimal h y e =
-      let p = and_true (code_fits ascii8 lead) (code_fits ascii8 trail) e in
+      let p = and-true (code_fits ascii8 lead) (code_fits ascii8 trail) e in
       (code-end ascii8 lead p.0, code-end ascii8 trail p.1)
 
 length_part : (a : ℕ) (font : List ℕ) → a + 32 ≤ length font → length (take 32 (drop a font)) ≡ 32

@@ -14,7 +14,7 @@ use Rattle.model.specs.declared.Shown.{Shown}
 use Rattle.model.specs.Memory.{zeros}
 use Rattle.model.specs.Glyphs.{Fonts, Store, paint}
 use Rattle.model.specs.Flush.{cleared_in_text, spot, shown_at, cells_taken, spot_after, next_spot, shown_stores, stores, text_stores}
-use Rattle.laws.specs.Tests.{and_true}
+use Rattle.laws.specs.Tests.{and-true}
 use Rattle.laws.specs.Glyphs.{length-paint, paint-append}
 use Rattle.laws.specs.FlushWalk.{Within, rest_more, rest_end, rest-start}
 use Rattle.flush.specs.Fits.{text_fits, blank_cells}
@@ -99,9 +99,9 @@ module _ (st n : ℕ) (text : List ℕ) (flags : List Bool) (version : ℕ) (f :
       → blank_cells text s.cell k ≡ true → Painted from old (spot_after st s k) screen
   unfolding blank_cells
   painted_blanks zero s screen p l a b h = absurd (omega arith)
-  painted_blanks (suc zero) s screen p l a b h = painted_blank s screen p l (eqb-true (get_or text s.cell 0) 0 (and_true (eqb (get_or text s.cell 0) 0) true h).0)
+  painted_blanks (suc zero) s screen p l a b h = painted_blank s screen p l (eqb-true (get_or text s.cell 0) 0 (and-true (eqb (get_or text s.cell 0) 0) true h).0)
   painted_blanks (suc (suc k)) s screen p l a b h =
-      let z = and_true (eqb (get_or text s.cell 0) 0) (blank_cells text (s.cell + 1) (suc k)) h in
+      let z = and-true (eqb (get_or text s.cell 0) 0) (blank_cells text (s.cell + 1) (suc k)) h in
       let t = spot (s.cell + 1) s.row (s.column + 1) in
       let one = after_row st 1 s (omega arith) in
       rw (after-after st (suc k) s) (painted_blanks (suc k) t screen (rw one (painted_blank s screen p l (eqb-true (get_or text s.cell 0) 0 z.0))) l (omega arith) (omega arith) z.1)
@@ -110,7 +110,7 @@ module _ (st n : ℕ) (text : List ℕ) (flags : List Bool) (version : ℕ) (f :
   pub row_blank : (k : ℕ) (s : Spot) (screen : List ℕ) {t : Bool} {r : Spot} → LeftFits st n text version f s → s.row < n → k ≡ st - s.column
       → t ≡ (leb (s.cell + k) (length text) && blank_cells text s.cell k) → t ≡ true → r ≡ spot_after st s (st - s.column) → Painted s screen r screen × (s.row < r.row)
   row_blank k s screen h l c e y q =
-      let b = (and_true (leb (s.cell + k) (length text)) (blank_cells text s.cell k) (sym e ∙ y)).1 in
+      let b = (and-true (leb (s.cell + k) (length text)) (blank_cells text s.cell k) (sym e ∙ y)).1 in
       let w = h.within.column in
       let below = ap (λ (t : Spot). t.row) (after_end st k s (omega arith) refl) in
       rw (q, ← c) (painted_blanks k s screen (painted-none s screen h) l (omega arith) (omega arith) b, omega (arith, below))

@@ -1,6 +1,6 @@
 -- The walk in code: what is shown, and what a step keeps.
 use mathlib.Core.Path.{◌≡◌, refl, ap, ◌∙◌}
-use mathlib.Core.Bool.{Bool, true, false, ◌&&◌, and_assoc, and_true}
+use mathlib.Core.Bool.{Bool, true, false, ◌&&◌, and_assoc, and-true}
 use mathlib.Core.List.{List, [], ◌∷◌}
 use Prim.Native.Nat.{ℕ, zero, suc, ◌+◌, ◌-◌, ◌≤◌, ◌<◌}
 use native.Mathlib.Nat.{mul-le-mul}
@@ -71,7 +71,7 @@ module _ (ok : Bool) (text : List ℕ) (i e : ℕ) where
 
   pub blank_end : e ≤ i → (ok && blank_cells text i (e - i)) ≡ ok
   unfolding blank_cells
-  blank_end l = let q : e - i ≡ 0 = omega arith in cc (and_true ok)
+  blank_end l = let q : e - i ≡ 0 = omega arith in cc (and-true ok)
 
 pub blank_start : (text : List ℕ) (at k : ℕ) → blank_cells text at (at + k - at) ≡ blank_cells text at k
 blank_start text at k = let q : at + k - at ≡ k = omega arith in ap (blank_cells text at) q

@@ -22,7 +22,7 @@ use Rattle.model.specs.Codes.{CodeRow, emoji_rows, in_row, index_in, emoji_index
 use Rattle.model.specs.Glyphs.{Fonts, glyph_or, glyph_of}
 use Rattle.model.specs.Flush.{is_last, kind_of, shown_at, next_spot, spot, walk}
 use Rattle.laws.specs.Glyphs.{digits_fit}
-use Rattle.laws.specs.Tests.{either, tests, all_true, and_true, between, or_cases, if_cases}
+use Rattle.laws.specs.Tests.{either, tests, all_true, and-true, between, or_cases, if_cases}
 use Rattle.flush.specs.Fits.{code_fits, glyph_fits, kind_fits, walk_fits, text_fits, entries_fit_from, entries_fit, whole_fonts}
 
 -- ---- indices
@@ -75,7 +75,7 @@ entry_inside : (list extra : List ℕ) (code i n : ℕ) → entries_fit_from lis
 unfolding extra_from entries_fit_from
 entry_inside list extra code i zero h = tt
 entry_inside list extra code i (suc n) h =
-    let p = and_true (leb (four list (i + 2) + 32) (length extra)) (entries_fit_from list extra (i + 6) n) h in
+    let p = and-true (leb (four list (i + 2) + 32) (length extra)) (entries_fit_from list extra (i + 6) n) h in
     if_cases (λ (x : Found). Inside x (length extra)) (eqb (two list i) code)
     (λ e. leb-true (four list (i + 2) + 32) (length extra) p.0) (λ e. entry_inside list extra code (i + 6) n p.1)
 
@@ -92,10 +92,10 @@ module _ (f : Fonts) (w : whole_fonts f.ascii8 f.ascii16 f.gb f.emoji f.extra_li
   whole : Whole
   unfolding whole_fonts
   whole =
-      let a = and_true ((leb 568 (length f.ascii8) && leb 2048 (length f.ascii16)) && (leb 243648 (length f.gb) && leb 16864 (length f.emoji))) (entries_fit f.extra_list f.extra_font) w in
-      let b = and_true (leb 568 (length f.ascii8) && leb 2048 (length f.ascii16)) (leb 243648 (length f.gb) && leb 16864 (length f.emoji)) a.0 in
-      let c = and_true (leb 568 (length f.ascii8)) (leb 2048 (length f.ascii16)) b.0 in
-      let d = and_true (leb 243648 (length f.gb)) (leb 16864 (length f.emoji)) b.1 in
+      let a = and-true ((leb 568 (length f.ascii8) && leb 2048 (length f.ascii16)) && (leb 243648 (length f.gb) && leb 16864 (length f.emoji))) (entries_fit f.extra_list f.extra_font) w in
+      let b = and-true (leb 568 (length f.ascii8) && leb 2048 (length f.ascii16)) (leb 243648 (length f.gb) && leb 16864 (length f.emoji)) a.0 in
+      let c = and-true (leb 568 (length f.ascii8)) (leb 2048 (length f.ascii16)) b.0 in
+      let d = and-true (leb 243648 (length f.gb)) (leb 16864 (length f.emoji)) b.1 in
       record {
         ascii8 = leb-true 568 (length f.ascii8) c.0;
         ascii16 = leb-true 2048 (length f.ascii16) c.1;

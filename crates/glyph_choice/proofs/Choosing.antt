@@ -1,6 +1,6 @@
 -- The choice of a glyph: rows of emoji, the test of a GB code, the extra list, one source after another.
 use mathlib.Core.Path.{◌≡◌, refl, sym, ap, ◌∙◌}
-use mathlib.Core.Bool.{true, false, ◌&&◌, ◌||◌, and_false}
+use mathlib.Core.Bool.{true, false, ◌&&◌, ◌||◌, and-false}
 use mathlib.Core.List.{List, []}
 use Prim.Native.Nat.{ℕ, ◌+◌, ◌-◌, ◌*◌, ◌/◌, ◌≤◌}
 use native.Mathlib.Omega.{arith}
@@ -27,8 +27,8 @@ pub no_trail : (lead trail : ℕ) → (ltb trail 161 || ltb 254 trail) ≡ true 
 unfolding gb_index
 no_trail lead trail e =
     either (or_cases (ltb trail 161) (ltb 254 trail) e)
-    (λ h. rw (lt-leb 161 trail (omega (arith, tests)), and_false (gb_lead lead)))
-    (λ h. rw (lt-leb trail 254 (omega (arith, tests)), and_false (gb_lead lead && leb 161 trail)))
+    (λ h. rw (lt-leb 161 trail (omega (arith, tests)), and-false (gb_lead lead)))
+    (λ h. rw (lt-leb trail 254 (omega (arith, tests)), and-false (gb_lead lead && leb 161 trail)))
 
 pub trail_range : (trail : ℕ) → (ltb trail 161 || ltb 254 trail) ≡ false → (161 ≤ trail) × (trail ≤ 254)
 trail_range trail e = let t = neither (ltb trail 161) (ltb 254 trail) e in omega (arith, tests)

@@ -14,7 +14,7 @@ use Rattle.model.specs.Lists.{owed_lines, own_band, lines_left}
 use Rattle.model.specs.Geometry.{Geometry, width, height}
 use Rattle.model.specs.Record.{Pending, nothing_pending, bands_fit, pending_fits, WellPending}
 use Rattle.model.specs.Open.{open_pending}
-use Rattle.laws.specs.Tests.{if_cases, clash, by_test, either, tests, and_true}
+use Rattle.laws.specs.Tests.{if_cases, clash, by_test, either, tests, and-true}
 use Rattle.laws.specs.Rects.{Fits, join-none, empty_none, is_some, not_in_none, in_not_none, join-left, join_right, join-fits, cut_fits, cut_outside, cut_in, Proper, fits_passes, passes_fits}
 
 -- each rectangle lies in its band, of b lines, the first from line lo
@@ -153,7 +153,7 @@ bands_in : (w b lo : ℕ) (rs : List Rect) → bands_fit w b lo rs ≡ true → 
 unfolding bands_fit
 bands_in w b lo [] e = tt
 bands_in w b lo (r ∷ rs) e =
-    let p = and_true (fits w lo (lo + b) r) (bands_fit w b (lo + b) rs) e in
+    let p = and-true (fits w lo (lo + b) r) (bands_fit w b (lo + b) rs) e in
     (passes_fits w lo (lo + b) r p.0, bands_in w b (lo + b) rs p.1)
 
 bands_out : (w b lo : ℕ) (rs : List Rect) → BandsFit w b lo rs → bands_fit w b lo rs ≡ true
@@ -164,11 +164,11 @@ bands_out w b lo (r ∷ rs) f = rw (fits_passes w lo (lo + b) r f.0) (bands_out 
 module _ (g : Geometry) (p : Pending) where
   pub owed_fits : WellPending g p → BandsFit (width g) g.band 0 p.owed
   unfolding pending_fits
-  owed_fits w = bands_in (width g) g.band 0 p.owed (and_true (bands_fit (width g) g.band 0 p.owed) (fits (width g) 0 (height g) p.hand) w.passes).0
+  owed_fits w = bands_in (width g) g.band 0 p.owed (and-true (bands_fit (width g) g.band 0 p.owed) (fits (width g) 0 (height g) p.hand) w.passes).0
 
   pub hand_fits : WellPending g p → Fits (width g) 0 (height g) p.hand
   unfolding pending_fits
-  hand_fits w = passes_fits (width g) 0 (height g) p.hand (and_true (bands_fit (width g) g.band 0 p.owed) (fits (width g) 0 (height g) p.hand) w.passes).1
+  hand_fits w = passes_fits (width g) 0 (height g) p.hand (and-true (bands_fit (width g) g.band 0 p.owed) (fits (width g) 0 (height g) p.hand) w.passes).1
 
   pub well_pending : length p.owed ≡ g.bands → BandsFit (width g) g.band 0 p.owed → Fits (width g) 0 (height g) p.hand → p.sent < 4294967296
       → WellPending g p

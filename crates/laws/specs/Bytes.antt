@@ -1,7 +1,7 @@
 -- Bytes by their bits: the bits of `&`, `|`, `^`, of a complement and of a masked change; two bytes with equal bits are equal, and two screens with equal pixels are.
 use Rattle.std.specs.Prelude.{◌≡◌, refl, Bool, true, false, cond, not, ◌&&◌, ◌||◌, List, ℕ, zero, suc, ◌+◌, ◌-◌, ◌*◌, ◌/◌, ◌%◌, ◌^◌, ◌<◌, eqb, length, get_or, set}
 use Rattle.std.proofs.Common.{sym, ◌∙◌, arith, mod-lt, ext_get_or, get_or-set_same, get_or-set_other, eqb-true}
-use Rattle.std.proofs.Math.Bool.{xor, and_true, and_false, or-false}
+use Rattle.std.proofs.Math.Bool.{xor, and-true, and-false, or-false}
 use Rattle.std.specs.Bool.{beq}
 use Rattle.std.proofs.Math.Nat.{div-add-mod}
 use Rattle.std.specs.Int.Bits.{bit_and, bit_or, bit_xor, and_lt}
@@ -54,8 +54,8 @@ abbrev pub mixed : ℕ → ℕ → ℕ → ℕ
 mixed m from onto = bit_or (bit_and from m) (bit_and onto (255 - m))
 
 mix_cond : (f o t : Bool) → (f && t || o && not t) ≡ cond t f o
-mix_cond f o true = rw (and_true f, and_false o) (or-false f)
-mix_cond f o false = rw (and_false f) (and_true o)
+mix_cond f o true = rw (and-true f, and-false o) (or-false f)
+mix_cond f o false = rw (and-false f) (and-true o)
 
 pub mix_masked : (b m : ℕ) → b < 256 → m < 256 → (f : ℕ) → f < 256 → Masked m (λ k v. bit_at f k) b (mixed m f b)
 mix_masked b m hb hm f hf = record {

@@ -6,7 +6,7 @@ use Rattle.model.specs.Record.{record_bytes}
 use Rattle.model.specs.Refusals.{Test, refusal, ruled}
 use Rattle.model.specs.Calls.{Call, Lent, Lending, to_open, record_only, with_memory, with_fonts, with-panel, takes, lengths_fit, state_tests, entry_tests, own_tests, refusals, refused, done, outcome}
 use Rattle.model.specs.Lists.{accepted}
-use Rattle.laws.specs.Tests.{by_test, and_true}
+use Rattle.laws.specs.Tests.{by_test, and-true}
 
 abbrev pub AllPass : List Test → Type 0
 AllPass [] = Unit {0}
@@ -70,7 +70,7 @@ pub accepted_call : (g : Geometry) (c : Call) (l : Lent) → Numbered (own_tests
 unfolding refusals
 accepted_call g c l n a =
     let p = accepted-first (entry_tests g (takes c) l) (own_tests g c l) (numbered_entry g (takes c) l) a in
-    let k = and_true (eqb (length l.rec) (record_bytes g)) (lengths_fit g (takes c) l) p.0.0 in
+    let k = and-true (eqb (length l.rec) (record_bytes g)) (lengths_fit g (takes c) l) p.0.0 in
     (record { sized = eqb-true (length l.rec) (record_bytes g) k.0; lengths = k.1; state = p.0.1 }, accepted_pass (own_tests g c l) n p.1)
 
 pub outcome-done : (g : Geometry) (c : Call) (l : Lent) → accepted g c l → outcome g c l ≡ done g c l

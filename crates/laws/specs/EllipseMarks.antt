@@ -15,7 +15,7 @@ use Rattle.model.specs.Points.{point, point_write}
 use Rattle.model.specs.Ellipses.{Part, parts, up, down, corners, chord, chords, part_writes, parts_writes, wraps, ellipse_mark, ellipse_drawn, is_point, is_nothing, ellipse, radii_fit, steps_fit, part}
 use Rattle.model.specs.declared.Marks.{Marks}
 use Rattle.model.specs.Lines.{clamped, horizontal, owed_by}
-use Rattle.laws.specs.Tests.{tests, if_cases, by_test, either, and_true, and_false, or_right, neither, clash}
+use Rattle.laws.specs.Tests.{tests, if_cases, by_test, either, and-true, and-false, or_right, neither, clash}
 use Rattle.laws.specs.Rects.{fits_passes}
 use Rattle.laws.specs.Pixels.{Each}
 use Rattle.laws.specs.Writes.{within_none, within_more, within-append, within-seen, OwesItsMark, drawn-append}
@@ -100,7 +100,7 @@ drawn-within st h edge x y rx ry fill d o =
 
 not-both : (rx ry : ℕ) → is_point rx ry ≡ false → 0 < max rx ry
 unfolding is_point
-not-both rx ry e = either (and_false (eqb rx 0) (eqb ry 0) e) (λ f. omega (arith, tests)) (λ f. omega (arith, tests))
+not-both rx ry e = either (and-false (eqb rx 0) (eqb ry 0) e) (λ f. omega (arith, tests)) (λ f. omega (arith, tests))
 
 -- a point, nothing, or an ellipse that is walked
 pub shape : {P : Type 0} (rx ry : ℕ) (fill : Bool) (d : DrawMode) → radii_fit rx ry fill d ≡ true → (is_point rx ry ≡ true → P)
@@ -109,7 +109,7 @@ unfolding radii_fit
 shape rx ry fill d e dot void walked =
     by_test (is_point rx ry) dot
     (λ p. by_test (is_nothing fill d) (void p)
-    (λ n. let q = and_true (leb rx 127) (leb ry 127) (rw (p, n) at e) in walked p n (omega (arith, tests, not-both rx ry p))))
+    (λ n. let q = and-true (leb rx 127) (leb ry 127) (rw (p, n) at e) in walked p n (omega (arith, tests, not-both rx ry p))))
 
 -- ENDLESS is never due
 pub always_ends : (rx ry : ℕ) (fill : Bool) (d : DrawMode) → radii_fit rx ry fill d ≡ true → steps_fit rx ry fill d ≡ true

@@ -10,7 +10,7 @@ use Prim.Native.Nat.{ℕ, zero, suc, ◌+◌, ◌-◌, ◌*◌, ◌%◌, ◌≤�
 use Rattle.std.proofs.Math.Nat.{mul-le-mul, le_refl}
 use native.Mathlib.Omega.{arith}
 use Rattle.model.specs.Ellipses.{Axis, Walk, start, fed, moves, advanced, turns, turned, apart, x_step, y_step, step, early, x_parts, y_parts, Part, step_parts, ended, parts_from, steps_from, most_steps, parts, steps}
-use Rattle.laws.specs.Tests.{tests, by_test, by_lt, either, if_cases, and_true, and_false}
+use Rattle.laws.specs.Tests.{tests, by_test, by_lt, either, if_cases, and-true, and-false}
 use Rattle.laws.specs.Pixels.{Each}
 
 -- ---- one axis
@@ -260,9 +260,9 @@ steps_are rx ry o =
     let r = max rx ry in
     let q = radii rx ry refl o in
     if_cases (λ (n : ℕ). steps rx ry ≡ n) (leb 2 r && leb 1 rx)
-    (λ e. let p = and_true (leb 2 r) (leb 1 rx) e in
+    (λ e. let p = and-true (leb 2 r) (leb 1 rx) e in
     counted r rx ry q (leb-true 1 rx p.1) (leb-true 2 r p.0) (suc most_steps) (r + r) (start r rx) (on_start r rx ry q) (omega arith) ∙ omega arith)
-    (λ e. once r rx ry q most_steps (either (and_false (leb 2 r) (leb 1 rx) e) (λ f. inl (omega (arith, tests))) (λ f. inr (omega (arith, tests)))))
+    (λ e. once r rx ry q most_steps (either (and-false (leb 2 r) (leb 1 rx) e) (λ f. inl (omega (arith, tests))) (λ f. inr (omega (arith, tests)))))
 
 -- so ENDLESS is never due
 pub never_endless : (rx ry : ℕ) → Round rx ry → leb (steps rx ry) most_steps ≡ true

@@ -1,7 +1,7 @@
 -- The flags of the text cells in their bytes: there and back, one written, all scrolled, none set. Laws, code and definitions beside these know no form of a flag.
 use Rattle.std.specs.Prelude.{◌≡◌, refl, Bool, true, ◌&&◌, List, [], ◌∷◌, ◌++◌, map, ℕ, zero, suc, ◌+◌, ◌-◌, ◌<◌, ◌≤◌, leb, eqb, length, get_or, set, drop, replicate}
 use Rattle.std.proofs.Common.{sym, ap, ◌∙◌, add-one, arith, leb-true, take_all, drop-cons}
-use Rattle.std.proofs.Math.Bool.{false, and_assoc, and_true as and_last}
+use Rattle.std.proofs.Math.Bool.{false, and_assoc, and-true as and_last}
 use Rattle.std.proofs.lemmas.List.{map-append, length-map, length-replicate}
 use Rattle.std.proofs.Math.ListN.{get_or-map, get_or-eq_default}
 use Rattle.model.specs.Memory.{zeros}
@@ -9,7 +9,7 @@ use Rattle.model.specs.Bytes.{Bytes}
 use Rattle.model.specs.Flags.{flag_bytes, flag_of, flag_byte, flags_in, bytes_of_flags, flags_fit}
 use Rattle.model.specs.Flush.{flag_at}
 use Rattle.model.specs.Print.{scrolled}
-use Rattle.laws.specs.Tests.{and_true}
+use Rattle.laws.specs.Tests.{and-true}
 use Rattle.laws.specs.ListLaws.{map-replicate}
 use Rattle.laws.specs.Layout.{bytes_cons, bytes_nil}
 
@@ -31,7 +31,7 @@ flags_read zero [] l e = refl
 flags_read zero (b ∷ c) l e = absurd (omega arith)
 flags_read (suc n) [] l e = absurd (omega arith)
 flags_read (suc n) (b ∷ c) l e =
-    let p = and_true (leb b 1) (flags_fit n c) e in
+    let p = and-true (leb b 1) (flags_fit n c) e in
     λ i. flag_again b (leb-true b 1 p.0) i ∷ flags_read n c (omega arith) p.1 i
 
 flag_back : (f : Bool) → flag_of (flag_byte f) ≡ f

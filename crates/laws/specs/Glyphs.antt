@@ -2,7 +2,7 @@
 use Rattle.std.specs.Prelude.{◌≡◌, Bool, true, false, ◌&&◌, leb, eqb, ltb, length}
 use Rattle.std.proofs.Math.Path.{refl, ap}
 use Rattle.std.proofs.Common.{sym, ◌∙◌, mul-suc, length-set, get_or-take, get_or-drop, drop-cons}
-use Rattle.std.proofs.Math.Bool.{and_assoc, and_true}
+use Rattle.std.proofs.Math.Bool.{and_assoc, and-true}
 use mathlib.Core.List.{List, [], ◌∷◌, ◌++◌}
 use Prim.Native.Nat.{ℕ, zero, suc, ◌+◌, ◌-◌, ◌≤◌, ◌<◌, ◌*◌, ◌/◌, ◌%◌}
 use native.Mathlib.Omega.{arith}
@@ -156,7 +156,7 @@ module _ (st : ℕ) (font : List ℕ) (inverse : Bool) where
   -- they lie in the font where the last one does
   pub column_fits : (place i h : ℕ) → fonts_fit (column_stores st font place i inverse (suc h)) ≡ leb (i + suc h) (length font)
   unfolding column_stores fonts_fit
-  column_fits place i zero = cc (and_true (ltb i (length font)), add-one i)
+  column_fits place i zero = cc (and-true (ltb i (length font)), add-one i)
   column_fits place i (suc h) =
       let q : i + 1 + suc h ≡ i + suc (suc h) = omega arith in
       cc (column_fits (place + st) (i + 1) h, both_below i (i + suc (suc h)) (length font) (omega arith))
@@ -200,7 +200,7 @@ module _ (st : ℕ) (font : List ℕ) (il ir : Bool) where
   unfolding line_stores fonts_fit
   lines_fits left right i zero =
       let q : suc (i + 1) ≡ i + 2 = omega arith in
-      cc (and_true (ltb (i + 1) (length font)), both_below i (i + 2) (length font) (omega arith))
+      cc (and-true (ltb (i + 1) (length font)), both_below i (i + 2) (length font) (omega arith))
   lines_fits left right i (suc h) =
       let q : i + 2 + 2 * suc h ≡ i + 2 * suc (suc h) = omega arith in
       let last = i + 2 * suc (suc h) in

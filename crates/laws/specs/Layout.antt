@@ -170,7 +170,9 @@ pub rects_back : (w b lo : ℕ) (qs : List Rect) (l : List ℕ) → w < 65536 �
 rects_back w b lo [] l hw h f = refl
 rects_back w b lo (q ∷ qs) l hw h f =
     let rest = rects_bytes qs ++ l in
-    cc (rect_back w lo (lo + b) q rest hw (omega arith) f.0, rects_from (rect_bytes q ++ rest) 8 (length qs), rects_back w b (lo + b) qs l hw (omega arith) f.1)
+    let first : rect_at (rect_bytes q ++ rest) 0 ≡ q = rect_back w lo (lo + b) q rest hw (omega arith) f.0 in
+    let others : rects_at (length qs) (rect_bytes q ++ rest) 8 ≡ qs = rects_from (rect_bytes q ++ rest) 8 (length qs) ∙ rects_back w b (lo + b) qs l hw (omega arith) f.1 in
+    ap (λ (z : Rect). z ∷ rects_at (length qs) (rect_bytes q ++ rest) 8) first ∙ ap (λ (zs : List Rect). q ∷ zs) others
 
 pub words_back : (ws : List ℕ) (l : List ℕ) → Words ws → words_at (length ws) (words_bytes ws ++ l) 0 ≡ ws
 words_back [] l b = refl

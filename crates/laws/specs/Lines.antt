@@ -14,7 +14,7 @@ use Rattle.model.specs.declared.Marks.{Marks}
 use Rattle.model.specs.Rects.{lowered, fits, inside}
 use Rattle.model.specs.Marks.{within, drawn, drawn_on, whole}
 use Rattle.model.specs.Points.{point_write}
-use Rattle.laws.specs.Tests.{tests, clash, by_test, by_lt, either, and_true, and_false}
+use Rattle.laws.specs.Tests.{tests, clash, by_test, by_lt, either, and-true, and-false}
 use Rattle.laws.specs.Rects.{fits_passes, inside_in}
 use Rattle.laws.specs.Writes.{within_none, within_more, drawn_is}
 use Rattle.laws.specs.Points.{on_true, both, marks_by}
@@ -88,7 +88,7 @@ pub all_seen : (st h : ℕ) (ws : List PixelWrite) → within (whole st h) ws �
 unfolding within seen
 all_seen st h [] e = refl
 all_seen st h (w ∷ ws) e =
-    let p = and_true (inside (whole st h) w.x w.y) (within (whole st h) ws) e in
+    let p = and-true (inside (whole st h) w.x w.y) (within (whole st h) ws) e in
     let k = inside_in (whole st h) w.x w.y p.0 in
     rw (on_is st h w.x w.y (omega arith) (omega arith), all_seen st h ws p.1)
 
@@ -155,7 +155,7 @@ beyond st h Stop x y = not (on_screen st h x y)
 
 pub beyond_off : (st h x y : ℕ) → beyond st h Stop x y ≡ true → (8 * st ≤ x) ⊎ (h ≤ y)
 unfolding beyond on_screen
-beyond_off st h x y e = either (and_false (ltb x (8 * st)) (ltb y h) (not-true (on_screen st h x y) e)) (λ t. inl (omega (arith, tests))) (λ t. inr (omega (arith, tests)))
+beyond_off st h x y e = either (and-false (ltb x (8 * st)) (ltb y h) (not-true (on_screen st h x y) e)) (λ t. inl (omega (arith, tests))) (λ t. inr (omega (arith, tests)))
 
 pub beyond_on : (st h x y : ℕ) → beyond st h Stop x y ≡ false → (x < 8 * st) × (y < h)
 unfolding beyond

@@ -3,7 +3,7 @@
 use Rattle.std.specs.Prelude.{◌≡◌, refl, Bool, true, false, cond, ◌&&◌, List, ℕ, zero, suc, ◌+◌, ◌-◌, ◌*◌, ◌/◌, ◌%◌, ◌^◌, ◌≤◌, ◌<◌, leb, ltb, length, get_or, set}
 use Rattle.std.proofs.Common.{sym, ap, ap₂, ◌∙◌, inl, inr, div-le_self, arith, length-set, get_or-set_same, get_or-set_other, le-leb, lt-ltb, le-ltb}
 use Rattle.std.specs.Bool.{beq}
-use Rattle.std.proofs.Math.Bool.{and_true as and_yes}
+use Rattle.std.proofs.Math.Bool.{and-true as and_yes}
 use Rattle.std.specs.Int.Bits.{bit_and}
 use Rattle.std.proofs.lemmas.Nat.{and_le_r}
 use Rattle.std.proofs.lemmas.Bool.{lt-leb}
@@ -12,7 +12,7 @@ use Rattle.model.specs.Pixels.{place, bit, put, write_pixel, draw, copy_run}
 use Rattle.model.specs.Bytes.{Bytes}
 use Rattle.model.specs.declared.DrawMode.{DrawMode}
 use Rattle.model.specs.Lines.{run_op, pixel_run}
-use Rattle.laws.specs.Tests.{by_lt, by_eq, by_test, tests, and_true, either}
+use Rattle.laws.specs.Tests.{by_lt, by_eq, by_test, tests, and-true, either}
 use Rattle.laws.specs.Bits.{same_bool, every-at, every₂_at}
 use Rattle.laws.specs.Bytes.{bit_at-and, Masked, bytes_set, bytes_put, screens_equal}
 use Rattle.laws.specs.Pixels.{place-line, length-put, put_same, put_other}
@@ -145,7 +145,7 @@ mask_on {a = a} {b} hm x e l u = hm.has x e ∙ ap₂ ◌&&◌ (le-leb a x l) (l
 
 mask_off : {k a b m : ℕ} → Mask k a b m → (x : ℕ) → x / 8 ≡ k → ((a ≤ x) × (x < b) → ⊥) → bit_at m (7 - x % 8) ≡ false
 mask_off {a = a} {b} {m} hm x e n =
-    by_test (bit_at m (7 - x % 8)) (λ t. absurd (n (omega (arith, tests, and_true (leb a x) (ltb x b) (sym (hm.has x e) ∙ t))))) (λ t. t)
+    by_test (bit_at m (7 - x % 8)) (λ t. absurd (n (omega (arith, tests, and-true (leb a x) (ltb x b) (sym (hm.has x e) ∙ t))))) (λ t. t)
 
 -- a pixel whose byte is byte k of line y is on that line
 on_line : (st y k x y' : ℕ) → k < st → x < 8 * st → place st x y' ≡ st * y + k → (y' ≡ y) × (x / 8 ≡ k)

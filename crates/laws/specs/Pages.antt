@@ -17,7 +17,7 @@ use borrow.Author.Tests.{eqb-false, leb-true, le-leb, ltb-true, not-true, not-fa
 use Rattle.model.specs.Memory.{with_window, zeros}
 use Rattle.model.specs.Print.{scrolled, scrolled_times, Page, scroll_page, next_row, newline_on, cell_of, write_cell, space, wrap, end_row, print_byte, print_pair, print_bytes, clear_until, clear_from, clear_after, print_on}
 use Rattle.laws.specs.Memory.{append-window}
-use Rattle.laws.specs.Tests.{by_lt, if_cases, and_true, and_false, tests, either}
+use Rattle.laws.specs.Tests.{by_lt, if_cases, and-true, and-false, tests, either}
 use Rattle.laws.specs.Loops.{copy_turn, length-zeros}
 
 -- Scrolling: the loop that moves bytes up, several scrolls at once, and flags.
@@ -189,14 +189,14 @@ module _ (rows columns : ℕ) (v : Bool) where
       → print_bytes rows columns v (drop i bs) p ≡ print_bytes rows columns v (drop (i + 1) bs) (print_byte rows columns v (get_or bs i 0) p)
   byte_turn bs i p h e =
       let b = get_or bs i 0 in
-      let last = either (and_false (leb 128 b) (ltb (i + 1) (length bs)) e) inl (λ f. inr (drop_of_length-le bs {i = suc i} (omega (arith, tests)))) in
+      let last = either (and-false (leb 128 b) (ltb (i + 1) (length bs)) e) inl (λ f. inr (drop_of_length-le bs {i = suc i} (omega (arith, tests)))) in
       cc (drop-cons bs i 0 h, alone b (drop (suc i) bs) p last, add-one i)
 
   pub pair_turn : (bs : List ℕ) (i : ℕ) (p : Page) → (leb 128 (get_or bs i 0) && ltb (i + 1) (length bs)) ≡ true
       → print_bytes rows columns v (drop i bs) p ≡ print_bytes rows columns v (drop (i + 2) bs) (print_pair rows columns v (get_or bs i 0) (get_or bs (i + 1) 0) p)
   unfolding print_bytes
   pair_turn bs i p e =
-      let a = and_true (leb 128 (get_or bs i 0)) (ltb (i + 1) (length bs)) e in
+      let a = and-true (leb 128 (get_or bs i 0)) (ltb (i + 1) (length bs)) e in
       let l : i + 1 < length bs = ltb-true (i + 1) (length bs) a.1 in
       let k : suc (i + 1) ≡ i + 2 = omega arith in
       cc (drop-cons bs i 0 (omega arith), add-one i, drop-cons bs (i + 1) 0 l, a.0)

@@ -10,7 +10,7 @@ use Rattle.std.proofs.Math.Seq.{take_at, drop_at, drop-append-add, take-append-a
 use Rattle.std.proofs.lemmas.Bool.{not-true}
 use Rattle.model.specs.Memory.{window, with_window}
 use Rattle.model.specs.Record.{RecordPart, head, panel, keys, flags, edge, tag, same_part, has, distinct, written, total, offset, all}
-use Rattle.laws.specs.Tests.{tests, by_test, clash, and_true, or_left, or_right}
+use Rattle.laws.specs.Tests.{tests, by_test, clash, and-true, or_left, or_right}
 
 -- ---- parts with one number are one part
 
@@ -48,7 +48,7 @@ pub all-at : (t : RecordPart → Bool) (ps : List RecordPart) (p : RecordPart) �
 unfolding all has
 all-at t [] p e h = clash false h refl
 all-at t (q ∷ ps) p e h =
-    let k = and_true (t q) (all t ps) e in
+    let k = and-true (t q) (all t ps) e in
     by_test (same_part p q) (λ s. cc (same-part p q s)) (λ s. all-at t ps p k.1 (rw s at h))
 
 pub all_of : (t : RecordPart → Bool) (ps : List RecordPart) → ((p : RecordPart) → has p ps ≡ true → t p ≡ true) → all t ps ≡ true
@@ -81,7 +81,7 @@ module _ (n : RecordPart → ℕ) where
   unfolding written has offset distinct with_window
   part-stored f f' q [] s l k h d = clash false h refl
   part-stored f f' q (p ∷ ps) s l k h d =
-      let a = and_true (not (has p ps)) (distinct ps) d in
+      let a = and-true (not (has p ps)) (distinct ps) d in
       let rest = written f ps in
       let o = offset n q ps in
       let m = length (f' q) in
@@ -100,7 +100,7 @@ module _ (n : RecordPart → ℕ) where
   unfolding written offset distinct total window
   parts-written r [] d l = sym (drop_of_length-le r {i = 0} (omega arith))
   parts-written r (p ∷ ps) d l =
-      let a = and_true (not (has p ps)) (distinct ps) d in
+      let a = and-true (not (has p ps)) (distinct ps) d in
       let rest = drop (n p) r in
       let same = written_same (λ q. window (offset n q (p ∷ ps)) (n q) r) (λ q. window (offset n q ps) (n q) rest) ps
       (λ q h. rw (other p q ps (not-true (has p ps) a.0) h) (ap (take (n q)) (sym (drop-drop (offset n q ps) (n p) r)))) in

@@ -15,7 +15,7 @@ use Rattle.model.specs.Rects.{none, fits}
 use Rattle.model.specs.Marks.{drawn, drawn_on, within, owes}
 use Rattle.model.specs.Points.{point_op, pixel_rect, point_write, point_rect, point, is_set}
 use Rattle.model.specs.Lines.{owed_by}
-use Rattle.laws.specs.Tests.{if_cases, by_test, by_lt, and_true, tests}
+use Rattle.laws.specs.Tests.{if_cases, by_test, by_lt, and-true, tests}
 use Rattle.laws.specs.Pixels.{place-lt}
 use Rattle.laws.specs.Bits.{every-at, see_is, every₂_at}
 use Rattle.laws.specs.Rects.{fits_passes, in_inside}
@@ -62,7 +62,7 @@ mask_at x = eqb-true _ _ (every-at 8 (λ k. eqb (get_or masks k 0) (128 / 2 ^ k)
 
 pub on_true : (st h x y : ℕ) → on_screen st h x y ≡ true → (x < 8 * st) × (y < h)
 unfolding on_screen
-on_true st h x y e = omega (arith, tests, and_true (ltb x (8 * st)) (ltb y h) e)
+on_true st h x y e = omega (arith, tests, and-true (ltb x (8 * st)) (ltb y h) e)
 
 -- a pixel of the screen has its byte
 pub place_in : (st h x y : ℕ) {s : List ℕ} → Screen st h s → (x < 8 * st) × (y < h) → place st x y < length s

@@ -8,7 +8,7 @@ use Rattle.model.specs.Rects.{In, inside}
 use Rattle.model.specs.Marks.{whole, within, owes, Drawing, drawn, drawn_on}
 use Rattle.model.specs.Poke.{byte_rect}
 use Rattle.model.specs.declared.Marks.{Marks}
-use Rattle.laws.specs.Tests.{if_cases, and_true, by_test, by_eq}
+use Rattle.laws.specs.Tests.{if_cases, and-true, by_test, by_eq}
 use Rattle.laws.specs.Pixels.{Each, draw_other, length-draw}
 use Rattle.laws.specs.Rects.{inside_in, in_inside}
 
@@ -28,7 +28,7 @@ away : (st : ℕ) (r : Rect) (ws : List PixelWrite) (x y : ℕ) → within r ws 
 unfolding within
 away st r [] x y i e n = tt
 away st r (w ∷ ws) x y i e n =
-    let p = and_true (inside r w.x w.y) (within r ws) i in
+    let p = and-true (inside r w.x w.y) (within r ws) i in
     let k = inside_in r w.x w.y p.0 in
     ((e.0, by_eq x w.x (λ q. inr (λ l. n (omega arith))) inl), away st r ws x y p.1 e.1 n)
 
@@ -47,7 +47,7 @@ unfolding seen on_screen
 seen_on st h [] = tt
 seen_on st h (w ∷ ws) =
     if_cases (Each (λ (v : PixelWrite). v.x < 8 * st)) (ltb w.x (8 * st) && ltb w.y h)
-    (λ e. (ltb-true w.x (8 * st) (and_true (ltb w.x (8 * st)) (ltb w.y h) e).0, seen_on st h ws)) (λ e. seen_on st h ws)
+    (λ e. (ltb-true w.x (8 * st) (and-true (ltb w.x (8 * st)) (ltb w.y h) e).0, seen_on st h ws)) (λ e. seen_on st h ws)
 
 -- ---- a byte of the screen is poked
 
@@ -86,7 +86,7 @@ pub within-append : (r : Rect) (ws vs : List PixelWrite) → within r ws ≡ tru
 unfolding within
 within-append r [] vs e f = f
 within-append r (w ∷ ws) vs e f =
-    let p = and_true (inside r w.x w.y) (within r ws) e in
+    let p = and-true (inside r w.x w.y) (within r ws) e in
     λ i. p.0 i && within-append r ws vs p.1 f i
 
 -- ---- writes that lie in a rectangle
@@ -104,7 +104,7 @@ pub within-seen : (st h : ℕ) (r : Rect) (ws : List PixelWrite) → within r ws
 unfolding within seen
 within-seen st h r [] e = refl
 within-seen st h r (w ∷ ws) e =
-    let p = and_true (inside r w.x w.y) (within r ws) e in
+    let p = and-true (inside r w.x w.y) (within r ws) e in
     if_cases (λ (l : List PixelWrite). within r l ≡ true) (on_screen st h w.x w.y)
     (λ k. λ i. p.0 i && within-seen st h r ws p.1 i) (λ k. within-seen st h r ws p.1)
 

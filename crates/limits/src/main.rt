@@ -6,7 +6,7 @@ use caption::{ellipses, flushes, open, points, poke, sends};
 use model::glass::{MEMORY_BYTES, RECORD_BYTES, SCREEN_BYTES};
 
 // Open's graphics base; a circle's radius or an ellipse's two, then the fill flag; a send's panel; the pair that a flush shows, then the entries of its extra list.
-#[derive(Drop)]
+#[derive(Clone, Copy)]
 enum Call {
     Open(u16),
     Circle(u8, u8),

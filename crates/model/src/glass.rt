@@ -1,6 +1,6 @@
 // The glass by value: its geometry, and what follows from it. A call chooses it by the record's length.
 
-#[derive(Drop)]
+#[derive(Clone, Copy)]
 pub struct Glass {
     // a line in bytes; the bands, and the lines of one; the panels
     pub stride: usize,

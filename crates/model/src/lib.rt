@@ -4,7 +4,7 @@ pub mod glass;
 pub mod refusal;
 
 // left < right and top < bottom, right and bottom not included; the empty rectangle is four zeros.
-#[derive(Drop)]
+#[derive(Clone, Copy)]
 pub struct Rect {
     pub left: u16,
     pub top: u16,
@@ -13,7 +13,7 @@ pub struct Rect {
 }
 
 // The first 18 bytes of the record: the bases, the text state, the modes and the dirty area.
-#[derive(Drop)]
+#[derive(Clone, Copy)]
 pub struct Head {
     pub graphics: u16,
     pub text: u16,
@@ -27,27 +27,27 @@ pub struct Head {
 }
 
 // What a drawing marks: the rectangle for dirty, and the one that it owes. Empty: nothing.
-#[derive(Drop)]
+#[derive(Clone, Copy)]
 pub struct Marks {
     pub dirty: Rect,
     pub owed: Rect,
 }
 
 // What is drawn on: a line in bytes, and how many lines.
-#[derive(Drop)]
+#[derive(Clone, Copy)]
 pub struct Canvas {
     pub stride: usize,
     pub height: usize,
 }
 
 // What a horizontal line does beyond the screen's last column or line: it is clamped to it, or it stops there.
-#[derive(Drop)]
+#[derive(Clone, Copy)]
 pub enum Edge {
     Clamp,
     Stop,
 }
 
-#[derive(Drop)]
+#[derive(Clone, Copy)]
 pub enum DrawMode {
     Clear,
     Or,
@@ -55,7 +55,7 @@ pub enum DrawMode {
     Unknown,
 }
 
-#[derive(Drop)]
+#[derive(Clone, Copy)]
 pub enum PaintMode {
     Copy,
     Or,
@@ -65,7 +65,7 @@ pub enum PaintMode {
 }
 
 // The places of an axis that show a run of places which may start before it: from `from` up to `to`, `to` not included. `skip` of the run lie before the axis.
-#[derive(Drop)]
+#[derive(Clone, Copy)]
 pub struct Visible {
     pub skip: usize,
     pub from: usize,
@@ -73,14 +73,14 @@ pub struct Visible {
 }
 
 // An index or an offset, where there is one.
-#[derive(Drop)]
+#[derive(Clone, Copy)]
 pub enum Found {
     At(usize),
     Nothing,
 }
 
 // Where a pair's glyph stands: its index in the emoji or the GB font, its offset in the extra font, or nowhere, so that it shows in hexadecimal.
-#[derive(Drop)]
+#[derive(Clone, Copy)]
 pub enum Glyph {
     Emoji(usize),
     Gb(usize),
@@ -89,7 +89,7 @@ pub enum Glyph {
 }
 
 // Where a flush stands: the cell that is read, and the row and column where it is shown.
-#[derive(Drop)]
+#[derive(Clone, Copy)]
 pub struct Spot {
     pub cell: usize,
     pub row: usize,
@@ -97,7 +97,7 @@ pub struct Spot {
 }
 
 // What is shown of a cell: nothing, one byte, a pair with the cell after it, or one byte in hexadecimal.
-#[derive(Drop)]
+#[derive(Clone, Copy)]
 pub enum CellKind {
     Blank,
     Single,
@@ -106,7 +106,7 @@ pub enum CellKind {
 }
 
 // A spot, its byte and the next one, and how they are shown.
-#[derive(Drop)]
+#[derive(Clone, Copy)]
 pub struct Shown {
     pub spot: Spot,
     pub lead: u8,
@@ -115,7 +115,7 @@ pub struct Shown {
 }
 
 // The registers of the glass controller, in the order of their numbers; `byte` is register 4, the last data byte.
-#[derive(Drop)]
+#[derive(Clone, Copy)]
 pub struct Registers {
     pub command: u8,
     pub line: u8,
@@ -128,7 +128,7 @@ pub struct Registers {
 }
 
 // A register by its number; `Beyond`: a number above 7.
-#[derive(Drop)]
+#[derive(Clone, Copy)]
 pub enum Register {
     Command,
     Line,
@@ -143,14 +143,14 @@ pub enum Register {
 
 // Results that hold more than a code. With a refusal all numbers but the code are 0.
 #[repr(C)]
-#[derive(Drop)]
+#[derive(Clone, Copy)]
 pub struct Value {
     pub code: u32,
     pub value: u32,
 }
 
 #[repr(C)]
-#[derive(Drop)]
+#[derive(Clone, Copy)]
 pub struct Area {
     pub code: u32,
     pub left: u32,
@@ -161,7 +161,7 @@ pub struct Area {
 
 // sent is 1, or 0 for idle.
 #[repr(C)]
-#[derive(Drop)]
+#[derive(Clone, Copy)]
 pub struct Sent {
     pub code: u32,
     pub sent: u32,

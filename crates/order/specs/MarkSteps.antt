@@ -25,7 +25,7 @@ use Rattle.model.specs.Flush.{flush_stores, cleared_in_text, flushed}
 use Rattle.model.specs.Poke.{ignored, poked, in_screen, poke_mark}
 use Rattle.model.specs.Calls.{write_byte, flush, Lent, lent, edge_in, answered, drawing_with, drawing, cleared, with_page, done}
 use Rattle.model.specs.Lists.{marks, draws, prints, effect}
-use Rattle.laws.specs.Tests.{if_cases, by_test, either, tests, and_true, and_false, all_true, or_cases}
+use Rattle.laws.specs.Tests.{if_cases, by_test, either, tests, and-true, and-false, all_true, or_cases}
 use Rattle.laws.specs.Rects.{Fits, passes_fits}
 use Rattle.laws.specs.Pixels.{length-draw}
 use Rattle.laws.specs.Memory.{window_set_in, window_set_out, length-with_window, window_other}
@@ -54,14 +54,14 @@ poked_mark g z keys graphics a v m =
     by_test (ignored keys a) (λ i. rw i (inl refl, λ x y hx hy n. refl))
     (λ i. by_test (in_screen g graphics a)
     (λ e.
-    let p = and_true (leb graphics a) (ltb a (graphics + screen_bytes g)) e in
+    let p = and-true (leb graphics a) (ltb a (graphics + screen_bytes g)) e in
     let wide : 0 < g.stride = omega (arith, z.columns) in
     let column : (a - graphics) % g.stride < g.stride = mod-lt (a - graphics) wide in
     let line : (a - graphics) / g.stride < height g = (div-lt_iff_lt-mul {k = g.stride} wide).1 (rw (mul_comm (height g) g.stride) (omega (arith, tests))) in
     rw (i, e, window_set_in graphics (screen_bytes g) m a v (omega (arith, tests)) (omega (arith, tests)))
     (inr (omega (arith, z.cursor, z.high)), poke_agrees g.stride (height g) (screen_of g graphics m) (a - graphics) v))
     (λ e.
-    let o = either (and_false (leb graphics a) (ltb a (graphics + screen_bytes g)) e) (λ n. inl (leb-false graphics a n)) (λ n. inr (ltb-false a (graphics + screen_bytes g) n)) in
+    let o = either (and-false (leb graphics a) (ltb a (graphics + screen_bytes g)) e) (λ n. inl (leb-false graphics a n)) (λ n. inr (ltb-false a (graphics + screen_bytes g) n)) in
     rw (i, e, window_set_out graphics (screen_bytes g) m a v o) (inl refl, λ x y hx hy n. refl)))
 
 module _ (g : Geometry) (k : ℕ) (there : k < g.panels) (l : Lent) (q : Lendable g l) where

@@ -17,7 +17,7 @@ use Rattle.model.specs.Open.{clear_memory, clear_head, clear_flags, open_pending
 use Rattle.model.specs.Sends.{send_pending}
 use Rattle.model.specs.Calls.{opening, Lent, lent, answered, done}
 use Rattle.model.specs.Lists.{accepted, Typed, marks, opens, sends, affected, edge_after}
-use Rattle.laws.specs.Tests.{if_cases, by_eq, and_true, all_true}
+use Rattle.laws.specs.Tests.{if_cases, by_eq, and-true, all_true}
 use Rattle.laws.specs.Calls.{accepted_call}
 use Rattle.laws.specs.Rects.{none-fits}
 use Rattle.laws.specs.Writes.{whole_agrees}
@@ -42,7 +42,7 @@ pub opening_step : (g : Geometry) (k : ℕ) → k < g.panels → IsGlass g → (
 unfolding open_state affected edge_after done answered
 opening_step g k there z graphics text version keys edge r m p t a n =
     let b = (accepted_call g (opening graphics text version keys edge) (lent r m []) (omega arith) a).1 in
-    let v = and_true (leb version 1) (edge_fits edge) b.1.0 in
+    let v = and-true (leb version 1) (edge_fits edge) b.1.0 in
     stored g k z (lent r m p) (opens edge) (open_state g graphics text version keys edge) (clear_memory keys) p
     (open_formed g z graphics text version keys edge (record { apart = b.0; listed = v.0; flag = v.1; count = t.0; words = t.1 })) (length-clear-memory keys) n
     (record { pending = get_or-replicate g.panels k (open_pending g) (nothing_pending g) there; panel = refl; screen = whole_agrees g.stride (height g) _ _ }) refl

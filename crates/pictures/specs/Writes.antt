@@ -6,7 +6,7 @@ use Rattle.std.proofs.Math.Logic.{inl, inr}
 use Rattle.std.specs.Bool.{beq}
 use Rattle.std.proofs.lemmas.Bool.{eqb-false}
 use Rattle.model.specs.Pixels.{bit, on_screen, PixelWrite, write_pixel, draw}
-use Rattle.laws.specs.Tests.{by_test, either, tests, clash, and_true, or_cases}
+use Rattle.laws.specs.Tests.{by_test, either, tests, clash, and-true, or_cases}
 use Rattle.laws.specs.Bits.{same_bool}
 use Rattle.laws.specs.Pixels.{place-lt, length-put, put_same, put_other, Each, draw_other}
 use Rattle.pictures.specs.Picture.{Changed}
@@ -20,7 +20,7 @@ hits w x y = eqb x w.x && eqb y w.y
 module _ (w : PixelWrite) (x y : ℕ) where
   hit : hits w x y ≡ true → (x ≡ w.x) × (y ≡ w.y)
   unfolding hits
-  hit e = let p = and_true (eqb x w.x) (eqb y w.y) e in omega (arith, tests)
+  hit e = let p = and-true (eqb x w.x) (eqb y w.y) e in omega (arith, tests)
 
   miss : hits w x y ≡ false → (x ≢ w.x) ⊎ (y ≢ w.y)
   unfolding hits
@@ -61,8 +61,8 @@ alike f g = beq (f true) (g true) && beq (f false) (g false)
 
 alike_same : (f g : Bool → Bool) → alike f g ≡ true → (v : Bool) → f v ≡ g v
 unfolding alike
-alike_same f g e true = same_bool (f true) (g true) (and_true (beq (f true) (g true)) (beq (f false) (g false)) e).0
-alike_same f g e false = same_bool (f false) (g false) (and_true (beq (f true) (g true)) (beq (f false) (g false)) e).1
+alike_same f g e true = same_bool (f true) (g true) (and-true (beq (f true) (g true)) (beq (f false) (g false)) e).0
+alike_same f g e false = same_bool (f false) (g false) (and-true (beq (f true) (g true)) (beq (f false) (g false)) e).1
 
 unfoldable pub names : List PixelWrite → ℕ → ℕ → Bool
 names [] x y = false
@@ -82,7 +82,7 @@ all_of t (w ∷ ws) = t w && all_of t ws
 each : {P : PixelWrite → Type 0} (t : PixelWrite → Bool) (ws : List PixelWrite) → ((w : PixelWrite) → t w ≡ true → P w) → all_of t ws ≡ true → Each P ws
 unfolding all_of
 each t [] f e = tt
-each t (w ∷ ws) f e = let p = and_true (t w) (all_of t ws) e in (f w p.0, each t ws f p.1)
+each t (w ∷ ws) f e = let p = and-true (t w) (all_of t ws) e in (f w p.0, each t ws f p.1)
 
 -- one of ws writes pixel (x, y), or none does
 hit_or_missed : {A : Type 0} (ws : List PixelWrite) (x y : ℕ) → Each On ws → Each (λ w. hits w x y ≡ true → A) ws
@@ -109,17 +109,17 @@ pictured ws ps = all_of is_on ws && (all_of (is_made ws) ps && all_of (is_kept w
 
 on : (w : PixelWrite) → is_on w ≡ true → On w
 unfolding on_screen
-on w e = let p = and_true (ltb w.x 160) (ltb w.y 80) e in omega (arith, tests)
+on w e = let p = and-true (ltb w.x 160) (ltb w.y 80) e in omega (arith, tests)
 
 pub pictured-changed : (ws ps : List PixelWrite) (s : List ℕ) → length s ≡ 1600 → pictured ws ps ≡ true → Changed ps s (draw 20 ws s)
 unfolding pictured
 pictured-changed ws ps s n e =
-    let p = and_true (all_of is_on ws) (all_of (is_made ws) ps && all_of (is_kept ws ps) ws) e in
-    let q = and_true (all_of (is_made ws) ps) (all_of (is_kept ws ps) ws) p.1 in
+    let p = and-true (all_of is_on ws) (all_of (is_made ws) ps && all_of (is_kept ws ps) ws) e in
+    let q = and-true (all_of (is_made ws) ps) (all_of (is_kept ws ps) ws) p.1 in
     let o : Each On ws = each is_on ws on p.0 in
     record {
       made = each (is_made ws) ps (λ w t.
-          let r = and_true (is_on w) (alike (made ws w.x w.y) w.op) t in
+          let r = and-true (is_on w) (alike (made ws w.x w.y) w.op) t in
           draw-made ws s w.x w.y n o (on w r.0).0 ∙ alike_same (made ws w.x w.y) w.op r.1 (bit 20 s w.x w.y)) q.0;
       others = λ x y hx hy k.
           hit_or_missed ws x y o (each (is_kept ws ps) ws (λ w t h.

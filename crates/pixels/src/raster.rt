@@ -7,7 +7,7 @@ ghost use Rattle.pixels.specs.Raster.{mode_of, IsOp};
 use model::DrawMode;
 
 // The pixels that are drawn are cleared by the one byte, then inverted by the other: each has all bits set, or none.
-#[derive(Drop)]
+#[derive(Clone, Copy)]
 pub struct RasterOp {
     pub clear: u8,
     pub flip: u8,

@@ -13,11 +13,11 @@ use Rattle.model.specs.Glass.{geometry, glass_of}
 use Rattle.model.specs.Bytes.{Bytes}
 use Rattle.model.specs.Record.{record_bytes, valid}
 use Rattle.model.specs.Refusals.{LENT, STATE, refusal}
-use Rattle.laws.specs.Tests.{and_true}
+use Rattle.laws.specs.Tests.{and-true}
 use Rattle.record.specs.Entry.{Chosen, Entered}
 
 pub lent_sized : {v : Glass} (others : Bool) (r : List ℕ) → Chosen (length r) v → (eqb (length r) v.bytes && others) ≡ true → length r ≡ record_bytes (geometry v)
-lent_sized {v} others r k e = eqb-true (length r) v.bytes (and_true (eqb (length r) v.bytes) others e).0 ∙ k.suits.is_bytes
+lent_sized {v} others r k e = eqb-true (length r) v.bytes (and-true (eqb (length r) v.bytes) others e).0 ∙ k.suits.is_bytes
 
 module _ {v : Glass} (others : Bool) (r : List ℕ) (k : Chosen (length r) v) where
   -- LENT as the definitions test it

@@ -12,7 +12,7 @@ use lib.Seq.{drop-cons}
 use borrow.Author.Tests.{eq-eqb, ne_eqb, le-leb, lt-leb}
 use Rattle.model.specs.Characters.{bytes_of}
 use Rattle.model.specs.Script.Read.{Taken, took_none, took, is_digit, goes_on, take_digits, at_most, take_number, take_word, or_taken, take_mode, take_piece}
-use Rattle.laws.specs.Tests.{tests, and_true, between}
+use Rattle.laws.specs.Tests.{tests, and-true, between}
 use Rattle.script.specs.declared.Got.{Got}
 use Rattle.script.specs.declared.Got.TheVariants.{Nothing, At}
 use Rattle.script.specs.declared.Number.{Number}
@@ -27,7 +27,7 @@ digit_is d e f = between d (sym e ∙ f)
 pub goes_on_is : (v d : ℕ) {t : Bool} → t ≡ goes_on v d → t ≡ true → (code "0" ≤ d) × (d ≤ code "9") × (v < 10000)
 unfolding goes_on is_digit
 goes_on_is v d e f =
-    let a = and_true (leb (code "0") d && leb d (code "9")) (ltb v 10000) (sym e ∙ f) in
+    let a = and-true (leb (code "0") d && leb d (code "9")) (ltb v 10000) (sym e ∙ f) in
     omega (arith, tests, a.1, between d a.0)
 
 pub digits_end : (v i : ℕ) (s : List ℕ) {w : Taken} → take_digits v (drop i s) ≡ w → length s ≤ i → took v (drop i s) ≡ w

@@ -5,21 +5,21 @@ pub mod split;
 pub mod words;
 
 // What one byte of a pattern takes of a line: a number and the place after it, or nothing.
-#[derive(Drop)]
+#[derive(Clone, Copy)]
 pub enum Got {
     Nothing,
     At(u16, usize),
 }
 
 // A number and the place after it.
-#[derive(Drop)]
+#[derive(Clone, Copy)]
 pub struct Number {
     pub value: u32,
     pub next: usize,
 }
 
 // Whether a line has a pattern's spelling, and the last six numbers that it gave, the latest first.
-#[derive(Drop)]
+#[derive(Clone, Copy)]
 pub struct Fields {
     pub ok: bool,
     pub a: u16,
@@ -31,7 +31,7 @@ pub struct Fields {
 }
 
 // What a line says. Bad: no form fits.
-#[derive(Drop)]
+#[derive(Clone, Copy)]
 pub enum Form {
     Point(u8, u8, u8),
     Line(u8, u8, u8, u8, u8),
@@ -41,7 +41,7 @@ pub enum Form {
 }
 
 // What stands at a place of a script: a line, or the end.
-#[derive(Drop)]
+#[derive(Clone, Copy)]
 pub enum LineOrEnd {
     Line(Form),
     End,

@@ -6,7 +6,7 @@ ghost use Rattle.script.specs.Lines.{lines_from};
 
 use crate::{LineOrEnd, split};
 
-#[derive(Drop)]
+#[derive(Clone, Copy)]
 pub struct Reader<'a> {
     pub src: &'a [u8],
     pub at: usize,

@@ -1,7 +1,7 @@
 // What a call answers: its code, then the other numbers of its result, zero where it has fewer.
 use model::{Area, Value};
 
-#[derive(Drop)]
+#[derive(Clone, Copy)]
 pub struct Answer {
     pub code: u32,
     pub a: u32,

@@ -10,7 +10,7 @@ use lib.ListN.{length, get_or, set, drop, length-set, get_or-eq_default}
 use borrow.Author.Tests.{leb-true, ltb-true, le-leb, lt-leb, eq-eqb, ne_eqb}
 use Rattle.model.specs.Flags.{flags_in}
 use Rattle.model.specs.Print.{screen_scrolls, Page, print_byte, print_pair, print_bytes, scrolled, scrolled_times, clear_until, clear_from, clear_after, print_on}
-use Rattle.laws.specs.Tests.{and_true}
+use Rattle.laws.specs.Tests.{and-true}
 use Rattle.laws.specs.Pages.{times_most, length-clear, byte_sheet, pair_sheet, bytes_sheet, byte_turn, pair_turn, bytes_end, cell_written, until_start, until_end}
 use Rattle.text.specs.declared.page.Place.{Place}
 use Rattle.text.specs.declared.print.Turn.{Turn}
@@ -35,7 +35,7 @@ module _ (rows columns : ℕ) (t f : List ℕ) (p : Place) (bs : List ℕ) (i : 
       → Written (print_pair rows columns v (get_or bs i 0) (get_or bs (i + 1) 0) (page t f p)) (p.scrolls + 2) s g q
       → Printed rows columns v bs i t f p s g (record { place = q; at = i + 2 })
   pair_taken r e w =
-      let a = and_true (leb 128 (get_or bs i 0)) (ltb (i + 1) (length bs)) e in
+      let a = and-true (leb 128 (get_or bs i 0)) (ltb (i + 1) (length bs)) e in
       let h = leb-true 128 (get_or bs i 0) a.0 in
       let l = ltb-true (i + 1) (length bs) a.1 in
       record {

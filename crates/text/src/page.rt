@@ -4,7 +4,7 @@ ghost use Rattle.model.specs.Print.{newline_on, write_cell};
 ghost use Rattle.text.specs.Written.{page, Cell, Ready, Written};
 
 // Row and column of the next cell, and how often the text has scrolled.
-#[derive(Drop)]
+#[derive(Clone, Copy)]
 pub struct Place {
     pub row: usize,
     pub column: usize,

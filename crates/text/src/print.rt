@@ -10,7 +10,7 @@ use crate::page::{Place, newline, write_cell};
 const SPACE: u8 = 32;
 
 // Where the next byte of a text goes, and which it is.
-#[derive(Drop)]
+#[derive(Clone, Copy)]
 pub struct Turn {
     pub place: Place,
     pub at: usize,
