@@ -133,7 +133,8 @@ def turn(f, want):
         mark = "--" if f.endswith(".antt") else "//" if f.endswith(".rt") else None
         at = re.search(r"(^|\s)" + mark + r"(\s|$)", line) if mark else None
         code, comment = (line[:at.start()], line[at.start():]) if at else (line, "")
-        out.append(respelled(code, want) + in_quotes(comment, want))
+        words = {k: w for k, w in want.items() if "-" not in w or "-" in k} if f.endswith(".rt") else want
+        out.append(respelled(code, words) + in_quotes(comment, words))
     return "\n".join(out)
 
 

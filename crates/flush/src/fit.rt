@@ -9,7 +9,7 @@ use crate::glyph::digit_of;
 use glyph_choice::glyph_of;
 use model::{CellKind, Glyph, Shown};
 
-fn code-fits(ascii8: &[u8], b: u8) -> bool
+fn code_fits(ascii8: &[u8], b: u8) -> bool
     ensures { result ≡ code_fits ascii8.now b }
 {
     let high = 8 * digit_of(b / 16) + 8;
@@ -56,7 +56,7 @@ fn glyph_fits(
         Glyph::Emoji(index) => index_fits(emoji, index),
         Glyph::Gb(index) => index_fits(gb, index),
         Glyph::Extra(at) => offset_fits(extra, at),
-        Glyph::Hexadecimal => code-fits(ascii8, lead) & code-fits(ascii8, trail),
+        Glyph::Hexadecimal => code_fits(ascii8, lead) & code_fits(ascii8, trail),
     }
 }
 
@@ -82,7 +82,7 @@ fn shown_fits(
             let g = glyph_of(version, list, lead, trail);
             glyph_fits(ascii8, gb, emoji, extra, lead, trail, g)
         }
-        CellKind::Code => code-fits(ascii8, lead),
+        CellKind::Code => code_fits(ascii8, lead),
     }
 }
 

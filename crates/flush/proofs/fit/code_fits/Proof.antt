@@ -1,7 +1,7 @@
 use Rattle.flush.proofs.Fitting.{code_tested}
 use borrow.Author.Rules.{rules}
-use Rattle.flush.proofs.fit.code-fits.Statement.{statement}
-use Rattle.flush.proofs.fit.code-fits.Tie as tie
+use Rattle.flush.proofs.fit.code_fits.Statement.{statement}
+use Rattle.flush.proofs.fit.code_fits.Tie as tie
 
 digit-of-requires : tie.Need-digit-of-requires
 digit-of-requires c κs = search rules
