@@ -1,4 +1,6 @@
 // A run of bits of memory painted by other bits of it, a byte at a time. Bit i of memory is bit 0x80 >> (i mod 8) of byte i / 8: the pixels of a line are such a run.
+#![tactic(auto)]
+
 ghost use Rattle.std.specs.Prelude.{◌≡◌, ◌∷◌, ◌+◌, ◌-◌, ◌*◌, ◌≤◌, ◌<◌, length, get_or, set};
 ghost use Rattle.laws.specs.Bytes.{mixed};
 ghost use Rattle.laws.specs.PaintedBits.{shifted, source_byte, paint_byte, mask_painted, painted_bits, Apart};

@@ -1,4 +1,6 @@
 // `paint_bitmap` over the lent screen part and the bitmap's source bytes, pixel by pixel; and what the painter by bytes shares with it: clipping, marks and the source's size.
+#![tactic(auto)]
+
 mod axis;
 mod paint;
 mod source;

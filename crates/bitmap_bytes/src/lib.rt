@@ -1,4 +1,6 @@
 // `paint_bitmap` by bytes. Screen and source lie in one memory: the painter is lent that memory, and told where the two begin.
+#![tactic(auto)]
+
 ghost use Rattle.std.specs.Prelude.{◌||◌, ◌≡◌, ◌+◌, ◌-◌, ◌*◌, ◌≤◌, ◌<◌, leb, length};
 ghost use Rattle.model.specs.Geometry.{base, screen_bytes};
 ghost use Rattle.model.specs.Bitmaps.{source_bytes};

@@ -1,4 +1,6 @@
 // Boxes and ellipses over the lent screen part of memory; with points and lines, all that is drawn there.
+#![tactic(auto)]
+
 mod boxes;
 mod ellipse;
 

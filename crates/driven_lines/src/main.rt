@@ -1,5 +1,7 @@
 // The glass controller run on the core: lines written by hand, and lines of the driver. A line of output is a call and its answer, then the registers, then bytes 0 and 1
 // of line 5 and the last byte of the panel. The file stdout beside src/ was written by hand, from the request.
+#![tactic(auto)]
+
 use caption::{controller, drive, lines, open};
 use model::glass::{MEMORY_BYTES, RECORD_BYTES, REGISTER_BYTES, SCREEN_BYTES};
 

@@ -1,4 +1,6 @@
 // The walk along a quarter of an ellipse, in the source's 8-bit numbers. `r` is the larger radius.
+#![tactic(auto)]
+
 ghost use Rattle.std.specs.Prelude.{◌≡◌, ◌+◌, ◌-◌, ◌%◌, not, ◌&&◌, [], ◌∷◌, if◌then◌else◌, ◌==◌, nat_lt};
 ghost use Rattle.model.specs.Ellipses.{start, moves, advanced, turns, turned, apart, early, x_step, y_step, part, x_parts, y_parts, step, step_parts, ended};
 ghost use Rattle.ellipse_walk.specs.Walk.{axis_of, walk_of, parts_of, Stepped};

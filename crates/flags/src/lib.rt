@@ -1,4 +1,6 @@
 // The inverse flags of the text cells in their lent bytes: read, written, scrolled, cleared, and held to STATE. No other code knows the form of a flag (a byte, 0 or 1).
+#![tactic(auto)]
+
 ghost use Rattle.std.specs.Prelude.{◌≡◌, ◌≤◌, ◌<◌, length};
 ghost use Rattle.model.specs.Flags.{flag_bytes, flag_byte, flags_in, flags_fit};
 ghost use Rattle.model.specs.Flush.{flag_at};

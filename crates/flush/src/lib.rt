@@ -1,4 +1,6 @@
 // A flush: the walk over the text's cells, the choice of each glyph, the test that its bytes are there, and painting.
+#![tactic(auto)]
+
 pub mod cells;
 pub mod fit;
 pub mod glyph;

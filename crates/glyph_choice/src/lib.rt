@@ -1,4 +1,6 @@
 // Where a pair's glyph stands: emoji, GB, extra list, else hexadecimal codes.
+#![tactic(auto)]
+
 ghost use Rattle.std.specs.Prelude.{◌≡◌, ◌+◌, ◌-◌, ◌*◌, ◌≤◌};
 ghost use Rattle.model.specs.Codes.{codes, emoji_rows, in_row, index_in, emoji_index, gb_index, extra_offset};
 ghost use Rattle.model.specs.Glyphs.{glyph_of};

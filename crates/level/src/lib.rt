@@ -1,4 +1,6 @@
 // How far a panel is from level: the pixels that differ, counted by bytes, and the lines left.
+#![tactic(auto)]
+
 ghost use Rattle.std.specs.Prelude.{◌≡◌, ◌+◌, ◌*◌, ◌≤◌, ◌<◌, length};
 ghost use Rattle.model.specs.Geometry.{base, screen_bytes};
 ghost use Rattle.model.specs.Rects.{lines_of};

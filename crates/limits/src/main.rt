@@ -2,6 +2,8 @@
 // 3 is accepted, 4 and 255 refused. And the leads around GB's empty rows, with no GB font lent: 169 and 176 need it and are refused, 170 and 175 are accepted.
 // A line of output is a call, then its answer, 1 if it left all bytes as they were, else 0, and four bytes of memory. The file stdout beside src/ was written by hand, from
 // document 01 and the steps of the source.
+#![tactic(auto)]
+
 use caption::{ellipses, flushes, open, points, poke, sends};
 use model::glass::{MEMORY_BYTES, RECORD_BYTES, SCREEN_BYTES};
 

@@ -1,5 +1,7 @@
 // Runs a stored list of calls over the core: reads them from standard input and prints for each the answer and a checksum of what it left.
 // The file stdout beside src/ is what the reference printed of the list in stdin (compare/README.md, "The replay").
+#![tactic(auto)]
+
 mod checksum;
 mod print;
 

@@ -1,4 +1,6 @@
 // A script read line by line: what each line says.
+#![tactic(auto)]
+
 pub mod forms;
 pub mod reader;
 pub mod split;

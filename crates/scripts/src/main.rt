@@ -1,4 +1,6 @@
 // Runs one script after another and writes what each prints: each form, each kind of unreadable line, and scripts of the greatest length and longer.
+#![tactic(auto)]
+
 fn show(script: &[u8]) {
     let mut out = [0u8; 163900];
     let mut rec = [0u8; model::glass::RECORD_BYTES];

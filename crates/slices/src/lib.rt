@@ -1,4 +1,6 @@
 // Bytes of lent slices: copied, cleared, scrolled, and read or written as numbers, least byte first.
+#![tactic(auto)]
+
 ghost use Rattle.std.specs.Prelude.{◌≡◌, ◌+◌, ◌*◌, ◌≤◌, min, length};
 ghost use Rattle.model.specs.Memory.{with_window, zeros};
 ghost use Rattle.model.specs.Print.{scrolled};

@@ -1,0 +1,7 @@
+use native.Mathlib.Omega.{arith}
+use Rattle.accepted.proofs.Poking.{product_fits}
+use borrow.Author.Rules.{rules}
+use Rattle.accepted.proofs.poke.in_lines.Goals as goal
+
+pub overflow_mul-result : goal.overflow_mul-result
+overflow_mul-result c = omega (arith, product_fits)

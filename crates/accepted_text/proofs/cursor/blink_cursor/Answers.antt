@@ -1,0 +1,47 @@
+use Rattle.laws.specs.Cursors.{blink_fits, box_bottom, box_right}
+use Rattle.record.proofs.Lengths.{head_there}
+use Rattle.updates.proofs.Drawing.{loaded, numbers, screen_room, screen-part, text_room}
+use Rattle.accepted_text.proofs.Blinking.{blink_graph, next_passes, blink_drew}
+use borrow.Author.Rules.{rules}
+use Rattle.accepted_text.proofs.cursor.blink_cursor.Goals as goal
+
+pub load_head-h-requires : goal.load_head-h-requires
+load_head-h-requires c = head_there c.requires.passing
+
+pub returns-then-screen-ne0 : goal.returns-then-screen-ne0
+returns-then-screen-ne0 c = blink_graph _ _ c.load_head-h.ensures c.if-screen-ne0.true
+
+pub under_cursor-b-requires : goal.under_cursor-b-requires
+under_cursor-b-requires c =
+    let w = loaded c.requires c.glass_of-glass.ensures c.load_head-h.ensures in (w.chosen.suits, (numbers w, text_room w))
+
+pub slice_bounds-invert_cursor-end : goal.slice_bounds-invert_cursor-end
+slice_bounds-invert_cursor-end c = screen_room (loaded c.requires c.glass_of-glass.ensures c.load_head-h.ensures)
+
+pub invert_cursor-m-requires : goal.invert_cursor-m-requires
+invert_cursor-m-requires c =
+    let w = loaded c.requires c.glass_of-glass.ensures c.load_head-h.ensures in
+    let z = w.chosen.suits.glass in
+    let n = numbers w in
+    let k = blink_fits _ _ n.cursor c.blink_of-cursor.ensures in
+    (screen-part w c.canvas_of.ensures, (box_bottom n z, box_right n z, k.0, k.1))
+
+pub set_cursor-requires : goal.set_cursor-requires
+set_cursor-requires c = c.requires.passing
+
+pub mark-requires : goal.mark-requires
+mark-requires c = next_passes _ _ c.requires.passing c.blink_next.ensures c.set_cursor.ensures
+
+pub returns : goal.returns
+returns c =
+    let set-cursor = c in
+    let blink-next = set-cursor.before in
+    let invert-cursor = blink-next.before.before.before.before in
+    let canvas-of = invert-cursor.before.before in
+    let blink-of = canvas-of.before in
+    let under-cursor = blink-of.before.before.before in
+    let if1 = under-cursor.before.before in
+    let load-head = if1.before in
+    let start = load-head.before.before.before.before.before in
+    let w = loaded start.requires load-head.before.before.glass-of.ensures load-head.load-head.ensures in
+    blink_drew start.requires.passing w _ _ if1.if1.false under-cursor.under-cursor.ensures blink-of.blink-of.ensures canvas-of.canvas-of.ensures invert-cursor.invert-cursor.ensures blink-next.blink-next.ensures set-cursor.set-cursor.ensures c.mark.ensures

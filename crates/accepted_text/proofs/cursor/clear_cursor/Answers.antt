@@ -1,0 +1,23 @@
+use mathlib.Core.Path.{◌∙◌}
+use Rattle.record.proofs.Lengths.{head_there}
+use Rattle.accepted_text.proofs.Blinking.{clear_none, clear-blinks, clear_graph}
+use borrow.Author.Rules.{rules}
+use Rattle.accepted_text.proofs.cursor.clear_cursor.Goals as goal
+
+pub load_head-h-requires : goal.load_head-h-requires
+load_head-h-requires c = head_there c.requires.passing
+
+pub returns-then-cursor-eq0 : goal.returns-then-cursor-eq0
+returns-then-cursor-eq0 c = clear_none _ _ c.load_head-h.ensures c.if-cursor-eq0.true
+
+pub returns-then-screen-eq0 : goal.returns-then-screen-eq0
+returns-then-screen-eq0 c =
+    let blink-cursor = c in
+    let if2 = blink-cursor.before.before.before in
+    let if1 = if2.before in
+    let load-head = if1.before in
+    blink-cursor.blink-cursor.ensures ∙ clear-blinks _ _ load-head.load-head.ensures if1.if1.false if2.if2.true
+
+pub returns : goal.returns
+returns c =
+    clear_graph _ _ c.load_head-h.ensures c.if-cursor-eq0.false c.if-screen-eq0.false c.set_cursor.ensures

@@ -1,0 +1,40 @@
+use native.Mathlib.Omega.{arith}
+use Rattle.record.proofs.Lengths.{head_there}
+use Rattle.updates.proofs.Drawing.{loaded, text_room}
+use Rattle.accepted_text.proofs.Printing.{flags_end, ready, few_scrolls, newline_keeps, store_given, page-stored, newline_left}
+use borrow.Author.Rules.{rules}
+use Rattle.accepted_text.proofs.print.newline.Goals as goal
+
+pub load_head-h-requires : goal.load_head-h-requires
+load_head-h-requires c = head_there c.requires.passing
+
+pub slice_bounds-newline-end : goal.slice_bounds-newline-end
+slice_bounds-newline-end c = text_room (loaded c.requires c.glass_of-glass.ensures c.load_head-h.ensures)
+
+pub slice_bounds-newline-end-2 : goal.slice_bounds-newline-end-2
+slice_bounds-newline-end-2 c = flags_end (loaded c.requires c.glass_of-glass.ensures c.load_head-h.ensures)
+
+pub newline-p-requires : goal.newline-p-requires
+newline-p-requires c =
+    let w = loaded c.requires c.glass_of-glass.ensures c.load_head-h.ensures in
+    let e = c.place_of-start.ensures in
+    (ready w e 0 (omega arith), few_scrolls w e)
+
+pub store_page-requires : goal.store_page-requires
+store_page-requires c =
+    let load-head = c in
+    let start = load-head.before.before.before.before.before in
+    let w = loaded start.requires load-head.before.before.glass-of.ensures load-head.load-head.ensures in record {
+      given = (store_given w c.place_of-start.ensures _ (newline_keeps w) c.newline-p.ensures).0;
+      row_bound = (store_given w c.place_of-start.ensures _ (newline_keeps w) c.newline-p.ensures).1;
+    }
+
+pub returns : goal.returns
+returns c =
+    let store-page = c in
+    let newline = store-page.before.before.before.before.before.before.before in
+    let place_of = newline.before.before.before in
+    let load-head = place_of.before.before.before in
+    let start = load-head.before.before.before.before.before in
+    let w = loaded start.requires load-head.before.before.glass-of.ensures load-head.load-head.ensures in
+    newline_left w (page-stored w place_of.place_of.ensures _ (newline_keeps w) newline.newline.ensures store-page.store-page.ensures)

@@ -1,0 +1,41 @@
+use native.Mathlib.Omega.{arith}
+use Rattle.laws.specs.Pages.{print_sheet}
+use Rattle.record.proofs.Lengths.{head_there}
+use Rattle.updates.proofs.Drawing.{loaded, text_room}
+use Rattle.accepted_text.proofs.Printing.{flags_end, ready, no_scrolls, store_given, page-stored, print_left}
+use borrow.Author.Rules.{rules}
+use Rattle.accepted_text.proofs.print.print.Goals as goal
+
+pub load_head-h-requires : goal.load_head-h-requires
+load_head-h-requires c = head_there c.requires.passing
+
+pub slice_bounds-print-end : goal.slice_bounds-print-end
+slice_bounds-print-end c = text_room (loaded c.requires c.glass_of-glass.ensures c.load_head-h.ensures)
+
+pub slice_bounds-print-end-2 : goal.slice_bounds-print-end-2
+slice_bounds-print-end-2 c = flags_end (loaded c.requires c.glass_of-glass.ensures c.load_head-h.ensures)
+
+pub print-p-requires : goal.print-p-requires
+print-p-requires c =
+    let w = loaded c.requires c.glass_of-glass.ensures c.load_head-h.ensures in
+    let e = c.place_of-start.ensures in
+    (ready w e 1 (omega arith), no_scrolls w e)
+
+pub store_page-requires : goal.store_page-requires
+store_page-requires c =
+    let load-head = c in
+    let start = load-head.before.before.before.before.before.before in
+    let w = loaded start.requires load-head.before.before.glass-of.ensures load-head.load-head.ensures in record {
+      given = (store_given w c.place_of-start.ensures _ (print_sheet _ _ _ _) c.print-p.ensures).0;
+      row_bound = (store_given w c.place_of-start.ensures _ (print_sheet _ _ _ _) c.print-p.ensures).1;
+    }
+
+pub returns : goal.returns
+returns c =
+    let store-page = c in
+    let print = store-page.before.before.before.before.before.before.before in
+    let place_of = print.before.before.before.before in
+    let load-head = place_of.before.before.before in
+    let start = load-head.before.before.before.before.before.before in
+    let w = loaded start.requires load-head.before.before.glass-of.ensures load-head.load-head.ensures in
+    print_left w start.args.bytes.now (page-stored w place_of.place_of.ensures _ (print_sheet _ _ _ _) print.print.ensures store-page.store-page.ensures)

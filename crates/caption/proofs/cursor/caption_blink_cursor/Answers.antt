@@ -1,0 +1,13 @@
+use mathlib.Core.Path.{refl}
+use Rattle.caption.proofs.Calls.{none_left, stops, finishes, given}
+use borrow.Author.Rules.{rules}
+use Rattle.caption.proofs.cursor.caption_blink_cursor.Goals as goal
+
+pub returns-then-code-ne0 : goal.returns-then-code-ne0
+returns-then-code-ne0 c = stops _ _ refl c.enter-code.ensures c.if-code-ne0.true
+
+pub blink_cursor-requires : goal.blink_cursor-requires
+blink_cursor-requires c = given _ c.enter-code.ensures c.if-code-ne0.false
+
+pub returns : goal.returns
+returns c = finishes _ _ refl c.enter-code.ensures c.if-code-ne0.false none_left c.blink_cursor.ensures

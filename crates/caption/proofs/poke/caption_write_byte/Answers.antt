@@ -1,0 +1,13 @@
+use mathlib.Core.Path.{refl}
+use Rattle.caption.proofs.Calls.{none_left, stops, finishes, given}
+use borrow.Author.Rules.{rules}
+use Rattle.caption.proofs.poke.caption_write_byte.Goals as goal
+
+pub returns-then-code-ne0 : goal.returns-then-code-ne0
+returns-then-code-ne0 c = stops _ _ refl c.enter-code.ensures c.if-code-ne0.true
+
+pub write_byte-requires : goal.write_byte-requires
+write_byte-requires c = given _ c.enter-code.ensures c.if-code-ne0.false
+
+pub returns : goal.returns
+returns c = finishes _ _ refl c.enter-code.ensures c.if-code-ne0.false none_left c.write_byte.ensures

@@ -1,0 +1,13 @@
+use mathlib.Core.Path.{refl}
+use Rattle.caption.proofs.Calls.{none_left, stops, finishes, given}
+use borrow.Author.Rules.{rules}
+use Rattle.caption.proofs.print.caption_newline.Goals as goal
+
+pub returns-then-code-ne0 : goal.returns-then-code-ne0
+returns-then-code-ne0 c = stops _ _ refl c.enter-code.ensures c.if-code-ne0.true
+
+pub newline-requires : goal.newline-requires
+newline-requires c = given _ c.enter-code.ensures c.if-code-ne0.false
+
+pub returns : goal.returns
+returns c = finishes _ _ refl c.enter-code.ensures c.if-code-ne0.false none_left c.newline.ensures

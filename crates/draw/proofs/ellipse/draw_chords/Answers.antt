@@ -1,0 +1,38 @@
+use Rattle.laws.specs.Writes.{screen_draw}
+use Rattle.laws.specs.EllipseMarks.{chord_order, chords-drawn, chords-clamped}
+use Rattle.std.proofs.Common.{rules}
+use Rattle.draw.proofs.ellipse.draw_chords.Goals as goal
+
+pub draw_clamped-requires : goal.draw_clamped-requires
+draw_clamped-requires c =
+    record {
+      screen = (search (chord_order, rules)).0;
+      left_le_right = (search (chord_order, rules)).1.0;
+      op = (search (chord_order, rules)).1.1;
+    }
+
+pub draw_clamped-requires-in-Clamp : goal.draw_clamped-requires-in-Clamp
+draw_clamped-requires-in-Clamp c =
+    let chord-left = c in
+    let s = chord-left.before.before.before.before in
+    (screen_draw _ _ _ s.requires.0 c.draw_clamped.ensures, (chord_order _ _ chord-left.chord-left.ensures, s.requires.1))
+
+pub draw_hor_line-requires : goal.draw_hor_line-requires
+draw_hor_line-requires c =
+    record {
+      screen = (search (chord_order, rules)).0;
+      left_le_right = (search (chord_order, rules)).1.0;
+      op = (search (chord_order, rules)).1.1;
+    }
+
+pub draw_hor_line-requires-in-Stop : goal.draw_hor_line-requires-in-Stop
+draw_hor_line-requires-in-Stop c =
+    let chord-left = c in
+    let s = chord-left.before.before.before.before in
+    (screen_draw _ _ _ s.requires.0 c.draw_hor_line.ensures, (chord_order _ _ chord-left.chord-left.ensures, s.requires.1))
+
+pub returns-in-Clamp : goal.returns-in-Clamp
+returns-in-Clamp c = search chords-clamped
+
+pub returns-in-Stop : goal.returns-in-Stop
+returns-in-Stop c = search chords-drawn

@@ -1,0 +1,6 @@
+use Rattle.laws.specs.EllipseMarks.{corners-drawn}
+use Rattle.std.proofs.Common.{rules}
+use Rattle.draw.proofs.ellipse.draw_corners.Goals as goal
+
+pub returns : goal.returns
+returns c = search corners-drawn

@@ -1,0 +1,6 @@
+use Rattle.laws.specs.Lines.{horizontal-marked}
+use Rattle.std.proofs.Common.{rules}
+use Rattle.draw_lines.proofs.line.draw_horizontal.Goals as goal
+
+pub returns : goal.returns
+returns c = search horizontal-marked

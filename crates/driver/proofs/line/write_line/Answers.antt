@@ -1,0 +1,13 @@
+-- A start and a data write for each byte: the list of the line's writes.
+use native.Mathlib.Omega.{arith}
+use Rattle.model.specs.Geometry.{base}
+use Rattle.driver.specs.Line.{line_made}
+use borrow.Author.Rules.{rules}
+use Rattle.driver.proofs.line.write_line.Goals as goal
+
+pub slice_bounds-write_bytes-end : goal.slice_bounds-write_bytes-end
+slice_bounds-write_bytes-end c = let e = c.requires in omega (arith, e.1.0, e.1.1)
+
+pub returns : goal.returns
+returns c =
+    record { left = line_made base _ _ _ _ _ _ c.start_line-s.result c.write_bytes.result _ _ _ _ c.start_line-s.ensures.left c.write_bytes.ensures.left (omega arith) (omega arith) }

@@ -1,0 +1,6 @@
+use Rattle.ellipse_walk.proofs.Laws.{x_stepped}
+use Rattle.std.proofs.Common.{rules}
+use Rattle.ellipse_walk.proofs.x_step.Goals as goal
+
+pub returns : goal.returns
+returns c = search x_stepped

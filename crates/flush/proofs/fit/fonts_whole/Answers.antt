@@ -1,0 +1,8 @@
+use mathlib.Core.Path.{refl}
+use borrow.Author.Rules.{rules}
+use Rattle.flush.specs.Fits.{whole_fonts}
+use Rattle.flush.proofs.fit.fonts_whole.Goals as goal
+
+pub returns : goal.returns
+unfolding whole_fonts
+returns c = rw c.entries_fit.ensures refl

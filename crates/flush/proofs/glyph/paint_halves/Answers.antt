@@ -1,0 +1,6 @@
+use Rattle.flush.proofs.Painting.{lines_as}
+use borrow.Author.Rules.{rules}
+use Rattle.flush.proofs.glyph.paint_halves.Goals as goal
+
+pub returns : goal.returns
+returns c = search lines_as

@@ -1,0 +1,5 @@
+use borrow.Author.Rules.{rules}
+use Rattle.marks.proofs.span.edge_marks.Goals as goal
+
+pub returns : goal.returns
+returns c = cc

@@ -1,0 +1,6 @@
+use Rattle.laws.specs.Points.{mask_at}
+use borrow.Author.Rules.{rules}
+use Rattle.pixels.proofs.point.point_mask.Goals as goal
+
+pub returns : goal.returns
+returns c = mask_at c.args.x

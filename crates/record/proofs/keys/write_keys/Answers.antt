@@ -1,0 +1,36 @@
+use mathlib.Core.Path.{◌∙◌}
+use native.Mathlib.Omega.{arith}
+use Rattle.laws.specs.Tests.{either}
+use borrow.Author.Rules.{rules}
+use mathlib.Core.Path.{◌≡◌, refl}
+use Prim.Native.Nat.{◌≤◌, ◌-◌}
+use lib.ListN.{length, length-set}
+use Rattle.model.specs.Glass.{geometry}
+use Rattle.model.specs.Record.{decode}
+use Rattle.model.specs.Open.{with_keys}
+use Rattle.laws.specs.Loops.{keys_set, keys_kept}
+use Rattle.record.proofs.keys.write_keys.Goals as goal
+
+pub loop-a-init : goal.loop-a-init
+unfolding with_keys
+loop-a-init c = (search rules, search rules, refl)
+
+pub overflow_add-a : goal.overflow_add-a
+overflow_add-a c = omega arith
+
+pub loop-a-preserved : goal.loop-a-preserved
+loop-a-preserved c =
+    let l = c.loop-a in
+    let a = c.args in
+    let k = c.is_key.ensures in
+    let keys = (decode (geometry a.glass) a.rec.now).keys in
+    either c.if-is_key.branch
+    (λ w. (
+      search rules,
+      rw w.1 (simp length-set l.invariant.1),
+      w.1 ∙ keys_set keys l.a a.memory.now l.memory k w.0.taken l.invariant.2,
+    ))
+    (λ w. (search rules, rw w.1 l.invariant.1, w.1 ∙ keys_kept keys l.a a.memory.now l.memory k w.0.left l.invariant.2))
+
+pub returns : goal.returns
+returns c = let e : c.loop-a.a ≡ 256 = omega arith in rw e at c.loop-a.invariant.2

@@ -1,0 +1,6 @@
+use native.Mathlib.Omega.{arith}
+use borrow.Author.Rules.{rules}
+use Rattle.record.proofs.panels.sent_at.Goals as goal
+
+pub returns : goal.returns
+returns c = omega arith

@@ -1,0 +1,10 @@
+use mathlib.Core.Path.{ap}
+use Rattle.model.specs.Script.Read.{goes_on}
+use mathlib.Core.Bool.{Bool, ◌&&◌}
+use lib.Dec.{ltb}
+use borrow.Author.Rules.{rules}
+use Rattle.script.proofs.words.goes_on.Goals as goal
+
+pub returns : goal.returns
+unfolding goes_on
+returns c = ap (λ (t : Bool). t && ltb c.args.v 10000) c.is_digit.ensures

@@ -1,0 +1,14 @@
+use borrow.Author.Rules.{rules}
+use native.Mathlib.Omega.{arith}
+use mathlib.Core.Path.{◌≡◌, refl}
+use Prim.Native.Nat.{◌-◌, ◌<◌}
+use lib.ListN.{length, drop}
+use Rattle.script.proofs.Reading.{goes_on_is, digits_end, digits_stop, digits_turn}
+use Rattle.model.specs.Script.Read.{take_digits}
+use Rattle.script.proofs.words.take_digits.Given as goal
+
+abbrev pub invariant-loop-i : goal.invariant-loop-i
+invariant-loop-i l = (l.v < 100000) × (take_digits l.v (drop l.i l.s) ≡ take_digits l.first (drop l.at l.s))
+
+abbrev pub decreases-loop-i : goal.decreases-loop-i
+decreases-loop-i l = length l.s - l.i

@@ -1,0 +1,16 @@
+-- The invariant: the first i bytes are those that stood n places on, the others are as they were.
+use borrow.Author.Rules.{rules}
+use mathlib.Core.Path.{◌≡◌, refl}
+use Prim.Native.Nat.{◌≤◌, ◌-◌}
+use native.Mathlib.Omega.{arith}
+use lib.ListN.{length, length-set}
+use Rattle.laws.specs.Pages.{scrolling, scroll_turn}
+use Rattle.slices.proofs.Scrolling.{scrolled-up}
+use Rattle.slices.proofs.scroll.Given as goal
+
+abbrev pub invariant-loop-i : goal.invariant-loop-i
+invariant-loop-i l =
+    (l.i ≤ l.left) × (length l.part ≡ length l.initial.part) × (l.part ≡ scrolling l.n l.i l.initial.part)
+
+abbrev pub decreases-loop-i : goal.decreases-loop-i
+decreases-loop-i l = l.left - l.i

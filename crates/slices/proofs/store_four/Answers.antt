@@ -1,0 +1,11 @@
+use mathlib.Core.Path.{ap, ◌∙◌}
+use mathlib.Core.List.{List}
+use Prim.Native.Nat.{ℕ}
+use Rattle.model.specs.Memory.{with_window}
+use borrow.Author.Rules.{rules}
+use Rattle.slices.proofs.store_four.Goals as goal
+
+pub returns : goal.returns
+returns c =
+    let a = c.args in
+    c.put_bytes.ensures ∙ ap (λ (b : List ℕ). with_window a.at b a.bytes.now) c.four_bytes-stored.ensures

@@ -1,0 +1,6 @@
+use Rattle.text.proofs.Turning.{not_set}
+use borrow.Author.Rules.{rules}
+use Rattle.text.proofs.clear.is_set.Goals as goal
+
+pub returns : goal.returns
+returns c = search not_set

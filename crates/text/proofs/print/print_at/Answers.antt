@@ -1,0 +1,24 @@
+-- One turn: the two arms are the two ways in which the definition goes on.
+use native.Mathlib.Omega.{arith}
+use borrow.Author.Rules.{rules}
+use borrow.Author.Tests.{ltb-true}
+use Rattle.laws.specs.Tests.{either}
+use Rattle.text.proofs.Turning.{takes-next, last_alone, low_alone, pair_taken, byte_taken}
+use Rattle.text.proofs.print.print_at.Goals as goal
+
+pub bounds-from-at-then-at-from : goal.bounds-from-at-then-at-from
+bounds-from-at-then-at-from c = omega (arith, ltb-true)
+
+pub print_pair-q-requires : goal.print_pair-q-requires
+print_pair-q-requires c = (search rules, (search rules, search rules))
+
+pub returns-then-at-from : goal.returns-then-at-from
+returns-then-at-from c =
+    pair_taken _ _ _ _ _ _ _ _ c.requires.ready (takes-next c.args.from.now c.args.at c.if-b-ge128.true c.if-at-from.true-raw) c.print_pair-q.ensures
+
+pub returns : goal.returns
+returns c =
+    let bs = c.args.from.now in
+    let i = c.args.at in
+    let alone = either c.if-b-ge128.branch (λ w. last_alone bs i w.0.taken w.1.left) (λ w. low_alone bs i w.left) in
+    byte_taken _ _ _ _ _ _ _ _ c.requires.ready c.requires.scrolls_bound.1 alone c.print_byte-q.ensures

@@ -1,0 +1,25 @@
+use mathlib.Core.Path.{refl}
+use mathlib.Core.List.{List}
+use Prim.Native.Nat.{ℕ}
+use native.Mathlib.Omega.{arith}
+use lib.ListN.{length, set, length-set}
+use Rattle.model.specs.Glass.{glass_of}
+use Rattle.model.specs.Memory.{with_window}
+use Rattle.model.specs.Record.{written, part_bytes, encode}
+use Rattle.model.specs.Text.{at_place}
+use Rattle.laws.specs.Updates.{in_head}
+use Rattle.updates.specs.Update.{updated}
+use Rattle.record.proofs.Lengths.{head_there}
+use borrow.Author.Rules.{rules}
+use Rattle.updates.proofs.head.set_place.Goals as goal
+
+pub bounds-rec-4 : goal.bounds-rec-4
+bounds-rec-4 c = omega (arith, head_there c.requires)
+
+pub bounds-rec-5 : goal.bounds-rec-5
+bounds-rec-5 c = simp length-set (omega (arith, head_there c.requires))
+
+pub returns : goal.returns
+unfolding updated encode written part_bytes with_window
+returns c =
+    let a = c.args in in_head (glass_of (length a.rec.now)) a.rec.now c.requires (λ (x : List ℕ). set (set x 4 a.row) 5 a.column) (at_place a.row a.column) refl

@@ -1,0 +1,13 @@
+use mathlib.Core.Path.{◌∙◌}
+use borrow.Author.Rules.{rules}
+use Prim.Native.Nat.{◌-◌}
+use native.Mathlib.Omega.{arith}
+use Rattle.laws.specs.Owed.{owed_at}
+use Rattle.laws.specs.MarkLoops.{Owing, owe_room, owe_starts, owe_goes, owe_ends}
+use Rattle.updates.proofs.panels.owe_band.Given as goal
+
+abbrev pub invariant-loop-k : goal.invariant-loop-k
+invariant-loop-k l = Owing l.glass l.i (λ a. owed_at l.whole a l.q) l.initial.rec l.rec l.panels l.k
+
+abbrev pub decreases-loop-k : goal.decreases-loop-k
+decreases-loop-k l = l.panels - l.k
