@@ -88,6 +88,8 @@ class Fn:
         if not parts:
             return None
         head, rest = parts[0], parts[1:]
+        if head == "well_formed":
+            return parts
         if head in ("args", "ranges"):
             for o, n in self.d["args"]:
                 ow, nw = o.replace(" ", "").strip(".").split("."), n.replace(" ", "").strip(".").split(".")
@@ -186,11 +188,12 @@ class Fn:
             parts.append(e)
         if len(parts) < len(fields):
             last = parts.pop()
+            tactic = re.match(r"(omega|search|grind|simp|rw)\b", last)
             if not re.fullmatch(r"[\w.'-]+", last):
                 last = "(" + last + ")"
             n = len(fields) - len(parts)
             for j in range(n):
-                parts.append(last + ".1" * j + (".0" if j < n - 1 else ""))
+                parts.append(last[1:-1] if tactic else last + ".1" * j + (".0" if j < n - 1 else ""))
         return front + (" " if front else "") + "record {\n" + "".join(f"      {f} = {p};\n" for f, p in zip(fields, parts)) + "    }"
 
     @staticmethod
@@ -302,7 +305,7 @@ def convert(crate, file, names):
             made = f"{k[0]}-{n}"
             invariants.append("\n".join(comment + [f"abbrev pub {made} : goal.{made}", *unfolding, f"{made} l =" + ("\n    " + body if "\n" in body or len(body) > 90 else " " + body)]))
             continue
-        if re.sub(r"\s+", " ", body) == "search rules":
+        if re.sub(r"\s+", " ", body) == "search rules" and not unfolding:
             continue
         old = norm(k[1])
         short = re.sub(r"^(overflow|shared|mut)_", "", old)

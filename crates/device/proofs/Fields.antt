@@ -13,9 +13,9 @@ use Rattle.model.specs.Geometry.{base}
 use Rattle.model.specs.Rects.{every}
 use Rattle.model.specs.Controller.{status_of, register_of, busy, line_fits, registers_fit}
 
-pub bool_byte : (b : Bool) → bool_byte b ≤ 1
-bool_byte true = omega arith
-bool_byte false = omega arith
+pub bool_byte-le : (b : Bool) → bool_byte b ≤ 1
+bool_byte-le true = omega arith
+bool_byte-le false = omega arith
 
 pub status_is : (b i : Bool) → bool_byte b + 2 * bool_byte i ≡ status_of b i
 status_is true true = refl

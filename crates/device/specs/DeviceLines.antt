@@ -120,7 +120,7 @@ unfolding data_writes run_device
 line_goes g {m = m} [] d k i h = let e : m + 0 ≡ m = omega arith in rw e i
 line_goes g {m = m} (c ∷ cs) d k i h =
     let e : m + (data_write c + data_writes cs) ≡ m + data_write c + data_writes cs = omega arith in
-    rw e (line_goes g cs (device_outcome g c d).left k.1 (line_call g d i c k.0 (omega arith)) (omega arith))
+    rw e (line_goes g {m = m + data_write c} cs (device_outcome g c d).left k.1 (line_call g d i c k.0 (omega arith)) (omega arith))
 
 -- .. and the last data write ends it: the device is not busy, and the interrupt bit is set where it was, or where it is enabled now
 pub record Finished (g : Geometry) (d d' : Device) : Type 0 where

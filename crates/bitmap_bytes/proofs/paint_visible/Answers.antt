@@ -45,9 +45,9 @@ paint_bits-requires c =
     let n = sized a c.if-count-stride.true in
     let to = c.bit_of-to.ensures in
     let from = c.bit_of-from.ensures in record {
-      count_nonzero = (rw (n, to, from) ((omega (arith, o.some), o.screen, o.source), (o.apart, omega arith))).0;
-      apart = (rw (n, to, from) ((omega (arith, o.some), o.screen, o.source), (o.apart, omega arith))).1.0;
-      memory_len_bound = (rw (n, to, from) ((omega (arith, o.some), o.screen, o.source), (o.apart, omega arith))).1.1;
+      count_nonzero = rw (n, to, from) ((omega (arith, o.some), o.screen, o.source), (o.apart, omega arith));
+      apart = rw (n, to, from) ((omega (arith, o.some), o.screen, o.source), (o.apart, omega arith));
+      memory_len_bound = rw (n, to, from) ((omega (arith, o.some), o.screen, o.source), (o.apart, omega arith));
     }
 
 pub returns-then-bytes-stride : goal.returns-then-bytes-stride

@@ -8,9 +8,9 @@ returns-then-is_beyond c = search box-beyond
 pub fill_clamped-requires : goal.fill_clamped-requires
 fill_clamped-requires c =
     record {
-      screen = (search (rules, low_in)).0;
-      left_le_right = (search (rules, low_in)).1.0;
-      op = (search (rules, low_in)).1.1;
+      screen = search (rules, low_in);
+      left_le_right = search (rules, low_in);
+      op = search (rules, low_in);
     }
 
 pub returns : goal.returns

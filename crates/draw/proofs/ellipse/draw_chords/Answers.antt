@@ -6,9 +6,9 @@ use Rattle.draw.proofs.ellipse.draw_chords.Goals as goal
 pub draw_clamped-requires : goal.draw_clamped-requires
 draw_clamped-requires c =
     record {
-      screen = (search (chord_order, rules)).0;
-      left_le_right = (search (chord_order, rules)).1.0;
-      op = (search (chord_order, rules)).1.1;
+      screen = search (chord_order, rules);
+      left_le_right = search (chord_order, rules);
+      op = search (chord_order, rules);
     }
 
 pub draw_clamped-requires-in-Clamp : goal.draw_clamped-requires-in-Clamp
@@ -20,9 +20,9 @@ draw_clamped-requires-in-Clamp c =
 pub draw_hor_line-requires : goal.draw_hor_line-requires
 draw_hor_line-requires c =
     record {
-      screen = (search (chord_order, rules)).0;
-      left_le_right = (search (chord_order, rules)).1.0;
-      op = (search (chord_order, rules)).1.1;
+      screen = search (chord_order, rules);
+      left_le_right = search (chord_order, rules);
+      op = search (chord_order, rules);
     }
 
 pub draw_hor_line-requires-in-Stop : goal.draw_hor_line-requires-in-Stop

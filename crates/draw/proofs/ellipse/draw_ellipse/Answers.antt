@@ -11,9 +11,9 @@ returns-then-is_nothing c = search ellipse-nothing
 pub draw_walk-requires : goal.draw_walk-requires
 draw_walk-requires c =
     record {
-      screen = (search (is_round, rules)).0;
-      round = (search (is_round, rules)).1.0;
-      op = (search (is_round, rules)).1.1;
+      screen = search (is_round, rules);
+      round = search (is_round, rules);
+      op = search (is_round, rules);
     }
 
 pub returns-then-fill : goal.returns-then-fill

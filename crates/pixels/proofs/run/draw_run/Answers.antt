@@ -13,8 +13,8 @@ overflow_add-line c = omega (arith, line_in _ _ c.args.y c.requires.screen c.req
 pub draw_mask-requires : goal.draw_mask-requires
 draw_mask-requires c =
     record {
-      at_in_bounds = (omega (arith, line_in _ _ c.args.y c.requires.screen c.requires.left_le_right.2)).0;
-      op = (omega (arith, line_in _ _ c.args.y c.requires.screen c.requires.left_le_right.2)).1;
+      at_in_bounds = omega (arith, line_in _ _ c.args.y c.requires.screen c.requires.left_le_right.2);
+      op = omega (arith, line_in _ _ c.args.y c.requires.screen c.requires.left_le_right.2);
     }
 
 pub returns-then-first-last : goal.returns-then-first-last
@@ -29,8 +29,8 @@ overflow_add-line-2 c = omega (arith, line_in _ _ c.args.y c.requires.screen c.r
 pub draw_mask-requires-2 : goal.draw_mask-requires-2
 draw_mask-requires-2 c =
     record {
-      at_in_bounds = (omega (arith, line_in _ _ c.args.y c.requires.screen c.requires.left_le_right.2)).0;
-      op = (omega (arith, line_in _ _ c.args.y c.requires.screen c.requires.left_le_right.2)).1;
+      at_in_bounds = omega (arith, line_in _ _ c.args.y c.requires.screen c.requires.left_le_right.2);
+      op = omega (arith, line_in _ _ c.args.y c.requires.screen c.requires.left_le_right.2);
     }
 
 pub overflow_add-line-3 : goal.overflow_add-line-3
@@ -45,8 +45,8 @@ overflow_add-line-5 c = omega (arith, line_in _ _ c.args.y c.requires.screen c.r
 pub draw_bytes-requires : goal.draw_bytes-requires
 draw_bytes-requires c =
     record {
-      from_le_to = (omega (arith, line_in _ _ c.args.y c.requires.screen c.requires.left_le_right.2)).0;
-      op = (omega (arith, line_in _ _ c.args.y c.requires.screen c.requires.left_le_right.2)).1;
+      from_le_to = omega (arith, line_in _ _ c.args.y c.requires.screen c.requires.left_le_right.2);
+      op = omega (arith, line_in _ _ c.args.y c.requires.screen c.requires.left_le_right.2);
     }
 
 pub overflow_add-line-6 : goal.overflow_add-line-6
@@ -55,8 +55,8 @@ overflow_add-line-6 c = omega (arith, line_in _ _ c.args.y c.requires.screen c.r
 pub draw_mask-requires-3 : goal.draw_mask-requires-3
 draw_mask-requires-3 c =
     record {
-      at_in_bounds = (omega (arith, line_in _ _ c.args.y c.requires.screen c.requires.left_le_right.2)).0;
-      op = (omega (arith, line_in _ _ c.args.y c.requires.screen c.requires.left_le_right.2)).1;
+      at_in_bounds = omega (arith, line_in _ _ c.args.y c.requires.screen c.requires.left_le_right.2);
+      op = omega (arith, line_in _ _ c.args.y c.requires.screen c.requires.left_le_right.2);
     }
 
 pub returns : goal.returns

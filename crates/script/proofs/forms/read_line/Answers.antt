@@ -4,6 +4,24 @@ use Rattle.script.proofs.Choosing.{is_point, is_line, is_poke, is_send, is_bad}
 use borrow.Author.Rules.{rules}
 use Rattle.script.proofs.forms.read_line.Goals as goal
 
+pub overflow_cast-result : goal.overflow_cast-result
+overflow_cast-result c = omega (arith, point-fits _ _ c.matched_line-point.ensures c.if-point.true)
+
+pub overflow_cast-result-then-point : goal.overflow_cast-result-then-point
+overflow_cast-result-then-point c = omega (arith, point-fits _ _ c.matched_line-point.ensures c.if-point.true)
+
+pub overflow_cast-result-then-point-2 : goal.overflow_cast-result-then-point-2
+overflow_cast-result-then-point-2 c = omega (arith, point-fits _ _ c.matched_line-point.ensures c.if-point.true)
+
+pub overflow_cast-result-then-line : goal.overflow_cast-result-then-line
+overflow_cast-result-then-line c = omega (arith, line-fits _ _ c.matched_line-line.ensures c.if-line.true)
+
+pub overflow_cast-result-then-line-2 : goal.overflow_cast-result-then-line-2
+overflow_cast-result-then-line-2 c = omega (arith, line-fits _ _ c.matched_line-line.ensures c.if-line.true)
+
+pub overflow_cast-result-then-poke : goal.overflow_cast-result-then-poke
+overflow_cast-result-then-poke c = omega (arith, poke_fits _ _ c.matched_line-poke.ensures c.if-poke.true)
+
 pub returns-then-point : goal.returns-then-point
 returns-then-point c = search is_point
 
