@@ -58,8 +58,22 @@ def clauses_of(crate_src, path):
     return out
 
 
+def clauses_by_path(cache={}):
+    """Each function's clauses, by its path with its crate."""
+    if not cache:
+        for f in glob.glob(os.path.join("crates", "*", "src", "**", "*.rt"), recursive=True):
+            p = f.split(os.sep)
+            mods = p[3:-1] + ([] if p[-1] in ("lib.rt", "main.rt") else [p[-1][:-3]])
+            for m in re.finditer(r"\bfn (\w+)", open(f).read()):
+                c = clauses_of(os.path.join("crates", p[1], "src"), mods + [m.group(1)])
+                if c:
+                    cache["::".join([p[1]] + mods + [m.group(1)])] = c
+    return cache
+
+
 class Fn:
     def __init__(self, crate, path, data, src):
+        self.callee = {}
         self.crate, self.path, self.d, self.src = crate, path, data, src
         self.steps, self.sub, self.clause = {}, {}, {}
         self.arms = {}
@@ -67,6 +81,8 @@ class Fn:
             old, new = p[2]
             if old:
                 self.steps.setdefault(norm(old), new)
+                if p[3]:
+                    self.callee.setdefault(norm(old), p[3])
                 if p[4]:
                     self.sub.setdefault(norm(old), {}).update({a: b for a, b in p[4]})
                 c = data["clauses"][i] if i < len(data["clauses"]) else None
@@ -108,8 +124,21 @@ class Fn:
             return None
         if rest and rest[0] in self.sub.get(h, {}):
             rest = [self.sub[h][rest[0]]] + rest[1:]
-        if rest and rest[0] == "ensures" and self.clause.get(h):
-            rest = ["ensures"] + self.under(self.clause[h], rest[1:])
+        called = clauses_by_path().get(self.callee.get(h), {"ensures": []})
+        names = self.clause.get(h) or called["ensures"]
+        if rest and rest[0] == "ensures" and names and (len(names) > 1 or names[0]):
+            rest = ["ensures"] + self.under(names, rest[1:])
+        params = self.d["params"].get(self.callee.get(h), [])
+        if len(rest) > 1 and rest[0] in ("new", "auto") and rest[1] in ("0", "1"):
+            i = 1
+            while i < len(rest) and rest[i] == "1":
+                i += 1
+            at = i - 1
+            if i < len(rest) and rest[i] == "0":
+                i += 1
+            if at < len(params):
+                rest = [rest[0], params[at]] + rest[i:]
+        rest = [{"type-inv": "type_inv"}.get(r, r) for r in rest]
         return [self.steps[h]] + rest
 
     @staticmethod
@@ -316,6 +345,10 @@ def convert(crate, file, names):
         body = fn.body(body, said)
         args = [a for a in args if a != "κs"]
         fields = fn.d["asked"].get(new)
+        if not fields and "-requires" in new:
+            called = [c for c in fn.callee.values() if new.startswith(c.split("::")[-1] + "-")]
+            if called:
+                fields = clauses_by_path().get(called[0], {"requires": []})["requires"]
         if new.startswith("returns") and len(fn.own["ensures"]) > 1:
             fields = fn.own["ensures"]
         if fields and len(fields) > 1 and not body.startswith("record"):

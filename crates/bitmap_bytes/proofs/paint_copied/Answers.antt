@@ -19,8 +19,10 @@ copy_both-requires c =
 pub paint_apart-m-requires : goal.paint_apart-m-requires
 paint_apart-m-requires c =
     let room = both_room c.args.canvas c.args.width c.args.lines c.requires.canvas_bound (omega arith) (omega arith) in
-    let o = rw c.source_bytes-count.ensures at c.copy_both.ensures in
-    copies_hold c.args.canvas c.args.screen c.args.source c.args.width c.args.lines c.args.memory.now _ c.requires.holds o room
+    let o = rw c.source_bytes-count.ensures at c.copy_both.ensures in record {
+      holds = (copies_hold c.args.canvas c.args.screen c.args.source c.args.width c.args.lines c.args.memory.now _ c.requires.holds o room).0;
+      placed = (copies_hold c.args.canvas c.args.screen c.args.source c.args.width c.args.lines c.args.memory.now _ c.requires.holds o room).1;
+    }
 
 pub slice_bounds-put_bytes-end : goal.slice_bounds-put_bytes-end
 slice_bounds-put_bytes-end c =
@@ -32,7 +34,7 @@ pub put_bytes-requires : goal.put_bytes-requires
 put_bytes-requires c =
     let room = both_room c.args.canvas c.args.width c.args.lines c.requires.canvas_bound (omega arith) (omega arith) in
     let o = rw c.source_bytes-count.ensures at c.copy_both.ensures in
-    omega (arith, c.requires.holds.screen-in, length-take-le (size c.args.canvas) c.paint_apart-m.new.1.0 (omega (arith, o.long, c.paint_apart-m.auto)))
+    omega (arith, c.requires.holds.screen-in, length-take-le (size c.args.canvas) c.paint_apart-m.new.memory (omega (arith, o.long, c.paint_apart-m.auto)))
 
 pub returns : goal.returns
 unfolding window
@@ -41,5 +43,5 @@ returns c =
     let o = rw c.source_bytes-count.ensures at c.copy_both.ensures in
     let painted = rw (to_z-of_z {w = w32} {z = c.args.x} c.ranges.x, to_z-of_z {w = w32} {z = c.args.y} c.ranges.y) at c.paint_apart-m.ensures in
     copied_in c.args.screen c.args.canvas.stride c.args.canvas.height c.args.source (source_bytes c.args.width c.args.lines)
-    (λ s. bitmap c.args.canvas.stride c.args.canvas.height s c.args.x c.args.y c.args.width c.args.lines c.args.mode) c.args.memory.now _ _ c.paint_apart-m.new.1.0 _
+    (λ s. bitmap c.args.canvas.stride c.args.canvas.height s c.args.x c.args.y c.args.width c.args.lines c.args.mode) c.args.memory.now _ _ c.paint_apart-m.new.memory _
     c.requires.holds.screen-in (omega (arith, o.long, c.paint_apart-m.auto)) o painted c.put_bytes.ensures

@@ -47,8 +47,10 @@ slice_bounds-paint_bitmap-end-2 c =
 
 pub paint_bitmap-m-requires : goal.paint_bitmap-m-requires
 paint_bitmap-m-requires c =
-    let o = is_source c.requires c.source_bytes-count.ensures (omega arith) (omega arith) (omega arith) in
-    (screen-part (loaded c.requires.given c.glass_of-glass.ensures c.load_head-from.ensures) c.canvas_of.ensures, kept_length _ _ (source_length o) c.put_bytes.ensures ∙ c.source_bytes-count.ensures)
+    let o = is_source c.requires c.source_bytes-count.ensures (omega arith) (omega arith) (omega arith) in record {
+      screen = screen-part (loaded c.requires.given c.glass_of-glass.ensures c.load_head-from.ensures) c.canvas_of.ensures;
+      source_len = kept_length _ _ (source_length o) c.put_bytes.ensures ∙ c.source_bytes-count.ensures;
+    }
 
 pub mark-requires : goal.mark-requires
 mark-requires c = c.requires.given.passing

@@ -19,15 +19,15 @@ paint_bitmap_by_bytes-m-requires c =
     let w = loaded c.requires.given c.glass_of-glass.ensures c.load_head-from.ensures in
     let is = c.canvas_of.ensures in
     let o = is_source c.requires refl (omega arith) (omega arith) (omega arith) in
-    let size = screen-bytes w is in (
-      record {
+    let size = screen-bytes w is in record {
+      holds = record {
         glass = screen_window w is;
         screen-in = omega (arith, size, screen_room w);
         source_in = o.inside;
         small = omega (arith, w.memory);
-      },
-      omega (arith, size, screen_kept w.chosen),
-    )
+      };
+      canvas_bound = omega (arith, size, screen_kept w.chosen);
+    }
 
 pub mark-requires : goal.mark-requires
 mark-requires c = c.requires.given.passing
@@ -38,4 +38,4 @@ returns c =
     let a = c.args in
     let painted = rw (to_z-of_z {w = w32} {z = a.x} c.ranges.x, to_z-of_z {w = w32} {z = a.y} c.ranges.y) at c.paint_bitmap_by_bytes-m.ensures in
     drew_in (loaded c.requires.given c.glass_of-glass.ensures c.load_head-from.ensures) (λ st h d. bitmap st h (window a.address (source_bytes a.width a.height) a.memory.now) a.x a.y a.width a.height d) _ _
-    c.paint_mode-d.ensures c.canvas_of.ensures c.paint_bitmap_by_bytes-m.auto.1.0 painted c.mark.ensures
+    c.paint_mode-d.ensures c.canvas_of.ensures c.paint_bitmap_by_bytes-m.auto.memory painted c.mark.ensures

@@ -21,7 +21,10 @@ slice_bounds-draw_ellipse-end c = screen_room (loaded c.requires.given c.glass_o
 
 pub draw_ellipse-m-requires : goal.draw_ellipse-m-requires
 draw_ellipse-m-requires c =
-    (screen-part (loaded c.requires.given c.glass_of-glass.ensures c.load_head-from.ensures) c.canvas_of.ensures, ap (radii_fit c.args.rx c.args.ry (filled c.args.fill)) c.draw_mode-d.ensures ∙ c.requires.mode_value)
+    record {
+      screen = screen-part (loaded c.requires.given c.glass_of-glass.ensures c.load_head-from.ensures) c.canvas_of.ensures;
+      mode_value = ap (radii_fit c.args.rx c.args.ry (filled c.args.fill)) c.draw_mode-d.ensures ∙ c.requires.mode_value;
+    }
 
 pub mark-requires : goal.mark-requires
 mark-requires c = c.requires.given.passing

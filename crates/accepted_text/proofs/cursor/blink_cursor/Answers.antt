@@ -13,7 +13,11 @@ returns-then-screen-ne0 c = blink_graph _ _ c.load_head-h.ensures c.if-screen-ne
 
 pub under_cursor-b-requires : goal.under_cursor-b-requires
 under_cursor-b-requires c =
-    let w = loaded c.requires c.glass_of-glass.ensures c.load_head-h.ensures in (w.chosen.suits, (numbers w, text_room w))
+    let w = loaded c.requires c.glass_of-glass.ensures c.load_head-h.ensures in record {
+      suits = w.chosen.suits;
+      numbers = numbers w;
+      cells_in_bounds = text_room w;
+    }
 
 pub slice_bounds-invert_cursor-end : goal.slice_bounds-invert_cursor-end
 slice_bounds-invert_cursor-end c = screen_room (loaded c.requires c.glass_of-glass.ensures c.load_head-h.ensures)
@@ -23,8 +27,10 @@ invert_cursor-m-requires c =
     let w = loaded c.requires c.glass_of-glass.ensures c.load_head-h.ensures in
     let z = w.chosen.suits.glass in
     let n = numbers w in
-    let k = blink_fits _ _ n.cursor c.blink_of-cursor.ensures in
-    (screen-part w c.canvas_of.ensures, (box_bottom n z, box_right n z, k.0, k.1))
+    let k = blink_fits _ _ n.cursor c.blink_of-cursor.ensures in record {
+      screen = screen-part w c.canvas_of.ensures;
+      glyph_height_bound = (box_bottom n z, box_right n z, k.0, k.1);
+    }
 
 pub set_cursor-requires : goal.set_cursor-requires
 set_cursor-requires c = c.requires.passing

@@ -17,8 +17,10 @@ slice_bounds-newline-end-2 c = flags_end (loaded c.requires c.glass_of-glass.ens
 pub newline-p-requires : goal.newline-p-requires
 newline-p-requires c =
     let w = loaded c.requires c.glass_of-glass.ensures c.load_head-h.ensures in
-    let e = c.place_of-start.ensures in
-    (ready w e 0 (omega arith), few_scrolls w e)
+    let e = c.place_of-start.ensures in record {
+      ready = ready w e 0 (omega arith);
+      scrolls_bound = few_scrolls w e;
+    }
 
 pub store_page-requires : goal.store_page-requires
 store_page-requires c =

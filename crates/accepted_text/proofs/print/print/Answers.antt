@@ -18,8 +18,10 @@ slice_bounds-print-end-2 c = flags_end (loaded c.requires c.glass_of-glass.ensur
 pub print-p-requires : goal.print-p-requires
 print-p-requires c =
     let w = loaded c.requires c.glass_of-glass.ensures c.load_head-h.ensures in
-    let e = c.place_of-start.ensures in
-    (ready w e 1 (omega arith), no_scrolls w e)
+    let e = c.place_of-start.ensures in record {
+      ready = ready w e 1 (omega arith);
+      scrolls_value = no_scrolls w e;
+    }
 
 pub store_page-requires : goal.store_page-requires
 store_page-requires c =

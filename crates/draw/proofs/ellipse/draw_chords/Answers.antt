@@ -14,8 +14,11 @@ draw_clamped-requires c =
 pub draw_clamped-requires-in-Clamp : goal.draw_clamped-requires-in-Clamp
 draw_clamped-requires-in-Clamp c =
     let chord-left = c in
-    let s = chord-left.before.before.before.before in
-    (screen_draw _ _ _ s.requires.0 c.draw_clamped.ensures, (chord_order _ _ chord-left.chord-left.ensures, s.requires.1))
+    let s = chord-left.before.before.before.before in record {
+      screen = screen_draw _ _ _ s.requires.0 c.draw_clamped.ensures;
+      left_le_right = chord_order _ _ chord-left.chord-left.ensures;
+      op = s.requires.1;
+    }
 
 pub draw_hor_line-requires : goal.draw_hor_line-requires
 draw_hor_line-requires c =
@@ -28,8 +31,11 @@ draw_hor_line-requires c =
 pub draw_hor_line-requires-in-Stop : goal.draw_hor_line-requires-in-Stop
 draw_hor_line-requires-in-Stop c =
     let chord-left = c in
-    let s = chord-left.before.before.before.before in
-    (screen_draw _ _ _ s.requires.0 c.draw_hor_line.ensures, (chord_order _ _ chord-left.chord-left.ensures, s.requires.1))
+    let s = chord-left.before.before.before.before in record {
+      screen = screen_draw _ _ _ s.requires.0 c.draw_hor_line.ensures;
+      left_le_right = chord_order _ _ chord-left.chord-left.ensures;
+      op = s.requires.1;
+    }
 
 pub returns-in-Clamp : goal.returns-in-Clamp
 returns-in-Clamp c = search chords-clamped

@@ -38,7 +38,7 @@ loop-points-preserved c =
     let drawn = c.plot_seen.ensures in (
       screen_draw _ _ _ at.invariant.0 drawn,
       omega arith,
-      omega (arith, c.step_y-y.type-inv),
+      omega (arith, c.step_y-y.type_inv),
       slope_turn _ _ _ at.points _ _ 0 _ _ _ _ _ (omega arith) drawn (longer_steps _ _ _ (omega arith)) c.step_y-y.ensures
           (longer_error _ (omega arith)) c.next_error-error_y.ensures at.invariant.3,
     )

@@ -39,7 +39,7 @@ loop-points-preserved c =
     let across = c.step_x-x.ensures in (
       screen_draw _ _ _ at.invariant.0 drawn,
       omega (arith, step-le _ _ _ at.x across),
-      omega (arith, c.wrapping_add_u8-y.type-inv),
+      omega (arith, c.wrapping_add_u8-y.type_inv),
       slope_turn _ _ _ at.points _ _ _ 0 _ _ _ _ (omega arith) drawn across (c.wrapping_add_u8-y.ensures.value ∙ longer_steps _ _ _ (omega arith))
           c.next_error-error_x.ensures (longer_error _ (omega arith)) at.invariant.3,
     )

@@ -20,7 +20,11 @@ panel_at-requires c =
 
 pub send_panel-q-requires : goal.send_panel-q-requires
 send_panel-q-requires c =
-    let k = c.glass_of-glass.ensures in (k.suits, ((passes_for k c.requires.given.passing, (panel_for k c.requires.image_len).1), c.panel_at.ensures))
+    let k = c.glass_of-glass.ensures in record {
+      suits = k.suits;
+      passing = (passes_for k c.requires.given.passing, (panel_for k c.requires.image_len).1);
+      start_value = c.panel_at.ensures;
+    }
 
 pub returns-then-is_empty : goal.returns-then-is_empty
 returns-then-is_empty c =

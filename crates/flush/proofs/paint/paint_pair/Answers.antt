@@ -21,11 +21,11 @@ pub paint_code-requires-then-is_hexadecimal : goal.paint_code-requires-then-is_h
 paint_code-requires-then-is_hexadecimal c =
     let a = c.args in
     let w = a.w in
-    let t = c.top_of-top in (
-      room_at a.columns a.screen.now c.paint_code.new.1.0 16 c.requires.pair_room.beside
-          (ap length c.paint_code.ensures ∙ length-paint (code_stores a.columns a.ascii8.now t.result w.lead) a.screen.now) (ap (λ (x : ℕ). x + 1) t.ensures.0),
-      (codes_end a.ascii8.now a.gb.now a.emoji.now a.extra.now w.lead w.trail _ c.is_hexadecimal.ensures c.if-is_hexadecimal.true (fits_as a.ascii8.now a.gb.now a.emoji.now a.extra.now w.lead w.trail c.glyph_of-g.ensures c.requires.trail_value)).1,
-    )
+    let t = c.top_of-top in record {
+      room = room_at a.columns a.screen.now c.paint_code.new.screen 16 c.requires.pair_room.beside
+          (ap length c.paint_code.ensures ∙ length-paint (code_stores a.columns a.ascii8.now t.result w.lead) a.screen.now) (ap (λ (x : ℕ). x + 1) t.ensures.0);
+      b_in_bounds = (codes_end a.ascii8.now a.gb.now a.emoji.now a.extra.now w.lead w.trail _ c.is_hexadecimal.ensures c.if-is_hexadecimal.true (fits_as a.ascii8.now a.gb.now a.emoji.now a.extra.now w.lead w.trail c.glyph_of-g.ensures c.requires.trail_value)).1;
+    }
 
 pub returns-then-is_hexadecimal : goal.returns-then-is_hexadecimal
 returns-then-is_hexadecimal c =

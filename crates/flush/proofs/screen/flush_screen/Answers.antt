@@ -25,8 +25,11 @@ loop-s-init c =
 pub paint_row-s-requires : goal.paint_row-s-requires
 paint_row-s-requires c =
     let a = c.args in
-    let l = c.loop-s in
-    (same_screen a.columns a.rows a.screen.now c.requires.text_screen (l.invariant.same ∙ c.clear_text_screen.auto.0), (l.invariant.fits, (c.loop-s-test.true, c.requires.flags_len)))
+    let l = c.loop-s in record {
+      text_screen = same_screen a.columns a.rows a.screen.now c.requires.text_screen (l.invariant.same ∙ c.clear_text_screen.auto.screen);
+      left_fits = l.invariant.fits;
+      row_lt_rows = (c.loop-s-test.true, c.requires.flags_len);
+    }
 
 pub loop-s-smaller : goal.loop-s-smaller
 loop-s-smaller c = omega (arith, c.loop-s-test.true, c.paint_row-s.ensures.1)
@@ -37,7 +40,7 @@ loop-s-preserved c =
     painted_then a.columns a.rows a.text.now (flags_in (a.rows * a.columns) a.flags.now) a.version (fonts a.ascii8.now a.ascii16.now a.gb.now a.emoji.now a.list.now a.extra.now) c.loop-s.invariant c.paint_row-s.ensures.0
 
 pub shape_of-screen : goal.shape_of-screen
-shape_of-screen c = c.loop-s.invariant.same ∙ c.clear_text_screen.auto.0
+shape_of-screen c = c.loop-s.invariant.same ∙ c.clear_text_screen.auto.screen
 
 pub returns : goal.returns
 returns c =

@@ -14,15 +14,15 @@ pub write_keys-requires : goal.write_keys-requires
 write_keys-requires c =
     let k = c.glass_of.ensures in record {
       suits = k.suits;
-      rec_len = (sized_for c.args.rec.now k c.requires.0, simp length-set (omega (arith, c.clear.auto.0, c.requires.1)));
+      rec_len = (sized_for c.args.rec.now k c.requires.0, simp length-set (omega (arith, c.clear.auto.part, c.requires.1)));
     }
 
 pub shape_of-memory : goal.shape_of-memory
-shape_of-memory c = c.write_keys.auto.1.1.0 ∙ simp length-set c.clear.auto.0
+shape_of-memory c = c.write_keys.auto.memory ∙ simp length-set c.clear.auto.part
 
 pub returns : goal.returns
 returns c =
     let r = c.args.rec.now in
-    let m = set c.clear.new.0 65535 64 in
+    let m = set c.clear.new.part 65535 64 in
     clears-memory (decode (glass_of (length r)) r).keys c.args.memory.now c.requires.1 c.clear.ensures
     (c.write_keys.ensures ∙ ap (λ (g : Geometry). with_keys (decode g r).keys 256 m) c.glass_of.ensures.glass)

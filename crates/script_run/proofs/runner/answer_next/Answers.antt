@@ -6,7 +6,11 @@ pub answer_line-end-requires : goal.answer_line-end-requires
 answer_line-end-requires c = search next_line_room
 
 pub put_ending-end-requires : goal.put_ending-end-requires
-put_ending-end-requires c = (search rules, search next_end_room)
+put_ending-end-requires c =
+    record {
+      buffers_sized = search rules;
+      panel_in_bounds = search next_end_room;
+    }
 
 pub returns-in-Line : goal.returns-in-Line
 returns-in-Line c = search next-line-answered

@@ -10,7 +10,11 @@ pub bounds-from-at-then-at-from : goal.bounds-from-at-then-at-from
 bounds-from-at-then-at-from c = omega (arith, ltb-true)
 
 pub print_pair-q-requires : goal.print_pair-q-requires
-print_pair-q-requires c = (search rules, (search rules, search rules))
+print_pair-q-requires c =
+    record {
+      ready = search rules;
+      scrolls_bound = (search rules, search rules);
+    }
 
 pub returns-then-at-from : goal.returns-then-at-from
 returns-then-at-from c =

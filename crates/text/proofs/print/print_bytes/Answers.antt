@@ -13,8 +13,10 @@ loop-i-init c = (search rules, refl, refl, c.requires.ready, omega (arith, c.req
 
 pub print_at-s-requires : goal.print_at-s-requires
 print_at-s-requires c =
-    let l = c.loop-i in
-    (l.invariant.3, (omega (arith, l.invariant.4), omega arith))
+    let l = c.loop-i in record {
+      ready = l.invariant.3;
+      scrolls_bound = (omega (arith, l.invariant.4), omega arith);
+    }
 
 pub loop-i-smaller : goal.loop-i-smaller
 loop-i-smaller c =
@@ -26,7 +28,7 @@ loop-i-preserved c =
     let l = c.loop-i in
     let a = c.args in
     let e = c.print_at-s.ensures in
-    (omega (arith, e.within), search rules, search rules, e.ready, omega (arith, e.scrolls, e.more, l.invariant.4), same_rest a.rows a.columns a.inverse a.from.now l.i l.text l.flags c.print_at-s.new.1.1.0 c.print_at-s.new.1.1.1.0 l.q c.print_at-s.result e l.invariant.5)
+    (omega (arith, e.within), search rules, search rules, e.ready, omega (arith, e.scrolls, e.more, l.invariant.4), same_rest a.rows a.columns a.inverse a.from.now l.i l.text l.flags c.print_at-s.new.text c.print_at-s.new.flags l.q c.print_at-s.result e l.invariant.5)
 
 pub returns : goal.returns
 returns c =

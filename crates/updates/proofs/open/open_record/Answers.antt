@@ -15,19 +15,19 @@ use borrow.Author.Rules.{rules}
 use Rattle.updates.proofs.open.open_record.Goals as goal
 
 pub store_head-requires : goal.store_head-requires
-store_head-requires c = omega (arith, head_in (glass_of (length c.args.rec.now)), c.requires.0, c.clear.auto.0)
+store_head-requires c = omega (arith, head_in (glass_of (length c.args.rec.now)), c.requires.0, c.clear.auto.part)
 
 pub store_keys-requires : goal.store_keys-requires
 store_keys-requires c =
     let k = c.glass_of-glass.ensures in
     let sized = sized_for c.args.rec.now k c.requires.0 in
-    (omega (arith, keys_room _ k.suits, sized, c.clear.auto.0, c.store_head.auto.0), c.requires.1.count)
+    (omega (arith, keys_room _ k.suits, sized, c.clear.auto.part, c.store_head.auto.rec), c.requires.1.count)
 
 pub store_edge-requires : goal.store_edge-requires
 store_edge-requires c =
     let k = c.glass_of-glass.ensures in
     let sized = sized_for c.args.rec.now k c.requires.0 in
-    omega (arith, edge_room _ k.suits, sized, c.clear.auto.0, c.store_head.auto.0, c.store_keys.auto.0)
+    omega (arith, edge_room _ k.suits, sized, c.clear.auto.part, c.store_head.auto.rec, c.store_keys.auto.rec)
 
 pub whole_screen-requires : goal.whole_screen-requires
 whole_screen-requires c = screen_small _ c.glass_of-glass.ensures.suits c.canvas_of.ensures
@@ -37,7 +37,7 @@ mark_panels-requires c =
     let a = c.args in
     let k = c.glass_of-glass.ensures in
     let told = subst (λ (g : Geometry). Told g a.graphics a.text a.version a.keys a.edge) (sym k.glass) c.requires.1 in
-    passes_as _ k (c.store_edge.auto.0 ∙ c.store_keys.auto.0 ∙ c.store_head.auto.0 ∙ c.clear.auto.0)
+    passes_as _ k (c.store_edge.auto.rec ∙ c.store_keys.auto.rec ∙ c.store_head.auto.rec ∙ c.clear.auto.part)
     (opening_passes a.rec.now a.graphics a.text a.version a.keys a.edge k.suits (sized_for a.rec.now k c.requires.0) told
     c.clear.ensures c.clear_head.ensures c.store_head.ensures c.store_keys.ensures c.store_edge.ensures)
 
@@ -47,7 +47,7 @@ returns c =
     let v = c.glass_of-glass.result in
     let k = c.glass_of-glass.ensures in
     let told = subst (λ (g : Geometry). Told g a.graphics a.text a.version a.keys a.edge) (sym k.glass) c.requires.1 in
-    let long = c.store_edge.auto.0 ∙ c.store_keys.auto.0 ∙ c.store_head.auto.0 ∙ c.clear.auto.0 in
+    let long = c.store_edge.auto.rec ∙ c.store_keys.auto.rec ∙ c.store_head.auto.rec ∙ c.clear.auto.part in
     opens a.rec.now a.graphics a.text a.version a.keys a.edge k.suits (sized_for a.rec.now k c.requires.0) told
     c.clear.ensures c.clear_head.ensures c.store_head.ensures c.store_keys.ensures c.store_edge.ensures
     (c.whole_screen.ensures ∙ whole_of v c.canvas_of.ensures ∙ ap (whole v.stride) k.suits.is_height) (updated_for _ (λ g x. owing_each g _ x) (chosen_as long k) c.mark_panels.ensures)

@@ -10,7 +10,11 @@ pub loop-k-init : goal.loop-k-init
 loop-k-init c = owe_starts _ _ _ _ _ (omega arith)
 
 pub panel_at-at-requires : goal.panel_at-at-requires
-panel_at-at-requires c = (c.requires.suits, omega (arith, c.loop-k.invariant))
+panel_at-at-requires c =
+    record {
+      suits = c.requires.suits;
+      k_lt_panels = omega (arith, c.loop-k.invariant);
+    }
 
 pub band_at-requires : goal.band_at-requires
 band_at-requires c =
