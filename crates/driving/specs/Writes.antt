@@ -120,7 +120,7 @@ data_done g {l} {f} {n} {m} b (c ∷ bs) d i h =
     let r = run-first g (write 4 b) cs d s i.busy in
     let next : InLine g l f n (m + 1) (device_done g (write 4 b) d).left =
     subst (λ (o : Answer Device). InLine g l f n (m + 1) o.left) (taken g (write 4 b) d s i.busy) (data_goes g d i b (omega arith)) in
-    let k = data_done g c bs (device_done g (write 4 b) d).left next (omega arith) in
+    let k = data_done g {l = l} {f = f} {n = n} {m = m + 1} c bs (device_done g (write 4 b) d).left next (omega arith) in
     let up : g.stride * l + (f + (m + 1)) ≡ a + 1 = omega arith in
     record {
       all = all_first g (write 4 b) cs d s i.busy k.all;

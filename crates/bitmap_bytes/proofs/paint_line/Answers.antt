@@ -1,25 +1,17 @@
 use native.Mathlib.Omega.{arith}
 use Rattle.laws.specs.PaintedMemory.{LineLies, line_lies}
 use borrow.Author.Rules.{rules}
-use Rattle.bitmap_bytes.proofs.paint_line.Reads as reads
-use Rattle.bitmap_bytes.proofs.paint_line.Lts as lts
-use Rattle.bitmap_bytes.proofs.bit_of.Reads as bit-of-reads
-use Rattle.bit_runs.proofs.paint_bits.Reads as paint-bits-reads
 use Rattle.bitmap_bytes.proofs.paint_line.Goals as goal
 
-lies : (a : lts.Start (bit-of-reads.Asked, bit-of-reads.Learnt, paint-bits-reads.Asked, paint-bits-reads.Learnt) reads.Pre reads.Post)
-    → LineLies a.args.screen a.args.canvas.stride a.args.source a.args.picture.stride a.args.across a.args.j a.args.y a.args.memory.now
-lies a = line_lies a.args.screen a.args.canvas.stride a.args.canvas.height a.args.source a.args.picture.stride a.args.picture.height a.args.across a.args.j a.args.y a.args.memory.now a.requires.0.placed (omega (arith, a.requires.0))
-
 pub bit_of-to-requires : goal.bit_of-to-requires
-bit_of-to-requires c = omega (arith, (lies a).screen)
+bit_of-to-requires c = omega (arith, (line_lies c.args.screen c.args.canvas.stride c.args.canvas.height c.args.source c.args.picture.stride c.args.picture.height c.args.across c.args.j c.args.y c.args.memory.now c.requires.in_memory.placed (omega (arith, c.requires.in_memory))).screen)
 
 pub bit_of-from-requires : goal.bit_of-from-requires
-bit_of-from-requires c = omega (arith, (lies a).source)
+bit_of-from-requires c = omega (arith, (line_lies c.args.screen c.args.canvas.stride c.args.canvas.height c.args.source c.args.picture.stride c.args.picture.height c.args.across c.args.j c.args.y c.args.memory.now c.requires.in_memory.placed (omega (arith, c.requires.in_memory))).source)
 
 pub paint_bits-requires : goal.paint_bits-requires
 paint_bits-requires c =
-    let o = lies a in
+    let o = line_lies c.args.screen c.args.canvas.stride c.args.canvas.height c.args.source c.args.picture.stride c.args.picture.height c.args.across c.args.j c.args.y c.args.memory.now c.requires.in_memory.placed (omega (arith, c.requires.in_memory)) in
     let to = c.bit_of-to.ensures in
     let from = c.bit_of-from.ensures in record {
       count_nonzero = omega (arith, o.screen, o.source);

@@ -50,11 +50,11 @@ loop-i-smaller c = omega arith
 
 pub loop-i-preserved : goal.loop-i-preserved
 loop-i-preserved c =
-    let a = c.args in let l = c.loop-i in (omega arith, simp length-set (omega arith), room_next _ l.l l.i 16 _ (omega arith) l.invariant.2, room_next _ l.r l.i 16 _ (omega arith) l.invariant.3, lines_again a.stride a.inverse a.inverse2 l.l l.r l.i a.t5 l.screen (omega (arith, c.requires.g_len)) c.flip.ensures c.flip-in-loop-i.ensures l.invariant.4)
+    let a = c.args in let l = c.loop-i in (omega arith, simp length-set (omega arith), room_next _ l.l l.i 16 _ (omega arith) l.invariant.2, room_next _ l.r l.i 16 _ (omega arith) l.invariant.3, lines_again a.stride a.inverse a.inverse2 l.l l.r l.i a.g l.screen (omega (arith, c.requires.g_len)) c.flip.ensures c.flip-in-loop-i.ensures l.invariant.4)
 
 pub shape_of-screen : goal.shape_of-screen
 shape_of-screen c = omega arith
 
 pub returns : goal.returns
 returns c =
-    let a = c.args in let l = c.loop-i in lines_done a.stride a.inverse a.inverse2 l.l l.r l.i a.t5 l.screen (omega (arith, c.requires.g_len)) l.invariant.4
+    let a = c.args in let l = c.loop-i in lines_done a.stride a.inverse a.inverse2 l.l l.r l.i a.g l.screen (omega (arith, c.requires.g_len)) l.invariant.4

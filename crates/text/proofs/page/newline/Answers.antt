@@ -15,10 +15,7 @@ scroll_flags-requires c = omega (arith, row_in_flags _ _ _ _ _ c.requires.ready)
 
 pub returns-then-row-rows : goal.returns-then-row-rows
 returns-then-row-rows c =
-    let scroll-flags = c in
-    let scroll = scroll-flags.before.before.before.before in
-    let if2 = scroll.before.before in
-    newline_scrolls _ _ _ _ _ if2.before.before.before.before.requires.0 if2.before.if1.false if2.if2.true scroll.scroll.ensures scroll-flags.scroll-flags.ensures (omega arith)
+    newline_scrolls _ _ _ _ _ c.requires.ready c.if-column-eq0.false c.if-row-rows.true c.scroll.ensures c.scroll_flags.ensures (omega arith)
 
 pub returns : goal.returns
 returns c = search newline_next

@@ -5,16 +5,10 @@ use borrow.Author.Tests.{ltb-true}
 use Rattle.laws.specs.Tests.{either}
 use Rattle.text.proofs.Turning.{takes-next, last_alone, low_alone, pair_taken, byte_taken}
 use Rattle.text.proofs.print.print_at.Goals as goal
+use Rattle.text.proofs.print.print_at.Goals.{else-b-ge128-via-then-b-ge128+else-at-from, else-b-ge128-via-else-b-ge128}
 
 pub bounds-from-at-then-at-from : goal.bounds-from-at-then-at-from
 bounds-from-at-then-at-from c = omega (arith, ltb-true)
-
-pub print_pair-q-requires : goal.print_pair-q-requires
-print_pair-q-requires c =
-    record {
-      ready = search rules;
-      scrolls_bound = (search rules, search rules);
-    }
 
 pub returns-then-at-from : goal.returns-then-at-from
 returns-then-at-from c =
@@ -24,5 +18,9 @@ pub returns : goal.returns
 returns c =
     let bs = c.args.from.now in
     let i = c.args.at in
-    let alone = either c.if-b-ge128.branch (λ w. last_alone bs i w.0.taken w.1.left) (λ w. low_alone bs i w.left) in
-    byte_taken _ _ _ _ _ _ _ _ c.requires.ready c.requires.scrolls_bound.1 alone c.print_byte-q.ensures
+    byte_taken _ _ _ _ _ _ _ _ c.requires.ready c.requires.scrolls_bound.1
+    (elim c.else-b-ge128.branch [
+      else-b-ge128-via-then-b-ge128+else-at-from w ↦ last_alone bs i w.if-b-ge128.true w.if-at-from.false-raw
+    | else-b-ge128-via-else-b-ge128 w ↦ low_alone bs i w.if-b-ge128.false
+    ])
+    c.print_byte-q.ensures
