@@ -31,7 +31,7 @@ paint_bits-requires c =
     let from = c.bit_of-from.ensures in record {
       count_nonzero = rw (n, to, from) (omega (arith, o.some), o.screen, o.source);
       apart = rw (n, to, from) o.apart;
-      memory_len_bound = rw (n, to, from) (omega arith);
+      memory_len_bound = omega arith;
     }
 
 pub returns-then-bytes-stride : goal.returns-then-bytes-stride
