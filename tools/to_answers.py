@@ -162,7 +162,7 @@ class Fn:
         changed = True
         while changed:
             changed = False
-            m = re.search(r"let (\w[\w']*) = (" + "|".join(alias) + r")((?:\.before)*) in\s*", text)
+            m = re.search(r"let (\w[\w'-]*) = (" + "|".join(alias) + r")((?:\.before)*) in\s*", text)
             if m:
                 alias.add(m.group(1))
                 text = text[:m.start()] + text[m.end():]
@@ -249,6 +249,9 @@ def blocks(text):
                 header.append(line)
             continue
         if line.startswith("--"):
+            if cur and len(cur[1]) == 1 and " : tie." in cur[1][0]:
+                cur = (cur[0] + [line], cur[1])
+                continue
             if cur:
                 decls.append(cur)
                 cur = None

@@ -23,23 +23,9 @@ mark-requires c = flagless c.requires.passing c.clear_flags.ensures
 
 pub set_first_place-requires : goal.set_first_place-requires
 set_first_place-requires c =
-    let whole-marks = c in
-    let canvas-of = whole-marks.before in
-    let clear-flags = canvas-of.before.before.before.before in
-    let glass-of = clear-flags.before.before.before.before.before.before.before.before in
-    let start = glass-of.before.before.before in
-    all-marked start.requires.passing clear-flags.clear-flags.ensures whole-marks.whole-marks.result glass-of.glass-of.ensures canvas-of.canvas-of.ensures whole-marks.whole-marks.ensures c.mark.ensures
+    all-marked c.requires.passing c.clear_flags.ensures c.whole_marks.result c.glass_of-glass.ensures c.canvas_of.ensures c.whole_marks.ensures c.mark.ensures
 
 pub returns : goal.returns
 returns c =
-    let set-first-place = c in
-    let mark = set-first-place.before.before.before.before in
-    let whole-marks = mark.before in
-    let canvas-of = whole-marks.before in
-    let clear-flags = canvas-of.before.before.before.before in
-    let clear-windows = clear-flags.before.before.before.before in
-    let load-head = clear-windows.before in
-    let glass-of = load-head.before.before.before in
-    let start = glass-of.before.before.before in
-    was_cleared start.requires.passing clear-flags.clear-flags.ensures whole-marks.whole-marks.result glass-of.glass-of.ensures canvas-of.canvas-of.ensures whole-marks.whole-marks.ensures mark.mark.ensures
-    start.args.mode start.args.memory.now load-head.load-head.ensures clear-windows.clear-windows.ensures set-first-place.set-first-place.ensures
+    was_cleared c.requires.passing c.clear_flags.ensures c.whole_marks.result c.glass_of-glass.ensures c.canvas_of.ensures c.whole_marks.ensures c.mark.ensures
+    c.args.mode c.args.memory.now c.load_head.ensures c.clear_windows.ensures c.set_first_place.ensures

@@ -40,14 +40,5 @@ mark-requires c = next_passes _ _ c.requires.passing c.blink_next.ensures c.set_
 
 pub returns : goal.returns
 returns c =
-    let set-cursor = c in
-    let blink-next = set-cursor.before in
-    let invert-cursor = blink-next.before.before.before.before in
-    let canvas-of = invert-cursor.before.before in
-    let blink-of = canvas-of.before in
-    let under-cursor = blink-of.before.before.before in
-    let if1 = under-cursor.before.before in
-    let load-head = if1.before in
-    let start = load-head.before.before.before.before.before in
-    let w = loaded start.requires load-head.before.before.glass-of.ensures load-head.load-head.ensures in
-    blink_drew start.requires.passing w _ _ if1.if1.false under-cursor.under-cursor.ensures blink-of.blink-of.ensures canvas-of.canvas-of.ensures invert-cursor.invert-cursor.ensures blink-next.blink-next.ensures set-cursor.set-cursor.ensures c.mark.ensures
+    let w = loaded c.requires c.glass_of-glass.ensures c.load_head-h.ensures in
+    blink_drew c.requires.passing w _ _ c.if-screen-ne0.false c.under_cursor-b.ensures c.blink_of-cursor.ensures c.canvas_of.ensures c.invert_cursor-m.ensures c.blink_next.ensures c.set_cursor.ensures c.mark.ensures

@@ -12,11 +12,7 @@ returns-then-cursor-eq0 c = clear_none _ _ c.load_head-h.ensures c.if-cursor-eq0
 
 pub returns-then-screen-eq0 : goal.returns-then-screen-eq0
 returns-then-screen-eq0 c =
-    let blink-cursor = c in
-    let if2 = blink-cursor.before.before.before in
-    let if1 = if2.before in
-    let load-head = if1.before in
-    blink-cursor.blink-cursor.ensures ∙ clear-blinks _ _ load-head.load-head.ensures if1.if1.false if2.if2.true
+    c.blink_cursor.ensures ∙ clear-blinks _ _ c.load_head-h.ensures c.if-cursor-eq0.false c.if-screen-eq0.true
 
 pub returns : goal.returns
 returns c =

@@ -39,12 +39,9 @@ slice_bounds-flush_screen-end-3 c =
 
 pub flush_screen-requires : goal.flush_screen-requires
 flush_screen-requires c =
-    let put-bytes = c in
-    let load-head = put-bytes.before.before.before.before.before.before in
-    let start = load-head.before.before.before.before.before.before.before.before.before.before.before in
-    let w = loaded start.requires.0 load-head.before.before.glass-of.ensures load-head.load-head.ensures in record {
+    let w = loaded c.requires.given c.glass_of-glass.ensures c.load_head-h.ensures in record {
       text_screen = text_screen w;
-      extra_value = glyphs_are w _ (kept _ _ (text-length w) put-bytes.put-bytes.ensures) ∙ start.requires.1;
+      extra_value = glyphs_are w _ (kept _ _ (text-length w) c.put_bytes.ensures) ∙ c.requires.extra_value;
       flags_len = flags_counted w;
     }
 
@@ -56,11 +53,5 @@ mark-requires c = c.requires.given.passing
 
 pub returns : goal.returns
 returns c =
-    let whole-marks = c in
-    let canvas-of = whole-marks.before in
-    let flush-screen = canvas-of.before.before.before.before in
-    let put-bytes = flush-screen.before.before.before.before.before.before.before.before in
-    let load-head = put-bytes.before.before.before.before.before.before in
-    let start = load-head.before.before.before.before.before.before.before.before.before.before.before in
-    let w = loaded start.requires.0 load-head.before.before.glass-of.ensures load-head.load-head.ensures in
-    flush_drew w _ _ _ canvas-of.canvas-of.ensures whole-marks.whole-marks.ensures (kept _ _ (text-length w) put-bytes.put-bytes.ensures) flush-screen.flush-screen.ensures c.mark.ensures
+    let w = loaded c.requires.given c.glass_of-glass.ensures c.load_head-h.ensures in
+    flush_drew w _ _ _ c.canvas_of.ensures c.whole_marks.ensures (kept _ _ (text-length w) c.put_bytes.ensures) c.flush_screen.ensures c.mark.ensures

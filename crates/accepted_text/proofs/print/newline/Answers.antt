@@ -24,19 +24,12 @@ newline-p-requires c =
 
 pub store_page-requires : goal.store_page-requires
 store_page-requires c =
-    let load-head = c in
-    let start = load-head.before.before.before.before.before in
-    let w = loaded start.requires load-head.before.before.glass-of.ensures load-head.load-head.ensures in record {
+    let w = loaded c.requires c.glass_of-glass.ensures c.load_head-h.ensures in record {
       given = (store_given w c.place_of-start.ensures _ (newline_keeps w) c.newline-p.ensures).0;
       row_bound = (store_given w c.place_of-start.ensures _ (newline_keeps w) c.newline-p.ensures).1;
     }
 
 pub returns : goal.returns
 returns c =
-    let store-page = c in
-    let newline = store-page.before.before.before.before.before.before.before in
-    let place_of = newline.before.before.before in
-    let load-head = place_of.before.before.before in
-    let start = load-head.before.before.before.before.before in
-    let w = loaded start.requires load-head.before.before.glass-of.ensures load-head.load-head.ensures in
-    newline_left w (page-stored w place_of.place_of.ensures _ (newline_keeps w) newline.newline.ensures store-page.store-page.ensures)
+    let w = loaded c.requires c.glass_of-glass.ensures c.load_head-h.ensures in
+    newline_left w (page-stored w c.place_of-start.ensures _ (newline_keeps w) c.newline-p.ensures c.store_page.ensures)

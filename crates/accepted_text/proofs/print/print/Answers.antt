@@ -25,19 +25,12 @@ print-p-requires c =
 
 pub store_page-requires : goal.store_page-requires
 store_page-requires c =
-    let load-head = c in
-    let start = load-head.before.before.before.before.before.before in
-    let w = loaded start.requires load-head.before.before.glass-of.ensures load-head.load-head.ensures in record {
+    let w = loaded c.requires c.glass_of-glass.ensures c.load_head-h.ensures in record {
       given = (store_given w c.place_of-start.ensures _ (print_sheet _ _ _ _) c.print-p.ensures).0;
       row_bound = (store_given w c.place_of-start.ensures _ (print_sheet _ _ _ _) c.print-p.ensures).1;
     }
 
 pub returns : goal.returns
 returns c =
-    let store-page = c in
-    let print = store-page.before.before.before.before.before.before.before in
-    let place_of = print.before.before.before.before in
-    let load-head = place_of.before.before.before in
-    let start = load-head.before.before.before.before.before.before in
-    let w = loaded start.requires load-head.before.before.glass-of.ensures load-head.load-head.ensures in
-    print_left w start.args.bytes.now (page-stored w place_of.place_of.ensures _ (print_sheet _ _ _ _) print.print.ensures store-page.store-page.ensures)
+    let w = loaded c.requires c.glass_of-glass.ensures c.load_head-h.ensures in
+    print_left w c.args.bytes.now (page-stored w c.place_of-start.ensures _ (print_sheet _ _ _ _) c.print-p.ensures c.store_page.ensures)

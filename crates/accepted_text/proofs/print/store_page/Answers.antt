@@ -11,12 +11,8 @@ load_head-h-requires c = head_there c.requires.given.passing
 
 pub returns-then-n-eq0 : goal.returns-then-n-eq0
 returns-then-n-eq0 c =
-    let screen-scrolls = c in
-    let set-place = screen-scrolls.before.before.before in
-    let load-head = set-place.before.before.before.before in
-    let start = load-head.before.before.before.before.before in
-    let w = loaded start.requires.0 load-head.before.before.glass-of.ensures load-head.load-head.ensures in
-    page_stays w start.args.p set-place.set-place.ensures screen-scrolls.screen-scrolls.ensures (omega (arith, c.if-n-eq0.true))
+    let w = loaded c.requires.given c.glass_of-glass.ensures c.load_head-h.ensures in
+    page_stays w c.args.p c.set_place.ensures c.screen_scrolls-n.ensures (omega (arith, c.if-n-eq0.true))
 
 pub overflow_add-to : goal.overflow_add-to
 overflow_add-to c = omega (arith, screen-in (loaded c.requires.given c.glass_of-glass.ensures c.load_head-h.ensures))
@@ -35,21 +31,11 @@ scroll_marks-m-requires c = screen_small _ c.glass_of-glass.ensures.suits c.canv
 
 pub mark-requires : goal.mark-requires
 mark-requires c =
-    let set-place = c in
-    let load-head = set-place.before.before.before.before in
-    let start = load-head.before.before.before.before.before in
-    let w = loaded start.requires.0 load-head.before.before.glass-of.ensures load-head.load-head.ensures in
-    place_passes w start.args.p set-place.set-place.ensures start.requires.1
+    let w = loaded c.requires.given c.glass_of-glass.ensures c.load_head-h.ensures in
+    place_passes w c.args.p c.set_place.ensures c.requires.row_bound
 
 pub returns : goal.returns
 returns c =
-    let scroll-marks = c in
-    let canvas-of = scroll-marks.before in
-    let scroll-screen = canvas-of.before.before.before in
-    let screen-scrolls = scroll-screen.before.before.before.before.before.before in
-    let set-place = screen-scrolls.before.before.before in
-    let load-head = set-place.before.before.before.before in
-    let start = load-head.before.before.before.before.before in
-    let w = loaded start.requires.0 load-head.before.before.glass-of.ensures load-head.load-head.ensures in
-    let m = scroll-marks.scroll-marks.ensures in
-    page_follows w start.args.p set-place.set-place.ensures start.requires.1 scroll-marks.scroll-marks.result screen-scrolls.screen-scrolls.ensures scroll-screen.scroll-screen.ensures canvas-of.canvas-of.ensures m.0 m.1 (omega arith) c.mark.ensures
+    let w = loaded c.requires.given c.glass_of-glass.ensures c.load_head-h.ensures in
+    let m = c.scroll_marks-m.ensures in
+    page_follows w c.args.p c.set_place.ensures c.requires.row_bound c.scroll_marks-m.result c.screen_scrolls-n.ensures c.scroll_screen.ensures c.canvas_of.ensures m.0 m.1 (omega arith) c.mark.ensures

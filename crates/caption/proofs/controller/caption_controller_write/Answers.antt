@@ -5,25 +5,16 @@ use borrow.Author.Rules.{rules}
 use Rattle.caption.proofs.controller.caption_controller_write.Goals as goal
 
 -- refused at the entry
-returns c =
-    let e = c.before in
-    let a = e.before.before.before.before.args in
-    device_stops a.registers.now a.panel.now e.enter.ensures (write a.register a.value) c.if1.true
+pub returns-then-code-ne0 : goal.returns-then-code-ne0
+returns-then-code-ne0 c =
+    let a = c.args in
+    device_stops a.registers.now a.panel.now c.enter-e.ensures (write a.register a.value) c.if-code-ne0.true
 
 -- not taken
-returns-2 c =
-    let e = c.before.before.before.before.before in
-    let a = e.before.before.before.before.args in
-    write_refused a.registers.now a.panel.now e.enter.ensures c.before.before.before.before.if1.false a.register a.value c.before.before.register_of.ensures c.before.Takes-write.ensures c.if2.true
-
--- done
-returns-3 c =
-    let e = c.before.before.before.before.before.before.before.before.before.before.before.before.before in
-    let a = e.before.before.before.before.args in
-    let n = c.before.before.before.before.before.before.before.before.before.before.register_of.ensures in
-    let z = c.before.before.before.before.before.before.before.before.before.before.before.before.if1.false in
-    let t = write_ready a.registers.now a.panel.now e.enter.ensures z a.register a.value n c.before.before.before.before.before.before.before.before.before.Takes-write.ensures c.before.before.before.before.before.before.before.before.if2.false in
-    write_done a.registers.now a.panel.now e.enter.ensures z a.register a.value n t c.before.before.before.before.before.write.ensures c.before.before.store-registers.ensures
+pub returns-then-not-takes_write : goal.returns-then-not-takes_write
+returns-then-not-takes_write c =
+    let a = c.args in
+    write_refused a.registers.now a.panel.now c.enter-e.ensures c.if-code-ne0.false a.register a.value c.register_of-n.ensures c.takes_write.ensures c.if-not-takes_write.true-raw
 
 pub write-requires : goal.write-requires
 write-requires c =
@@ -32,3 +23,12 @@ write-requires c =
 
 pub store_registers-requires : goal.store_registers-requires
 store_registers-requires c = c.enter-e.ensures.bytes c.if-code-ne0.false
+
+-- done
+pub returns : goal.returns
+returns c =
+    let a = c.args in
+    let n = c.register_of-n.ensures in
+    let z = c.if-code-ne0.false in
+    let t = write_ready a.registers.now a.panel.now c.enter-e.ensures z a.register a.value n c.takes_write.ensures c.if-not-takes_write.false-raw in
+    write_done a.registers.now a.panel.now c.enter-e.ensures z a.register a.value n t c.write.ensures c.store_registers.ensures

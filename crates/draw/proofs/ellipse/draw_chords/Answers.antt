@@ -13,11 +13,10 @@ draw_clamped-requires c =
 
 pub draw_clamped-requires-in-Clamp : goal.draw_clamped-requires-in-Clamp
 draw_clamped-requires-in-Clamp c =
-    let chord-left = c in
-    let s = chord-left.before.before.before.before in record {
-      screen = screen_draw _ _ _ s.requires.0 c.draw_clamped.ensures;
-      left_le_right = chord_order _ _ chord-left.chord-left.ensures;
-      op = s.requires.1;
+    record {
+      screen = screen_draw _ _ _ c.requires.screen c.draw_clamped.ensures;
+      left_le_right = chord_order _ _ c.chord_left-left.ensures;
+      op = c.requires.op;
     }
 
 pub draw_hor_line-requires : goal.draw_hor_line-requires
@@ -30,11 +29,10 @@ draw_hor_line-requires c =
 
 pub draw_hor_line-requires-in-Stop : goal.draw_hor_line-requires-in-Stop
 draw_hor_line-requires-in-Stop c =
-    let chord-left = c in
-    let s = chord-left.before.before.before.before in record {
-      screen = screen_draw _ _ _ s.requires.0 c.draw_hor_line.ensures;
-      left_le_right = chord_order _ _ chord-left.chord-left.ensures;
-      op = s.requires.1;
+    record {
+      screen = screen_draw _ _ _ c.requires.screen c.draw_hor_line.ensures;
+      left_le_right = chord_order _ _ c.chord_left-left.ensures;
+      op = c.requires.op;
     }
 
 pub returns-in-Clamp : goal.returns-in-Clamp

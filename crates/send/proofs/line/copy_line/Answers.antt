@@ -36,12 +36,6 @@ copy_masked-requires-3 c = omega (arith, row_in)
 
 pub returns : goal.returns
 returns c =
-    let end-mask = c in
-    let bytes = end-mask.before.before.before.before in
-    let first = bytes.before.before.before.before.before in
-    let start-mask = first.before in
-    let if1 = start-mask.before.before in
-    let entry = if1.before.before.before.before.before.before in
-    in_more_bytes entry.requires if1.before.before.before.before.before.shared-slice-known.given if1.before.before.before.before.slice-known.given
-    if1.if1.false start-mask.start-mask2.ensures end-mask.end-mask2.ensures first.copy-masked2.ensures bytes.copy-bytes.ensures
-    end-mask.before.before.slice-known4.given c.copy_masked-3.ensures
+    in_more_bytes c.requires c.shared_slice_known-1.given c.slice_known-1.given
+    c.if-first-end.false c.start_mask-2.ensures c.end_mask-2.ensures c.copy_masked-2.ensures c.copy_bytes.ensures
+    c.slice_known-3-1.given c.copy_masked-3.ensures
