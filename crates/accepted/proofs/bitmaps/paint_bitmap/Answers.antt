@@ -17,14 +17,14 @@ use Rattle.accepted.proofs.bitmaps.paint_bitmap.Goals as goal
 
 pub overflow_add-end : goal.overflow_add-end
 overflow_add-end c =
-    let o = is_source c.requires c.source_bytes-count.ensures (omega arith) (omega arith) (omega arith) in omega (arith, o.inside)
+    let o = is_source (c.requires.given, c.requires.height_value) c.source_bytes-count.ensures (omega arith) (omega arith) (omega arith) in omega (arith, o.inside)
 
 pub slice_bounds-put_bytes-end-2 : goal.slice_bounds-put_bytes-end-2
-slice_bounds-put_bytes-end-2 c = (is_source c.requires c.source_bytes-count.ensures (omega arith) (omega arith) (omega arith)).inside
+slice_bounds-put_bytes-end-2 c = (is_source (c.requires.given, c.requires.height_value) c.source_bytes-count.ensures (omega arith) (omega arith) (omega arith)).inside
 
 pub put_bytes-requires : goal.put_bytes-requires
 put_bytes-requires c =
-    let o = is_source c.requires c.source_bytes-count.ensures (omega arith) (omega arith) (omega arith) in
+    let o = is_source (c.requires.given, c.requires.height_value) c.source_bytes-count.ensures (omega arith) (omega arith) (omega arith) in
     omega (arith, o.short, source_length o)
 
 pub load_head-from-requires : goal.load_head-from-requires
@@ -36,18 +36,18 @@ slice_bounds-paint_bitmap-end c = screen_room (loaded c.requires.given c.glass_o
 pub slice_bounds-source-end : goal.slice_bounds-source-end
 slice_bounds-source-end c =
     let f = c.ranges in
-    let o = is_source c.requires c.source_bytes-count.ensures (omega (arith, f.address)) (omega (arith, f.width)) (omega (arith, f.height)) in
+    let o = is_source (c.requires.given, c.requires.height_value) c.source_bytes-count.ensures (omega (arith, f.address)) (omega (arith, f.width)) (omega (arith, f.height)) in
     kept_room _ _ (source_length o) c.put_bytes.ensures (omega (arith, o.short))
 
 pub slice_bounds-paint_bitmap-end-2 : goal.slice_bounds-paint_bitmap-end-2
 slice_bounds-paint_bitmap-end-2 c =
     let f = c.ranges in
-    let o = is_source c.requires c.source_bytes-count.ensures (omega (arith, f.address)) (omega (arith, f.width)) (omega (arith, f.height)) in
+    let o = is_source (c.requires.given, c.requires.height_value) c.source_bytes-count.ensures (omega (arith, f.address)) (omega (arith, f.width)) (omega (arith, f.height)) in
     sym (kept_length _ _ (source_length o) c.put_bytes.ensures)
 
 pub paint_bitmap-m-requires : goal.paint_bitmap-m-requires
 paint_bitmap-m-requires c =
-    let o = is_source c.requires c.source_bytes-count.ensures (omega arith) (omega arith) (omega arith) in record {
+    let o = is_source (c.requires.given, c.requires.height_value) c.source_bytes-count.ensures (omega arith) (omega arith) (omega arith) in record {
       screen = screen-part (loaded c.requires.given c.glass_of-glass.ensures c.load_head-from.ensures) c.canvas_of.ensures;
       source_len = kept_length _ _ (source_length o) c.put_bytes.ensures ∙ c.source_bytes-count.ensures;
     }
@@ -59,7 +59,7 @@ pub returns : goal.returns
 unfolding done
 returns c =
     let a = c.args in
-    let o = is_source c.requires c.source_bytes-count.ensures (omega arith) (omega arith) (omega arith) in
+    let o = is_source (c.requires.given, c.requires.height_value) c.source_bytes-count.ensures (omega arith) (omega arith) (omega arith) in
     let source = kept _ _ (source_length o) c.put_bytes.ensures ∙ part-window a.address _ a.memory.now ∙ ap (λ (k : ℕ). window a.address k a.memory.now) c.source_bytes-count.ensures in
     let painted = rw (to_z-of_z {w = w32} {z = a.x} c.ranges.x, to_z-of_z {w = w32} {z = a.y} c.ranges.y, source) at c.paint_bitmap-m.ensures in
     drew (loaded c.requires.given c.glass_of-glass.ensures c.load_head-from.ensures) (λ st h d. bitmap st h (window a.address (source_bytes a.width a.height) a.memory.now) a.x a.y a.width a.height d) _ _

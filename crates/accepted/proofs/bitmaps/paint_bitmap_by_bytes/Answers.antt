@@ -18,7 +18,7 @@ pub paint_bitmap_by_bytes-m-requires : goal.paint_bitmap_by_bytes-m-requires
 paint_bitmap_by_bytes-m-requires c =
     let w = loaded c.requires.given c.glass_of-glass.ensures c.load_head-from.ensures in
     let is = c.canvas_of.ensures in
-    let o = is_source c.requires refl (omega arith) (omega arith) (omega arith) in
+    let o = is_source (c.requires.given, c.requires.height_value) refl (omega arith) (omega arith) (omega arith) in
     let size = screen-bytes w is in record {
       holds = record {
         glass = screen_window w is;

@@ -4,16 +4,16 @@ use borrow.Author.Rules.{rules}
 use Rattle.accepted_text.proofs.cursor.under_cursor.Goals as goal
 
 pub overflow_mul-cell : goal.overflow_mul-cell
-overflow_mul-cell c = let p = c.requires in omega (arith, cell_in p.0 p.1.0, p.1.1)
+overflow_mul-cell c = omega (arith, cell_in c.requires.suits c.requires.numbers, c.requires.cells_in_bounds)
 
 pub overflow_add-cell : goal.overflow_add-cell
-overflow_add-cell c = let p = c.requires in omega (arith, cell_in p.0 p.1.0, p.1.1)
+overflow_add-cell c = omega (arith, cell_in c.requires.suits c.requires.numbers, c.requires.cells_in_bounds)
 
 pub overflow_add-result : goal.overflow_add-result
-overflow_add-result c = let p = c.requires in omega (arith, cell_in p.0 p.1.0, p.1.1)
+overflow_add-result c = omega (arith, cell_in c.requires.suits c.requires.numbers, c.requires.cells_in_bounds)
 
 pub bounds-memory-text : goal.bounds-memory-text
-bounds-memory-text c = let p = c.requires in omega (arith, cell_in p.0 p.1.0, p.1.1)
+bounds-memory-text c = omega (arith, cell_in c.requires.suits c.requires.numbers, c.requires.cells_in_bounds)
 
 pub returns : goal.returns
-returns c = let p = c.requires in byte_under p.0 p.1.0 _
+returns c = byte_under c.requires.suits c.requires.numbers _

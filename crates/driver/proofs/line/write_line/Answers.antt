@@ -6,7 +6,7 @@ use borrow.Author.Rules.{rules}
 use Rattle.driver.proofs.line.write_line.Goals as goal
 
 pub slice_bounds-write_bytes-end : goal.slice_bounds-write_bytes-end
-slice_bounds-write_bytes-end c = let e = c.requires in omega (arith, e.1.0, e.1.1)
+slice_bounds-write_bytes-end c = omega (arith, c.requires.on_glass.0, c.requires.on_glass.1)
 
 pub returns : goal.returns
 returns c =
