@@ -2,5 +2,3 @@ pub mod Writing
 pub mod Running
 pub mod Whole
 pub mod Sizing
-pub mod Lending
-pub mod Locals

@@ -122,6 +122,12 @@ abbrev pub Stands : Bool → List ℕ → List ℕ → List ℕ → Lent → Lis
 Stands true t o₀ o l xs n end = Ran t o₀ o l xs n end
 Stands false t o₀ o l xs n end = Wrote 0 t o₀ o end
 
+pub stands_running : (b : Bool) (t o₀ o : List ℕ) (l : Lent) (xs : List ScriptLine) (n end : ℕ) → b ≡ true → Stands b t o₀ o l xs n end → Ran t o₀ o l xs n end
+stands_running b t o₀ o l xs n end e k = rw e at k
+
+pub stands_ended : (b : Bool) (t o₀ o : List ℕ) (l : Lent) (xs : List ScriptLine) (n end : ℕ) → b ≡ false → Stands b t o₀ o l xs n end → Wrote 0 t o₀ o end
+stands_ended b t o₀ o l xs n end e k = rw e at k
+
 -- how many turns it takes to the end
 abbrev pub turns_left : Bool → List ScriptLine → ℕ
 turns_left true xs = suc (length xs)
@@ -140,27 +146,9 @@ fewer_turns (x ∷ xs) b e = rw e (omega arith)
 
 -- ---- a turn of the run
 
-pub record Lengths (o₀ r₀ m₀ v₀ o r m v : List ℕ) : Type 0 where
-  pub out : length o ≡ length o₀
-  pub rec : length r ≡ length r₀
-  pub memory : length m ≡ length m₀
-  pub panel : length v ≡ length v₀
-
--- What a turn starts from: the reader's place, the progress, the output, the record, memory and panel. The text was to be written from o₀, r₀, m₀ and v₀.
-pub data Turn (s o₀ r₀ m₀ v₀ : List ℕ) : Type 0 where
-  turn : (running : Bool) (at n end : ℕ) (o r m v : List ℕ) → Lengths o₀ r₀ m₀ v₀ o r m v → Stands running (run_lines (read_script s) (lent r₀ m₀ v₀)) o₀ o (lent r m v) (read_script (drop at s)) n end → Turn s o₀ r₀ m₀ v₀
-
 module _ (s o₀ r₀ m₀ v₀ : List ℕ) where
   abbrev text : List ℕ
   text = run_lines (read_script s) (lent r₀ m₀ v₀)
-
-  abbrev pub still_turns : Turn s o₀ r₀ m₀ v₀ → ℕ
-  still_turns (turn b at n e o r m v z k) = turns_left b (read_script (drop at s))
-
-  abbrev pub turn_first : length s ≤ longest → length text ≤ length o₀ → Turn s o₀ r₀ m₀ v₀
-  turn_first h r =
-      turn true 0 1 0 o₀ r₀ m₀ v₀ (record { out = refl; rec = refl; memory = refl; panel = refl })
-      (ran_start (read_script s) o₀ (lent r₀ m₀ v₀) (omega (arith, read_le s)) r)
 
   module _ (at : ℕ) (p : Progress) (o r m v : List ℕ) (k : Ran text o₀ o (lent r m v) (read_script (drop at s)) p.n p.end) (t : LineOrEnd) (e : standing t ≡ map read_line (take 1 (lines_from at s))) where
     first_is : standing t ≡ take 1 (read_script (drop at s))

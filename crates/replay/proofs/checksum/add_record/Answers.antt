@@ -1,5 +1,4 @@
 use native.Mathlib.Omega.{arith}
-use mathlib.Core.Logic.{⊎_elim}
 use borrow.Author.Rules.{rules}
 use Prim.Native.Nat.{◌<◌, ◌-◌}
 use lib.ListN.{length}
@@ -16,6 +15,3 @@ panel_at-start-requires c =
 pub overflow_add-end : goal.overflow_add-end
 overflow_add-end c =
     let k = c.glass_of-glass.ensures in omega (arith, c.panel_at-start.ensures, panel_room _ 0 k.suits k.suits.glass.one, k.suits.is_pending, k.suits.glass.long)
-
-pub loop-i-preserved : goal.loop-i-preserved
-loop-i-preserved c = ⊎_elim (λ w. omega arith) (λ w. omega arith) c.if-i-start.branch
