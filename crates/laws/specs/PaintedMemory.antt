@@ -85,10 +85,10 @@ line-window a size st b count k m mode i j x y (suc n) p e ha hx hy hi hj =
     let sized : length s ≡ size = length-draw st ws (put st (window a size p) x y w) ∙ length-put st (window a size p) x y w ∙ length-window a size p ha in
     let rest = line-window a size st b count k m mode (suc i) j (suc x) y n q (e ∙ sym l) (rw l ha) (omega arith) hy (omega arith) hj in
     let next : draw L (painted_line (length m) m mode (suc (pixel_at b k i j)) 0 (suc (pixel_at a st x y)) 0 n) q
-            ≡ draw (length q) (painted_line (length m) m mode (pixel_at b k (suc i) j) 0 (pixel_at a st (suc x) y) 0 n) q = cc (f, g, l) in
+    ≡ draw (length q) (painted_line (length m) m mode (pixel_at b k (suc i) j) 0 (pixel_at a st (suc x) y) 0 n) q = cc (f, g, l) in
     let drawn : window a size q ≡ put st (window a size p) x y w = put-window a size st x y p (omega arith) v ∙ ap (put st (window a size p) x y) same in
     let whole : with_window a (draw st ws (window a size q)) q ≡ with_window a s p =
-            ap (λ (z : List ℕ). with_window a (draw st ws z) q) drawn ∙ put_outside a size st x y p (omega arith) v s sized in
+    ap (λ (z : List ℕ). with_window a (draw st ws z) q) drawn ∙ put_outside a size st x y p (omega arith) v s sized in
     next ∙ rest ∙ whole
 
 -- ---- all lines

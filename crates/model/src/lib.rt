@@ -1,7 +1,6 @@
 // The types that code and definitions share. Every definition of document 01 stands in specs/; no function has a body here.
 #![tactic(auto)]
 
-
 pub mod glass;
 pub mod refusal;
 

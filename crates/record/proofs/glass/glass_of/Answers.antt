@@ -9,23 +9,23 @@ pub returns : goal.returns
 unfolding total offset
 returns c =
     record {
-  suits = record {
-    glass = base_glass;
-    is_reciprocal = omega arith;
-    is_width = refl;
-    is_height = refl;
-    is_rows = refl;
-    is_columns = refl;
-    is_screen = refl;
-    is_cells = refl;
-    is_graphics = refl;
-    is_text = refl;
-    is_bytes = refl;
-    is_pending = refl;
-    is_keys = refl;
-    is_flags = refl;
-    is_others = refl;
-    is_edge = refl;
-  };
-  glass = refl;
-}
+      suits = record {
+        glass = base_glass;
+        is_reciprocal = omega arith;
+        is_width = refl;
+        is_height = refl;
+        is_rows = refl;
+        is_columns = refl;
+        is_screen = refl;
+        is_cells = refl;
+        is_graphics = refl;
+        is_text = refl;
+        is_bytes = refl;
+        is_pending = refl;
+        is_keys = refl;
+        is_flags = refl;
+        is_others = refl;
+        is_edge = refl;
+      };
+      glass = refl;
+    }

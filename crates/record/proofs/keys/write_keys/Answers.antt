@@ -26,12 +26,12 @@ loop-a-preserved c =
     let k = c.is_key.ensures in
     let keys = (decode (geometry a.glass) a.rec.now).keys in
     elim c.if-is_key.branch [
-      then-is_key w ↦ (
+      | then-is_key w ↦ (
         search rules,
         rw w.memory-is (simp length-set l.invariant.1),
         w.memory-is ∙ keys_set keys l.a a.memory.now l.memory k w.if-is_key.true l.invariant.2,
       )
-    | else-is_key w ↦ (search rules, rw w.memory-is l.invariant.1, w.memory-is ∙ keys_kept keys l.a a.memory.now l.memory k w.if-is_key.false l.invariant.2)
+      | else-is_key w ↦ (search rules, rw w.memory-is l.invariant.1, w.memory-is ∙ keys_kept keys l.a a.memory.now l.memory k w.if-is_key.false l.invariant.2)
     ]
 
 pub returns : goal.returns

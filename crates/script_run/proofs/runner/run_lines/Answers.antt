@@ -52,7 +52,7 @@ loop-p-preserved c =
       ap (λ (z : _). z.now) c.after_line-r.ensures.0 ∙ l.invariant.0,
       record { rec = next.auto.rec ∙ l.invariant.1.rec; memory = next.auto.memory ∙ l.invariant.1.memory; panel = next.auto.panel ∙ l.invariant.1.panel },
       turn_stands a.script.now a.out.now a.rec.now a.memory.now a.panel.now l.r.at l.p l.out l.rec l.memory l.panel k c.next-s.result here c.after_line-r.result.at after
-      next.new.out next.new.rec next.new.memory next.new.panel next.result next.ensures,
+          next.new.out next.new.rec next.new.memory next.new.panel next.result next.ensures,
     )
 
 pub returns : goal.returns

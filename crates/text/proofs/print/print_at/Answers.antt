@@ -20,7 +20,7 @@ returns c =
     let i = c.args.at in
     byte_taken _ _ _ _ _ _ _ _ c.requires.ready c.requires.scrolls_bound.1
     (elim c.else-b-ge128.branch [
-      else-b-ge128-via-then-b-ge128+else-at-from w ↦ last_alone bs i w.if-b-ge128.true w.if-at-from.false-raw
-    | else-b-ge128-via-else-b-ge128 w ↦ low_alone bs i w.if-b-ge128.false
+      | else-b-ge128-via-then-b-ge128+else-at-from w ↦ last_alone bs i w.if-b-ge128.true w.if-at-from.false-raw
+      | else-b-ge128-via-else-b-ge128 w ↦ low_alone bs i w.if-b-ge128.false
     ])
     c.print_byte-q.ensures
