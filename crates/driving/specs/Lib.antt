@@ -5,4 +5,3 @@ pub mod Writes
 pub mod Sends
 pub mod Theorem
 pub mod InAnyOrder
-pub mod Witnesses

@@ -46,30 +46,6 @@ pub record DrivenAsSent (g : Geometry) (k n : ℕ) (l : Driven) (o : Lent) : Typ
   pub image : (driven_left g k n l).image ≡ (sent_left g k n o).panel
   pub free : Free g (driven_left g k n l).device
 
--- The theorem: from one record r and one memory m of any bytes, panel, image and direct panel p, and a device whose registers b pass STATE and are not busy, for every
--- number k and every count n of sends. Where the sends are refused, both are refused alike.
-pub driven_as_sent : (g : Geometry) → IsGlass g → (k n : ℕ) (r m b p : List ℕ) → Free g (device b p) → Bytes r → DrivenAsSent g k n (driven r m (device b p) p) (lent r m p)
-unfolding driven_answers driven_left sent_answers sent_left
-driven_as_sent g z k zero r m b p f h = record { answers = refl; rec = refl; memory = refl; panel = refl; image = refl; free = f }
-driven_as_sent g z k (suc n) r m b p f h =
-    let a = drive_outcome g k (driven r m (device b p) p) in
-    let o = outcome g (send k) (lent r m p) in
-    let s = same_send g z k r m b p f h in
-    let b' = a.left.device.registers in
-    let q = o.left.panel in
-    -- what is left is again one record and memory, and three equal panels
-    let left : a.left ≡ driven o.left.rec o.left.memory (device b' q) q = λ i. driven (s.rec i) (s.memory i) (device b' (s.panel i)) (s.image i) in
-    let next : DrivenAsSent g k n a.left o.left =
-    rw left (driven_as_sent g z k n o.left.rec o.left.memory b' q (rw (← s.panel) s.free) s.bytes) in
-    record {
-      answers = λ i. (s.code i ∷ s.numbers i) ∷ next.answers i;
-      rec = next.rec;
-      memory = next.memory;
-      panel = next.panel;
-      image = next.image;
-      free = next.free;
-    }
-
 -- ---- the bytes of a driven line
 
 -- Each write is done; the data writes store bytes line_at, line_at + 1, .. of the panel, once each; these are the bytes that hold a pixel of the line, and no others.
@@ -80,18 +56,6 @@ pub record LineBytes (g : Geometry) (y left right : ℕ) (image : List ℕ) (d :
   pub no_other : (i : ℕ) → line_at g.stride y left ≤ i → i < line_at g.stride y left + byte_count left right
       → (left ≤ pixel_of g.stride y left i) × (pixel_of g.stride y left i < right) × (place g.stride (pixel_of g.stride y left i) y ≡ i)
 
-pub line_bytes : (g : Geometry) (y left right : ℕ) (image : List ℕ) (d : Device) → Sound g d → busy (fields_of d) ≡ false → y < height g → left < right → right ≤ width g
-    → length image ≡ screen_bytes g → LineBytes g y left right image d
-line_bytes g y left right image d s f hy hx hw hi =
-    let l = line-done g y left right image d s f hy hx hw hi in
-    let size = length-window (line_at g.stride y left) (byte_count left right) image (rw hi (line_room g y left right hy hx hw)) in
-    record {
-      done = l.all;
-      stored = l.bytes ∙ ap (listing (λ i. i) (line_at g.stride y left)) size;
-      each = pixel_in g.stride y left right hx;
-      no_other = pixel-of g.stride y left right hx;
-    }
-
 -- a driver call that was lent l and leaves l' stores just the bytes that hold the pixels of the top line of q, or nothing when idle
 pub record JustTheBytes (g : Geometry) (q : Rect) (l l' : Driven) : Type 0 where
   -- idle: the device stands as it was
@@ -99,16 +63,3 @@ pub record JustTheBytes (g : Geometry) (q : Rect) (l l' : Driven) : Type 0 where
   -- a line: the device is sent its bytes as the image has them now, and these writes store no other byte
   pub writes : is_empty q ≡ false → l'.device ≡ run_device g (line_writes g q.top q.left q.right l'.image) l.device
   pub bytes : is_empty q ≡ false → LineBytes g q.top q.left q.right l'.image l.device
-
--- so every accepted driver call, whatever device and image it is lent
-pub just_the_bytes_or_nothing : (g : Geometry) → IsGlass g → (k : ℕ) (l : Driven) → Bytes l.rec → refusal (drive_refusals g k l) ≡ 0
-    → JustTheBytes g (to_send g k l) l (drive_outcome g k l).left
-unfolding drive_outcome ruled drive_done answer driver_writes run_device done answered
-just_the_bytes_or_nothing g z k l b a =
-    let q = to_send g k l in
-    let t = drivable g z k l b a in
-    rw a (record {
-      nothing = λ e. rw e refl;
-      writes = λ e. rw e refl;
-      bytes = λ e. let h = line_lies g k l t e in line_bytes g q.top q.left q.right _ l.device t.sound t.not-busy (omega arith) h.wide h.right_in (image_long g k l t);
-    })

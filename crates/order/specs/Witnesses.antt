@@ -33,7 +33,7 @@ use Rattle.order.specs.EachCall.{item_step}
 use Rattle.order.specs.Accepted.{accepted_call, accepted_calls, named, leaves-done}
 use Rattle.order.specs.Apart.{SentApart, send_apart}
 use Rattle.order.specs.Order.{standing-opened, sendable}
-use Rattle.order.specs.Theorem.{lines_in, screen_in, Promised, calls_in_any_order}
+use Rattle.order.specs.Theorem.{lines_in, screen_in, Promised}
 
 -- the open of the script program (bases 4,096 and 8,192, V2, no keys) is accepted over a record and a memory of any bytes, with both edge flags
 pub accepted_open : (edge : ℕ) (r m : List ℕ) → edge_fits edge ≡ true → length r ≡ 359 → length m ≡ 65536 → accepted base (opening 4096 8192 1 no_keys edge) (lent r m [])
@@ -62,86 +62,18 @@ unfolding rounds
 round_panels zero = tt
 round_panels (suc n) = (omega arith, (omega arith, (omega arith, round_panels n)))
 
-round_named : (n : ℕ) → (named 0 (rounds n) ≡ n) × (named 2 (rounds n) ≡ 0)
+pub round_named : (n : ℕ) → (named 0 (rounds n) ≡ n) × (named 2 (rounds n) ≡ 0)
 unfolding rounds named
 round_named zero = (refl, refl)
 round_named (suc n) = (ap suc (round_named n).0, (round_named n).1)
 
-all-accepted : (b : Buffers) → ((k : ℕ) → k < 4 → Lendable base (lent_to_send k b)) → (js : List ℕ) (h : Panels js) → accepted_calls base b (sends_to js h) ≡ map send js
+pub all-accepted : (b : Buffers) → ((k : ℕ) → k < 4 → Lendable base (lent_to_send k b)) → (js : List ℕ) (h : Panels js) → accepted_calls base b (sends_to js h) ≡ map send js
 unfolding accepted_calls accepted_call ruled lent_to sends_to
 all-accepted b q [] h = refl
 all-accepted b q (j ∷ js) h =
     let i = here (send j) (omega (arith, h.0)) in
     rw (sendable base j h.0 b (q j h.0))
     (ap (λ (cs : List Call). send j ∷ cs) (all-accepted (after base b i) (λ k there. (item_step base k there b (q k there) i).lendable) js h.1))
-
-module _ (graphics text version : ℕ) (keys : List ℕ) (edge : ℕ) (t : Typed (opening graphics text version keys edge)) (r m : List ℕ) (ps : List (List ℕ))
-    (a : accepted base (opening graphics text version keys edge) (lent r m [])) where
-  abbrev start : Buffers
-  start = buffers r m ps
-
-  abbrev first : Item base
-  first = here (opening graphics text version keys edge) t
-
-  module _ (k : ℕ) (there : k < 4) (n : length (get_or ps k []) ≡ 1600) where
-    promised : (items : List (Item base)) → Promised base k start (first ∷ items) (run base start (first ∷ items))
-    promised = calls_in_any_order k there graphics text version keys edge t r m ps a n
-
-    -- an accepted open owes 80 lines to a panel, a send to it takes the sixteen of the first band in hand and leaves fifteen, and `cls` owes 80 again
-    pub most-lines : (u : Typed (send k)) → lines_in base k (run base start (first ∷ here (send k) u ∷ here cls tt ∷ [])) ≡ 95
-    unfolding total lent_to run refusal reckoned item_effect effect_at effect affected open_pending nothing_pending send_pending take_owed first_owed rest_owed line_sent next_line owing join_owed
-        join cut is_empty lines_left owed_lines
-    most-lines u =
-        let sent = promised (here (send k) u ∷ []) in
-        let b = run base start (first ∷ here (send k) u ∷ []) in
-        let l = lent b.rec b.memory [] in
-        let clears : accepted base cls l =
-        own_decide base cls l (record { sized = sent.record_length; lengths = eq-eqb (length b.memory) 65536 sent.memory-length; state = (sent.passes, tt) }) in
-        ap lines_left (promised (here (send k) u ∷ here cls tt ∷ [])).pending ∙ rw (a, (promised []).sendable, clears, eq-eqb k k refl) refl
-
-    -- a reset keeps the edge flag
-    pub kept_edge : (decode base (run base start (first ∷ here reset tt ∷ [])).rec).edge ≡ edge
-    unfolding total lent_to run refusal last_edge edge_after item_effect effect_at effect
-    kept_edge =
-        let opened = promised [] in
-        let b = run base start (first ∷ []) in
-        let l = lent b.rec b.memory [] in
-        let resets : accepted base reset l =
-        own_decide base reset l (record { sized = opened.record_length; lengths = eq-eqb (length b.memory) 65536 opened.memory-length; state = (opened.passes, tt) }) in
-        let told : last_edge base 0 start (first ∷ here reset tt ∷ []) ≡ edge = rw (a, resets) refl in
-        omega (arith, (promised (here reset tt ∷ [])).edge, told)
-
-  module _ (all : (k : ℕ) → k < 4 → length (get_or ps k []) ≡ 1600) where
-    abbrev opened : Buffers
-    opened = run base start (first ∷ [])
-
-    -- after the open, sends to any panels are all accepted
-    pub any_sends : (js : List ℕ) (h : Panels js) → accepted_calls base opened (sends_to js h) ≡ map send js
-    any_sends js h = all-accepted opened (λ k there. (standing-opened base k there base_glass graphics text version keys edge t start a (all k there) []).lendable) js h
-
-    -- the open owes each panel 80 lines
-    pub opened_lines : (k : ℕ) → k < 4 → lines_in base k opened ≡ 80
-    unfolding run lent_to reckoned item_effect effect_at effect affected open_pending nothing_pending owing join_owed join cut is_empty lines_left owed_lines
-    opened_lines k there = ap lines_left (promised k there (all k there) []).pending ∙ rw a refl
-
-    -- a send to panel 1 takes one of its lines, and touches nothing of the others
-    pub one_sent : let b = leaves base (send 1) opened in (lines_in base 1 b ≡ 79) × SentApart base 1 opened b
-    unfolding run after sends_to named
-    one_sent =
-        let h : Panels (1 ∷ []) = (omega arith, tt) in
-        let q = (standing-opened base 1 (omega arith) base_glass graphics text version keys edge t start a (all 1 (omega arith)) []).lendable in (
-          (promised 1 (omega arith) (all 1 (omega arith)) []).lines (sends_to (1 ∷ []) h) (1 ∷ []) (any_sends (1 ∷ []) h) ∙ omega (arith, opened_lines 1 (omega arith)),
-          send_apart base base_glass 1 opened q.passing.bytes (sendable base 1 (omega arith) opened q),
-        )
-
-    -- eighty rounds of sends to panels 3, 0 and 1: panel 0 is level, panel 2, which none of them names, has its 80 lines still to come
-    pub polled_between : let b = run base opened (sends_to (rounds 80) (round_panels 80)) in (differing base (screen_in base b) (panel_buffer 0 b) ≡ 0) × (lines_in base 2 b ≡ 80)
-    polled_between =
-        let e = any_sends (rounds 80) (round_panels 80) in
-        let counted = round_named 80 in (
-          (promised 0 (omega arith) (all 0 (omega arith)) []).level (sends_to (rounds 80) (round_panels 80)) (rounds 80) e (omega (arith, opened_lines 0 (omega arith))),
-          (promised 2 (omega arith) (all 2 (omega arith)) []).lines (sends_to (rounds 80) (round_panels 80)) (rounds 80) e ∙ omega (arith, opened_lines 2 (omega arith)),
-        )
 
 -- ---- what the bands are for
 
@@ -151,24 +83,20 @@ cursor_and_clock m n p w z a b c = omega (arith, owing_adds base m 0 p w (omega 
 
 -- ---- such lists written out: record and memory of zeros, four panels whose every pixel is set
 
-abbrev ones : List ℕ
+abbrev pub ones : List ℕ
 ones = replicate 1600 255
 
-abbrev fresh : Buffers
+abbrev pub fresh : Buffers
 fresh = buffers (zeros 359) (zeros 65536) (replicate 4 ones)
 
-abbrev open_it : Item base
+abbrev pub open_it : Item base
 open_it = here (opening 4096 8192 1 no_keys 0) (refl, omega arith)
 
-may_open : accepted base (opening 4096 8192 1 no_keys 0) (lent (zeros 359) (zeros 65536) [])
+pub may_open : accepted base (opening 4096 8192 1 no_keys 0) (lent (zeros 359) (zeros 65536) [])
 may_open = accepted_open 0 (zeros 359) (zeros 65536) refl (length-zeros 359) (length-zeros 65536)
 
-full : (k : ℕ) → k < 4 → length (get_or (replicate 4 ones) k []) ≡ 1600
+pub full : (k : ℕ) → k < 4 → length (get_or (replicate 4 ones) k []) ≡ 1600
 full k there = rw (get_or-replicate 4 k ones [] there) (length-replicate {A = ℕ} 1600 255)
-
-pub a_list_of_most_lines : lines_in base 3 (run base fresh (open_it ∷ here (send 3) (omega arith) ∷ here cls tt ∷ [])) ≡ 95
-a_list_of_most_lines =
-    most-lines 4096 8192 1 no_keys 0 (refl, omega arith) (zeros 359) (zeros 65536) (replicate 4 ones) may_open 3 (omega arith) (full 3 (omega arith)) (omega arith)
 
 pub cleared_screen : screen_of base 4096 (clear_memory no_keys) ≡ zeros 1600
 unfolding window clear_memory with_keys is_key bit_at zeros
@@ -185,7 +113,3 @@ all_differ =
     let c = opening 4096 8192 1 no_keys 0 in
     let w = open_formed base base_glass 4096 8192 1 no_keys 0 (record { apart = refl; listed = refl; flag = refl; count = refl; words = omega arith }) in
     rw (leaves-done base c fresh may_open, decode-encode base (open_state base 4096 8192 1 no_keys 0) base_glass w, cleared_screen) ones_differ
-
--- .. and after the rounds none
-pub none-differs : let b = run base (run base fresh (open_it ∷ [])) (sends_to (rounds 80) (round_panels 80)) in differing base (screen_in base b) (panel_buffer 0 b) ≡ 0
-none-differs = (polled_between 4096 8192 1 no_keys 0 (refl, omega arith) (zeros 359) (zeros 65536) (replicate 4 ones) may_open full).0

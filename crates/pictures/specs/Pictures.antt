@@ -20,10 +20,7 @@ use Rattle.model.specs.Characters.{bytes_of}
 use Rattle.model.specs.Script.Output.{script_text}
 use Rattle.laws.specs.Glyphs.{empty_row}
 use Rattle.pictures.specs.Picture.{screen_in, edge_flag, rect, nothing, first, last, down_from, sets, clears, inverts, Unmarked, Drew, Picture, EdgePicture, OnePair, character, over, digits_of, corner, corner_glyph, Shows}
-use Rattle.pictures.specs.Drawings.{clear_bytes, clear_unmarked, clear_edge}
-use Rattle.pictures.specs.Shapes.{point_off, point-unknown, line-clamped, line-beyond, line-cut, line-down, line-sloped, box_past_bottom, box_row, box-cut, outline-cut, disc_clamped, disc_beyond, circle-parts, circle-steps, circle-two, circle_one, bitmap_clipped, source_refused, source_accepted}
-use Rattle.pictures.specs.Scripts.{point_send, send_point, send_points}
-use Rattle.pictures.specs.EmptyRows.{one_pair, unassigned_codes, unassigned_glyph, codes_shown, glyph_shown}
+use Rattle.pictures.specs.Drawings.{clear_bytes}
 
 -- draw modes, the paint mode Copy, the fill flag, the edge flag, emoji versions
 abbrev or : ℕ
@@ -143,42 +140,3 @@ pub record KnownPictures : Type 0 where
       → Shows f l (corner (digits_of f.ascii8 lead) (digits_of f.ascii8 trail))
   pub empty_row_glyph : (lead trail : ℕ) → 170 ≤ lead → lead ≤ 175 → (f : Fonts) (l : Lent) → OnePair lead trail l → length f.extra_list % 6 ≡ 0
       → (i : ℕ) → extra_offset f.extra_list (256 * lead + trail) ≡ At i → i + 32 ≤ length f.extra_font → Shows f l (corner_glyph l (window i 32 f.extra_font))
-
-pub known_pictures : KnownPictures
-unfolding emoji_index index_in in_row gb_index
-known_pictures = record {
-  start = clear_unmarked;
-  start_edge = clear_edge;
-  point_off = point_off;
-  point-unknown = point-unknown;
-  line-clamped = line-clamped;
-  line-sloped = line-sloped;
-  box_row_79 = box_row;
-  box_row_78 = box_past_bottom;
-  circle-parts = circle-parts;
-  circle-steps = circle-steps;
-  circle-corners = circle-two;
-  circle_one = circle_one;
-  bitmap_clipped = bitmap_clipped;
-  source_refused = source_refused;
-  source_accepted = source_accepted;
-  codes-V1 = (refl, refl);
-  codes-V2 = (refl, refl);
-  point_send = point_send;
-  send_point = send_point;
-  line-down = line-down;
-  send_points = send_points;
-  line-beyond = line-beyond;
-  line-cut = line-cut;
-  box-cut = box-cut;
-  outline-cut = outline-cut;
-  disc_beyond = disc_beyond;
-  disc_clamped = disc_clamped;
-  codes-GB = (refl, refl, refl, refl);
-  empty_rows = empty_row;
-  one_pair = one_pair;
-  unassigned_codes = unassigned_codes;
-  unassigned_glyph = unassigned_glyph;
-  empty_row_codes = codes_shown;
-  empty_row_glyph = glyph_shown;
-}

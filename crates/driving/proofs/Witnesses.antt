@@ -33,10 +33,13 @@ use Rattle.laws.specs.Formed.{panel_formed}
 use Rattle.order.specs.Theorem.{lines_in, screen_in}
 use Rattle.order.specs.Accepted.{leaves-done}
 use Rattle.order.specs.Opens.{length-clear-memory}
-use Rattle.order.specs.Witnesses.{accepted_open, opened_lines, cleared_screen}
+use Rattle.order.specs.Witnesses.{accepted_open, cleared_screen}
+use Rattle.order.proofs.Witnesses.{opened_lines}
 use Rattle.driving.specs.Sends.{Free}
-use Rattle.driving.specs.Theorem.{driven_answers, driven_left, sent_answers, sent_left, driven_as_sent}
-use Rattle.driving.specs.InAnyOrder.{Driving, device_of, Each, drive, run_driven, as_sent, Behind, open_item, driven_on_base}
+use Rattle.driving.specs.Theorem.{driven_answers, driven_left, sent_answers, sent_left}
+use Rattle.driving.proofs.Theorem.{driven_as_sent}
+use Rattle.driving.specs.InAnyOrder.{Driving, device_of, Each, drive, run_driven, as_sent, Behind, open_item}
+use Rattle.driving.proofs.InAnyOrder.{driven_on_base}
 
 -- ---- a line by hand: two bytes from byte 0 of line 5 on, and the registers when it is done
 
