@@ -3,8 +3,9 @@ use Rattle.std.specs.Prelude.{refl}
 use Rattle.model.specs.Codes.{in_row, index_in, emoji_index, gb_index}
 use Rattle.laws.specs.Glyphs.{empty_row}
 use Rattle.pictures.specs.Drawings.{clear_unmarked, clear_edge}
-use Rattle.pictures.proofs.Shapes.{point_off, point-unknown, line-clamped, line-beyond, line-cut, line-down, line-sloped, box_past_bottom, box_row, box-cut, outline-cut, disc_clamped, disc_beyond, circle-parts, circle-steps, circle-two, circle_one, bitmap_clipped, source_refused, source_accepted}
-use Rattle.pictures.proofs.Scripts.{point_send, send_point, send_points}
+use Rattle.pictures.proofs.Shapes.{point_off, point-unknown, line-clamped, line-beyond, line-cut, line-down, line-sloped, box_past_bottom, box-cut, outline-cut, disc_clamped, disc_beyond, circle-parts, circle-steps, circle-two, circle_one, bitmap_clipped, source_refused, source_accepted}
+use Rattle.pictures.proofs.BoxRows.{box_row}
+use Rattle.pictures.proofs.ScriptTexts.{point_send, send_point, send_points}
 use Rattle.pictures.proofs.EmptyRows.{one_pair, unassigned_codes, unassigned_glyph, codes_shown, glyph_shown}
 use Rattle.pictures.specs.Pictures.{KnownPictures}
 

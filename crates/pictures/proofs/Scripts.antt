@@ -40,14 +40,14 @@ use Rattle.pictures.specs.Picture.{rect}
 -- ---- the record
 
 -- as the program opens it
-unfoldable opened_state : State
+unfoldable pub opened_state : State
 opened_state = open_state base 4096 8192 1 no_keys 0
 
 -- with the mark of point (3, y)
-unfoldable pointed : ℕ → State → State
+unfoldable pub pointed : ℕ → State → State
 pointed y s = marked base (rect 3 y 4 (y + 1)) (rect 3 y 4 (y + 1)) s
 
-unfoldable sent_of : State → State
+unfoldable pub sent_of : State → State
 sent_of s = with_panel 0 (send_pending (panel_of base s 0)) s
 
 opened_formed : WellFormed base opened_state
@@ -65,10 +65,10 @@ sent_formed s w = panel_formed base s w 0 (send_pending (panel_of base s 0)) (om
 -- ---- the calls
 
 -- point (3, y) on a screen, and in a memory
-unfoldable dotted : ℕ → List ℕ → List ℕ
+unfoldable pub dotted : ℕ → List ℕ → List ℕ
 dotted y s = put 20 s 3 y true
 
-unfoldable dotted_memory : ℕ → List ℕ → List ℕ
+unfoldable pub dotted_memory : ℕ → List ℕ → List ℕ
 dotted_memory y m = with_screen 4096 (dotted y (screen_of base 4096 m)) m
 
 module _ (s : State) (w : WellFormed base s) (m p : List ℕ) (hm : length m ≡ 65536) where
@@ -93,7 +93,7 @@ module _ (s : State) (w : WellFormed base s) (m p : List ℕ) (hm : length m ≡
 -- ---- the screen and the panel
 
 -- the first line of a screen, sent to a panel of zeros
-abbrev first_line : List ℕ → List ℕ
+abbrev pub first_line : List ℕ → List ℕ
 first_line s = copy_run 20 s 0 0 160 (zeros 1600)
 
 -- the point drawn, then the first line sent: no pixel differs
@@ -146,21 +146,21 @@ module _ (m : List ℕ) (hm : length m ≡ 65536) (z : List ℕ) (e : screen_of 
 -- ---- the scripts
 
 -- what the first send answers
-abbrev first_answer : List ℕ
+abbrev pub first_answer : List ℕ
 first_answer = 1 ∷ 0 ∷ 0 ∷ 160 ∷ []
 
-abbrev point_line : ℕ → ScriptLine
+abbrev pub point_line : ℕ → ScriptLine
 point_line y = call_line (draw (point 3 y 1))
 
-abbrev send_line : ScriptLine
+abbrev pub send_line : ScriptLine
 send_line = call_line (send 0)
 
 module _ (m : List ℕ) (hm : length m ≡ 65536) (e : screen_of base 4096 m ≡ zeros 1600) where
-  abbrev start : Lent
+  abbrev pub start : Lent
   start = lent (encode base opened_state) m (zeros 1600)
 
   -- the point, then the send
-  point-first : run_lines (point_line 0 ∷ send_line ∷ []) start ≡ said 0 [] ++ (said 0 first_answer ++ printed (bytes_of "end") (0 ∷ 79 ∷ []))
+  pub point-first : run_lines (point_line 0 ∷ send_line ∷ []) start ≡ said 0 [] ++ (said 0 first_answer ++ printed (bytes_of "end") (0 ∷ 79 ∷ []))
   unfolding run_lines pointed marked update_dirty opened_state open_state open_pending nothing_pending owing join_owed join is_empty cut sent_of send_pending line_sent take_owed first_owed rest_owed next_line send_numbers line_numbers send_panel copy_line lines_left owed_lines
   point-first =
       let s = pointed 0 opened_state in
@@ -174,32 +174,32 @@ module _ (m : List ℕ) (hm : length m ≡ 65536) (e : screen_of base 4096 m ≡
       ∙ ap (λ (t : List ℕ). said 0 first_answer ++ t) (end_line 3 (sent_of s) (sent_formed s w) m' (first_line (screen_of base 4096 m')) (dotted 0 (zeros 1600)) 0 79 screen (rw screen none_left) refl))
 
   -- the send, then what follows it
-  send_first : (rest : List ScriptLine) → run_lines (send_line ∷ rest) start ≡ said 0 first_answer ++ run_lines_from 2 rest (lent (encode base (sent_of opened_state)) m (first_line (zeros 1600)))
+  pub send_first : (rest : List ScriptLine) → run_lines (send_line ∷ rest) start ≡ said 0 first_answer ++ run_lines_from 2 rest (lent (encode base (sent_of opened_state)) m (first_line (zeros 1600)))
   unfolding run_lines opened_state open_state open_pending nothing_pending owing join_owed join is_empty cut sent_of send_pending line_sent take_owed first_owed rest_owed next_line send_numbers line_numbers send_panel copy_line
   send_first rest =
       line_then 1 (send 0) rest start (lent (encode base (sent_of opened_state)) m (first_line (screen_of base 4096 m))) first_answer (send_done opened_state opened_formed m (zeros 1600) hm (length-zeros 1600))
       ∙ ap (λ (z : List ℕ). said 0 first_answer ++ run_lines_from 2 rest (lent (encode base (sent_of opened_state)) m (first_line z))) e
 
   -- the point
-  then_point : (rest : List ScriptLine) → run_lines_from 2 (point_line 0 ∷ rest) (lent (encode base (sent_of opened_state)) m (first_line (zeros 1600)))
+  pub then_point : (rest : List ScriptLine) → run_lines_from 2 (point_line 0 ∷ rest) (lent (encode base (sent_of opened_state)) m (first_line (zeros 1600)))
       ≡ said 0 [] ++ run_lines_from 3 rest (lent (encode base (pointed 0 (sent_of opened_state))) (dotted_memory 0 m) (first_line (zeros 1600)))
   unfolding opened_state open_state sent_of
   then_point rest =
       line_then 2 (draw (point 3 0 1)) rest (lent (encode base (sent_of opened_state)) m (first_line (zeros 1600))) (lent (encode base (pointed 0 (sent_of opened_state))) (dotted_memory 0 m) (first_line (zeros 1600))) []
       (point-done (sent_of opened_state) (sent_formed opened_state opened_formed) m (first_line (zeros 1600)) hm 0 (omega arith) refl)
 
-  abbrev after-point : State
+  abbrev pub after-point : State
   after-point = pointed 0 (sent_of opened_state)
 
   after_formed : WellFormed base after-point
   after_formed = pointed_formed 0 (omega arith) (sent_of opened_state) (sent_formed opened_state opened_formed)
 
-  point_end : run_lines_from 3 [] (lent (encode base after-point) (dotted_memory 0 m) (first_line (zeros 1600))) ≡ printed (bytes_of "end") (1 ∷ 80 ∷ [])
+  pub point_end : run_lines_from 3 [] (lent (encode base after-point) (dotted_memory 0 m) (first_line (zeros 1600))) ≡ printed (bytes_of "end") (1 ∷ 80 ∷ [])
   unfolding pointed marked update_dirty opened_state open_state open_pending nothing_pending owing join_owed join is_empty cut sent_of send_pending line_sent take_owed first_owed rest_owed next_line lines_left owed_lines
   point_end = end_line 3 after-point after_formed (dotted_memory 0 m) (first_line (zeros 1600)) (dotted 0 (zeros 1600)) 1 80 (dotted_screen m hm (zeros 1600) e (length-zeros 1600) 0) point-left refl
 
   -- a point in the last line
-  last-point : run_lines_from 3 (point_line 79 ∷ []) (lent (encode base after-point) (dotted_memory 0 m) (first_line (zeros 1600))) ≡ said 0 [] ++ printed (bytes_of "end") (2 ∷ 80 ∷ [])
+  pub last-point : run_lines_from 3 (point_line 79 ∷ []) (lent (encode base after-point) (dotted_memory 0 m) (first_line (zeros 1600))) ≡ said 0 [] ++ printed (bytes_of "end") (2 ∷ 80 ∷ [])
   unfolding pointed marked update_dirty opened_state open_state open_pending nothing_pending owing join_owed join is_empty cut sent_of send_pending line_sent take_owed first_owed rest_owed next_line lines_left owed_lines
   last-point =
       let p = first_line (zeros 1600) in
@@ -211,23 +211,3 @@ module _ (m : List ℕ) (hm : length m ≡ 65536) (e : screen_of base 4096 m ≡
       ∙ ap (λ (t : List ℕ). said 0 [] ++ t)
       (end_line 4 s (pointed_formed 79 (omega arith) after-point after_formed) (dotted_memory 79 m') p (dotted 79 (dotted 0 (zeros 1600))) 2 80
       (dotted_screen m' memory (dotted 0 (zeros 1600)) screen (dotted-zeros 0) 79) points_left refl)
-
-pub point_send : script_text (bytes_of "(point (3 0) or)\n(send)\n") ≡ bytes_of "(done)\n(sent 0 0 160)\n(end 0 79)\n"
-unfolding read_script script_lines on_first read_line if_matched matched and_then with_field is_field take_piece take_mode or_taken take_word take_number at_most take_digits goes_on is_digit script_text printed spaced spelled said opened opened_state
-point_send = point-first (clear_memory no_keys) (length-clear-memory no_keys) cleared_screen
-
-pub send_point : script_text (bytes_of "(send)\n(point (3 0) or)\n") ≡ bytes_of "(sent 0 0 160)\n(done)\n(end 1 80)\n"
-unfolding read_script script_lines on_first read_line if_matched matched and_then with_field is_field take_piece take_mode or_taken take_word take_number at_most take_digits goes_on is_digit script_text printed spaced spelled said opened opened_state
-send_point =
-    let m = clear_memory no_keys in
-    let hm = length-clear-memory no_keys in
-    send_first m hm cleared_screen (point_line 0 ∷ [])
-    ∙ ap (λ (t : List ℕ). said 0 first_answer ++ t) (then_point m hm cleared_screen [] ∙ ap (λ (t : List ℕ). said 0 [] ++ t) (point_end m hm cleared_screen))
-
-pub send_points : script_text (bytes_of "(send)\n(point (3 0) or)\n(point (3 79) or)\n") ≡ bytes_of "(sent 0 0 160)\n(done)\n(done)\n(end 2 80)\n"
-unfolding read_script script_lines on_first read_line if_matched matched and_then with_field is_field take_piece take_mode or_taken take_word take_number at_most take_digits goes_on is_digit script_text printed spaced spelled said opened opened_state
-send_points =
-    let m = clear_memory no_keys in
-    let hm = length-clear-memory no_keys in
-    send_first m hm cleared_screen (point_line 0 ∷ point_line 79 ∷ [])
-    ∙ ap (λ (t : List ℕ). said 0 first_answer ++ t) (then_point m hm cleared_screen (point_line 79 ∷ []) ∙ ap (λ (t : List ℕ). said 0 [] ++ t) (last-point m hm cleared_screen))

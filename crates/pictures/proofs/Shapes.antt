@@ -69,12 +69,6 @@ pub box_past_bottom : EdgePicture 0 (draw (box 0 78 7 80 1 2))
 unfolding boxDrawing box_of edge_of filled_box box_rows horizontal clamped owed_by pixel_run run_op lowered on_screen seen owes within inside join_owed join is_empty cut pictured hits made alike all_of names
 box_past_bottom l u e = drew l u (box 0 78 7 80 1 2) e (refl, tt) (inr (omega arith)) refl refl refl
 
--- each of its rows beyond 79 lands there, and inverts what the row before it did
-pub box_row : (l : Lent) → Unmarked l → edge_flag l ≡ 0 → (x : ℕ) → x < 160 → bit 20 (screen_in (outcome base (draw (box 0 78 7 80 1 2)) l).left) x 79 ≡ bit 20 (screen_in l) x 79
-box_row l u e x h =
-    let n : ◌≢◌ {A = ℕ} 79 78 = λ i. omega arith in
-    (box_past_bottom l u e).screen.others x 79 h (omega arith) (inr n, (inr n, (inr n, (inr n, (inr n, (inr n, (inr n, (inr n, tt))))))))
-
 pub box-cut : EdgePicture 1 (draw (box 0 78 7 80 1 2))
     (inverts 0 78 ∷ inverts 1 78 ∷ inverts 2 78 ∷ inverts 3 78 ∷ inverts 4 78 ∷ inverts 5 78 ∷ inverts 6 78 ∷ inverts 7 78
     ∷ inverts 0 79 ∷ inverts 1 79 ∷ inverts 2 79 ∷ inverts 3 79 ∷ inverts 4 79 ∷ inverts 5 79 ∷ inverts 6 79 ∷ inverts 7 79 ∷ [])
