@@ -9,8 +9,7 @@ use model::glass::MEMORY_BYTES;
 use model::refusal;
 use record::entry;
 
-#[unsafe(no_mangle)]
-pub extern "C" fn caption_paint_bitmap(
+pub fn caption_paint_bitmap(
     rec: &mut [u8],
     memory: &mut [u8],
     address: u16,
@@ -37,8 +36,7 @@ pub extern "C" fn caption_paint_bitmap(
 }
 
 // The same outcome, a byte of the screen at a time.
-#[unsafe(no_mangle)]
-pub extern "C" fn caption_paint_bitmap_by_bytes(
+pub fn caption_paint_bitmap_by_bytes(
     rec: &mut [u8],
     memory: &mut [u8],
     address: u16,

@@ -8,8 +8,7 @@ use model::glass::MEMORY_BYTES;
 use model::refusal;
 use record::entry;
 
-#[unsafe(no_mangle)]
-pub extern "C" fn caption_set_screen_mode(rec: &mut [u8], memory: &mut [u8], mode: u8) -> u32
+pub fn caption_set_screen_mode(rec: &mut [u8], memory: &mut [u8], mode: u8) -> u32
     ensures { answered result [] (lent rec.new memory.new []) ≡ outcome (glass_of (length rec.old)) (set_screen_mode mode) (lent rec.old memory.old []) }
 {
     let code = entry::enter(rec, memory.len() == MEMORY_BYTES);
@@ -23,8 +22,7 @@ pub extern "C" fn caption_set_screen_mode(rec: &mut [u8], memory: &mut [u8], mod
     0
 }
 
-#[unsafe(no_mangle)]
-pub extern "C" fn caption_cls(rec: &mut [u8], memory: &mut [u8]) -> u32
+pub fn caption_cls(rec: &mut [u8], memory: &mut [u8]) -> u32
     ensures { answered result [] (lent rec.new memory.new []) ≡ outcome (glass_of (length rec.old)) cls (lent rec.old memory.old []) }
 {
     let code = entry::enter(rec, memory.len() == MEMORY_BYTES);

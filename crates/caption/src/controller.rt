@@ -12,8 +12,7 @@ use device::write::{takes_write, write};
 use model::glass::REGISTER_BYTES;
 use model::{Value, refusal};
 
-#[unsafe(no_mangle)]
-pub extern "C" fn caption_controller_write(
+pub fn caption_controller_write(
     registers: &mut [u8],
     panel: &mut [u8],
     register: u8,
@@ -35,8 +34,7 @@ pub extern "C" fn caption_controller_write(
     0
 }
 
-#[unsafe(no_mangle)]
-pub extern "C" fn caption_controller_read(registers: &mut [u8], panel: &[u8], register: u8) -> Value
+pub fn caption_controller_read(registers: &mut [u8], panel: &[u8], register: u8) -> Value
     ensures { answer result.code (value_numbers result) (device registers.new panel.now) ≡ device_outcome base (controller.read register) (device registers.old panel.now) }
 {
     let e = entry::enter(registers, panel.len());

@@ -21,8 +21,7 @@ fn area(code: u32, q: Rect) -> Area
     }
 }
 
-#[unsafe(no_mangle)]
-pub extern "C" fn caption_take_dirty_area(rec: &mut [u8]) -> Area
+pub fn caption_take_dirty_area(rec: &mut [u8]) -> Area
     ensures { answered result.code (area_numbers result) (lent rec.new [] []) ≡ outcome (glass_of (length rec.old)) take_dirty_area (lent rec.old [] []) }
 {
     let code = entry::enter(rec, true);

@@ -14,8 +14,7 @@ use record::entry;
 use record::glass::glass_of;
 
 // To the panel of that number: `panel` is the device's, and `image` the driver's own copy of it.
-#[unsafe(no_mangle)]
-pub extern "C" fn caption_drive_line(
+pub fn caption_drive_line(
     rec: &mut [u8],
     memory: &[u8],
     registers: &mut [u8],

@@ -11,8 +11,7 @@ use model::refusal;
 use record::entry;
 
 // No ellipse that RADIUS lets pass is ENDLESS: there is no code for that test.
-#[unsafe(no_mangle)]
-pub extern "C" fn caption_draw_ellipse(
+pub fn caption_draw_ellipse(
     rec: &mut [u8],
     memory: &mut [u8],
     x: u8,
@@ -39,8 +38,7 @@ pub extern "C" fn caption_draw_ellipse(
 }
 
 // The ellipse of one radius.
-#[unsafe(no_mangle)]
-pub extern "C" fn caption_draw_circle(
+pub fn caption_draw_circle(
     rec: &mut [u8],
     memory: &mut [u8],
     x: u8,

@@ -10,8 +10,7 @@ use model::refusal;
 use record::entry;
 
 // The extra list is lent as `list`, its font as `extra`.
-#[unsafe(no_mangle)]
-pub extern "C" fn caption_flush<'a>(
+pub fn caption_flush<'a>(
     rec: &mut [u8],
     memory: &mut [u8],
     ascii8: &[u8],

@@ -9,8 +9,7 @@ use model::glass::MEMORY_BYTES;
 use model::refusal;
 use record::entry;
 
-#[unsafe(no_mangle)]
-pub extern "C" fn caption_draw_line(
+pub fn caption_draw_line(
     rec: &mut [u8],
     memory: &mut [u8],
     x1: u8,
@@ -32,8 +31,7 @@ pub extern "C" fn caption_draw_line(
     0
 }
 
-#[unsafe(no_mangle)]
-pub extern "C" fn caption_draw_box(
+pub fn caption_draw_box(
     rec: &mut [u8],
     memory: &mut [u8],
     x1: u8,

@@ -9,8 +9,7 @@ use model::refusal;
 use record::glass::glass_of;
 use record::{entry, state};
 
-#[unsafe(no_mangle)]
-pub extern "C" fn caption_open(
+pub fn caption_open(
     rec: &mut [u8],
     memory: &mut [u8],
     graphics: u16,
@@ -43,8 +42,7 @@ pub extern "C" fn caption_open(
     refusal::LENT
 }
 
-#[unsafe(no_mangle)]
-pub extern "C" fn caption_reset(rec: &mut [u8], memory: &mut [u8]) -> u32
+pub fn caption_reset(rec: &mut [u8], memory: &mut [u8]) -> u32
     ensures { answered result [] (lent rec.new memory.new []) ≡ outcome (glass_of (length rec.old)) reset (lent rec.old memory.old []) }
 {
     let code = entry::enter(rec, memory.len() == MEMORY_BYTES);

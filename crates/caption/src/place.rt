@@ -18,8 +18,7 @@ fn value(code: u32, n: u8) -> Value
     }
 }
 
-#[unsafe(no_mangle)]
-pub extern "C" fn caption_get_row(rec: &[u8]) -> Value
+pub fn caption_get_row(rec: &[u8]) -> Value
     ensures { answered result.code (value_numbers result) (lent rec.now [] []) ≡ outcome (glass_of (length rec.now)) get_row (lent rec.now [] []) }
 {
     let code = entry::enter(rec, true);
@@ -29,8 +28,7 @@ pub extern "C" fn caption_get_row(rec: &[u8]) -> Value
     value(0, load_head(rec).row)
 }
 
-#[unsafe(no_mangle)]
-pub extern "C" fn caption_get_column(rec: &[u8]) -> Value
+pub fn caption_get_column(rec: &[u8]) -> Value
     ensures { answered result.code (value_numbers result) (lent rec.now [] []) ≡ outcome (glass_of (length rec.now)) get_column (lent rec.now [] []) }
 {
     let code = entry::enter(rec, true);
@@ -40,8 +38,7 @@ pub extern "C" fn caption_get_column(rec: &[u8]) -> Value
     value(0, load_head(rec).column)
 }
 
-#[unsafe(no_mangle)]
-pub extern "C" fn caption_set_row(rec: &mut [u8], row: u8) -> u32
+pub fn caption_set_row(rec: &mut [u8], row: u8) -> u32
     ensures { answered result [] (lent rec.new [] []) ≡ outcome (glass_of (length rec.old)) (set_row row) (lent rec.old [] []) }
 {
     let code = entry::enter(rec, true);
@@ -56,8 +53,7 @@ pub extern "C" fn caption_set_row(rec: &mut [u8], row: u8) -> u32
     0
 }
 
-#[unsafe(no_mangle)]
-pub extern "C" fn caption_set_column(rec: &mut [u8], column: u8) -> u32
+pub fn caption_set_column(rec: &mut [u8], column: u8) -> u32
     ensures { answered result [] (lent rec.new [] []) ≡ outcome (glass_of (length rec.old)) (set_column column) (lent rec.old [] []) }
 {
     let code = entry::enter(rec, true);
@@ -72,8 +68,7 @@ pub extern "C" fn caption_set_column(rec: &mut [u8], column: u8) -> u32
     0
 }
 
-#[unsafe(no_mangle)]
-pub extern "C" fn caption_set_print_mode(rec: &mut [u8], mode: u8) -> u32
+pub fn caption_set_print_mode(rec: &mut [u8], mode: u8) -> u32
     ensures { answered result [] (lent rec.new [] []) ≡ outcome (glass_of (length rec.old)) (set_print_mode mode) (lent rec.old [] []) }
 {
     let code = entry::enter(rec, true);

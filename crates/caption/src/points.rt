@@ -9,8 +9,7 @@ use model::glass::MEMORY_BYTES;
 use model::{Value, refusal};
 use record::entry;
 
-#[unsafe(no_mangle)]
-pub extern "C" fn caption_draw_point(
+pub fn caption_draw_point(
     rec: &mut [u8],
     memory: &mut [u8],
     x: u8,
@@ -30,8 +29,7 @@ pub extern "C" fn caption_draw_point(
     0
 }
 
-#[unsafe(no_mangle)]
-pub extern "C" fn caption_check_point(rec: &[u8], memory: &[u8], x: i32, y: i32) -> Value
+pub fn caption_check_point(rec: &[u8], memory: &[u8], x: i32, y: i32) -> Value
     ensures { answered result.code (value_numbers result) (lent rec.now memory.now []) ≡ outcome (glass_of (length rec.now)) (check_point x y) (lent rec.now memory.now []) }
 {
     let code = entry::enter(rec, memory.len() == MEMORY_BYTES);

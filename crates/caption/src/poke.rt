@@ -7,8 +7,7 @@ use accepted::poke;
 use model::glass::MEMORY_BYTES;
 use record::entry;
 
-#[unsafe(no_mangle)]
-pub extern "C" fn caption_write_byte(
+pub fn caption_write_byte(
     rec: &mut [u8],
     memory: &mut [u8],
     address: u16,

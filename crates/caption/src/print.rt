@@ -7,8 +7,7 @@ use accepted_text::print;
 use model::glass::MEMORY_BYTES;
 use record::entry;
 
-#[unsafe(no_mangle)]
-pub extern "C" fn caption_newline(rec: &mut [u8], memory: &mut [u8]) -> u32
+pub fn caption_newline(rec: &mut [u8], memory: &mut [u8]) -> u32
     ensures { answered result [] (lent rec.new memory.new []) ≡ outcome (glass_of (length rec.old)) newline (lent rec.old memory.old []) }
 {
     let code = entry::enter(rec, memory.len() == MEMORY_BYTES);
@@ -19,8 +18,7 @@ pub extern "C" fn caption_newline(rec: &mut [u8], memory: &mut [u8]) -> u32
     0
 }
 
-#[unsafe(no_mangle)]
-pub extern "C" fn caption_print(rec: &mut [u8], memory: &mut [u8], bytes: &[u8]) -> u32
+pub fn caption_print(rec: &mut [u8], memory: &mut [u8], bytes: &[u8]) -> u32
     ensures { answered result [] (lent rec.new memory.new []) ≡ outcome (glass_of (length rec.old)) (print bytes.now) (lent rec.old memory.old []) }
 {
     let code = entry::enter(rec, memory.len() == MEMORY_BYTES);

@@ -10,8 +10,7 @@ use record::entry;
 use record::glass::glass_of;
 
 // To the panel of that number, whose buffer is lent.
-#[unsafe(no_mangle)]
-pub extern "C" fn caption_send(rec: &mut [u8], memory: &[u8], panel: &mut [u8], number: u8) -> Sent
+pub fn caption_send(rec: &mut [u8], memory: &[u8], panel: &mut [u8], number: u8) -> Sent
     ensures { answered result.code (sent_numbers result) (lent rec.new memory.now panel.new) ≡ outcome (glass_of (length rec.old)) (send number) (lent rec.old memory.now panel.old) }
 {
     let glass = glass_of(rec.len());

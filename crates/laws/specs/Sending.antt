@@ -12,7 +12,7 @@ use Rattle.model.specs.declared.glass.Glass.{Glass}
 use Rattle.model.specs.Geometry.{Geometry, width, height}
 use Rattle.model.specs.Glass.{geometry, Suits}
 use Rattle.model.specs.Memory.{with_window}
-use Rattle.model.specs.Rects.{none, is_empty}
+use Rattle.model.specs.Rects.{is_empty}
 use Rattle.model.specs.Bytes.{rect_at, rect_bytes, rects_bytes, four, four_bytes, Bytes}
 use Rattle.model.specs.Record.{panel, at, Pending, decode, encode, pending_of, panel_of, nothing_pending, with_panel, with_panels, WellPending}
 use Rattle.model.specs.Sends.{take_owed, next_line, line_sent, send_pending}

@@ -7,7 +7,7 @@ use borrow.Author.Tests.{eq-eqb, ne_eqb, not-true, not-false}
 use Rattle.model.specs.declared.Head.{Head}
 use Rattle.model.specs.declared.Edge.TheVariants.{Clamp, Stop}
 use Rattle.model.specs.declared.glass.Glass.{Glass}
-use Rattle.model.specs.Geometry.{Geometry, width, height, cells}
+use Rattle.model.specs.Geometry.{Geometry, cells}
 use Rattle.model.specs.Glass.{geometry, IsGlass, Suits}
 use Rattle.model.specs.Memory.{window}
 use Rattle.model.specs.Rects.{fits}

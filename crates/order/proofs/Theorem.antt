@@ -1,19 +1,17 @@
 -- The theorem of specs/Theorem.antt, for each glass and for document 01's.
-use Rattle.std.specs.Prelude.{◌≡◌, ◌⊎◌, ◌↔◌, true, List, [], ◌∷◌, map, ℕ, ◌+◌, ◌-◌, ◌≤◌, ◌<◌, length, get_or, replicate}
+use Rattle.std.specs.Prelude.{◌≡◌, List, [], ◌∷◌, ℕ, ◌<◌, length, get_or, replicate}
 use Rattle.std.proofs.Common.{inl, inr, arith}
-use Rattle.model.specs.Geometry.{Geometry, base, width, height, screen_bytes, memory_bytes}
+use Rattle.model.specs.Geometry.{Geometry, base, screen_bytes}
 use Rattle.model.specs.Glass.{IsGlass}
-use Rattle.model.specs.Memory.{screen_of}
-use Rattle.model.specs.Rects.{In}
-use Rattle.model.specs.Record.{Pending, nothing_pending, panel_of, decode, total, record_bytes, valid}
-use Rattle.model.specs.Calls.{opening, send, lent, outcome}
-use Rattle.model.specs.Lists.{accepted, Typed, Item, here, Buffers, buffers, panel_buffer, lent_to_send, run, reckoned, last_edge, lines_left, own_band, Differs, differing}
+use Rattle.model.specs.Record.{total}
+use Rattle.model.specs.Calls.{opening, send, lent}
+use Rattle.model.specs.Lists.{accepted, Typed, Item, here, buffers, run}
 use Rattle.laws.specs.Tests.{either}
 use Rattle.laws.specs.Glasses.{base_glass}
 use Rattle.laws.specs.Bands.{lines_bound}
-use Rattle.order.specs.Accepted.{accepted_calls, left_by, named, named_row, left-run}
+use Rattle.order.specs.Accepted.{named_row, left-run}
 use Rattle.order.specs.Order.{standing-run, standing-opened, sendable, idle, lines_more, level, row_of_sends}
-use Rattle.order.specs.Theorem.{pending_in, lines_in, most_lines, screen_in, Promised, BaseNumbers}
+use Rattle.order.specs.Theorem.{pending_in, lines_in, Promised, BaseNumbers}
 
 -- The theorem, for each glass and each panel k of it: an accepted open, lent any record r and any memory m, beside panel buffers ps of any bytes, of which panel
 -- k's has its length, and then every list of items.

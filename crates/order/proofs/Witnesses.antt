@@ -1,34 +1,24 @@
 -- The witnesses of specs/Witnesses.antt that take the theorem: lists after which L is 95, sends to any panels in any order, and such a list written out.
-use Rattle.std.specs.Prelude.{◌≡◌, true, ℕ, zero, suc, ◌≤◌, ◌<◌, length, get_or, replicate}
+use Rattle.std.specs.Prelude.{◌≡◌, ℕ, ◌<◌, length, get_or, replicate}
 use Rattle.std.proofs.Math.Path.{refl, ap}
 use Rattle.std.proofs.Common.{◌∙◌}
 use mathlib.Core.List.{List, [], ◌∷◌, map}
 use native.Mathlib.Omega.{arith}
-use Rattle.std.proofs.lemmas.List.{length-replicate, get_or-replicate}
 use borrow.Author.Tests.{eq-eqb}
 use Rattle.model.specs.Geometry.{base}
-use Rattle.model.specs.Bits.{bit_at}
-use Rattle.model.specs.Memory.{window, zeros, screen_of}
-use Rattle.model.specs.declared.Rect.{Rect}
+use Rattle.model.specs.Memory.{zeros}
 use Rattle.model.specs.Rects.{is_empty, join, cut}
-use Rattle.model.specs.Record.{Pending, nothing_pending, decode, windows, edge_fits, total, WellPending}
-use Rattle.model.specs.Refusals.{refusal, ruled}
+use Rattle.model.specs.Record.{nothing_pending, decode, total}
+use Rattle.model.specs.Refusals.{refusal}
 use Rattle.model.specs.Marks.{owing, join_owed}
-use Rattle.model.specs.Open.{is_key, with_keys, clear_memory, open_pending, open_state}
+use Rattle.model.specs.Open.{open_pending}
 use Rattle.model.specs.Sends.{send_pending, take_owed, first_owed, rest_owed, line_sent, next_line}
-use Rattle.model.specs.Calls.{Call, opening, reset, cls, send, lent, answered, done}
-use Rattle.model.specs.Lists.{accepted, Typed, Item, here, Buffers, buffers, panel_buffer, lent_to_send, lent_to, given_back, leaves, after, run, effect, affected, effect_at, item_effect, reckoned, edge_after, last_edge, owed_lines, lines_left, differs, sum, differing}
+use Rattle.model.specs.Calls.{opening, reset, cls, send, lent}
+use Rattle.model.specs.Lists.{accepted, Typed, Item, here, Buffers, buffers, panel_buffer, lent_to, leaves, after, run, effect, affected, effect_at, item_effect, reckoned, edge_after, last_edge, owed_lines, lines_left, differing}
 use Rattle.model.specs.Script.Output.{no_keys}
 use Rattle.laws.specs.Glasses.{base_glass}
-use Rattle.laws.specs.Bands.{well_owing, owing_adds}
-use Rattle.laws.specs.Loops.{length-zeros}
 use Rattle.laws.specs.Calls.{own_decide}
-use Rattle.laws.specs.Record.{decode-encode}
-use Rattle.laws.specs.Opening.{open_formed}
-use Rattle.laws.specs.Counts.{byte_differs, bytes_differ, differing_bytes}
-use Rattle.order.specs.Step.{Lendable}
-use Rattle.order.specs.EachCall.{item_step}
-use Rattle.order.specs.Accepted.{accepted_call, accepted_calls, named, leaves-done}
+use Rattle.order.specs.Accepted.{accepted_calls, named}
 use Rattle.order.specs.Apart.{SentApart, send_apart}
 use Rattle.order.specs.Order.{standing-opened, sendable}
 use Rattle.order.specs.Theorem.{lines_in, screen_in, Promised}

@@ -2,20 +2,14 @@
 -- BaseNumbers has the sizes and the bound in numbers, for document 01's glass, `base`.
 -- Call, takes and outcome stand in crates/model/specs/Calls.antt; Buffers, Item, lentTo, run, reckoned, lastEdge, linesLeft, ownBand, Differs and differing in Lists.antt there;
 -- IsGlass, what is asked of a glass, in Glass.antt there; acceptedCalls, leftBy and named in Accepted.antt here. docs/THEOREM.md says it in words.
-use Rattle.std.specs.Prelude.{◌≡◌, ◌⊎◌, ◌↔◌, true, List, [], ◌∷◌, map, ℕ, ◌+◌, ◌-◌, ◌≤◌, ◌<◌, length, get_or, replicate}
-use Rattle.std.proofs.Common.{inl, inr, arith}
+use Rattle.std.specs.Prelude.{◌≡◌, ◌⊎◌, ◌↔◌, true, List, [], ◌∷◌, map, ℕ, ◌+◌, ◌-◌, ◌≤◌, ◌<◌, length, replicate}
 use Rattle.model.specs.Geometry.{Geometry, base, width, height, screen_bytes, memory_bytes}
-use Rattle.model.specs.Glass.{IsGlass}
 use Rattle.model.specs.Memory.{screen_of}
 use Rattle.model.specs.Rects.{In}
-use Rattle.model.specs.Record.{Pending, nothing_pending, panel_of, decode, total, record_bytes, valid}
-use Rattle.model.specs.Calls.{opening, send, lent, outcome}
-use Rattle.model.specs.Lists.{accepted, Typed, Item, here, Buffers, buffers, panel_buffer, lent_to_send, run, reckoned, last_edge, lines_left, own_band, Differs, differing}
-use Rattle.laws.specs.Tests.{either}
-use Rattle.laws.specs.Glasses.{base_glass}
-use Rattle.laws.specs.Bands.{lines_bound}
-use Rattle.order.specs.Accepted.{accepted_calls, left_by, named, named_row, left-run}
-use Rattle.order.specs.Order.{standing-run, standing-opened, sendable, idle, lines_more, level, row_of_sends}
+use Rattle.model.specs.Record.{Pending, nothing_pending, panel_of, decode, record_bytes, valid}
+use Rattle.model.specs.Calls.{send, outcome}
+use Rattle.model.specs.Lists.{accepted, Typed, Item, here, Buffers, panel_buffer, lent_to_send, run, reckoned, last_edge, lines_left, own_band, Differs, differing}
+use Rattle.order.specs.Accepted.{accepted_calls, left_by, named}
 
 -- owed, in hand and lines sent of panel k as the record has them
 abbrev pub pending_in : Geometry → ℕ → Buffers → Pending

@@ -12,14 +12,12 @@ use Rattle.model.specs.Geometry.{base}
 use Rattle.model.specs.Bits.{bit_at}
 use Rattle.model.specs.Memory.{window, zeros, screen_of}
 use Rattle.model.specs.declared.Rect.{Rect}
-use Rattle.model.specs.Rects.{is_empty, join, cut}
-use Rattle.model.specs.Record.{Pending, nothing_pending, decode, windows, edge_fits, total, WellPending}
+use Rattle.model.specs.Record.{Pending, windows, edge_fits, total, WellPending}
 use Rattle.model.specs.Refusals.{refusal, ruled}
-use Rattle.model.specs.Marks.{owing, join_owed}
-use Rattle.model.specs.Open.{is_key, with_keys, clear_memory, open_pending, open_state}
-use Rattle.model.specs.Sends.{send_pending, take_owed, first_owed, rest_owed, line_sent, next_line}
-use Rattle.model.specs.Calls.{Call, opening, reset, cls, send, lent, answered, done}
-use Rattle.model.specs.Lists.{accepted, Typed, Item, here, Buffers, buffers, panel_buffer, lent_to_send, lent_to, given_back, leaves, after, run, effect, affected, effect_at, item_effect, reckoned, edge_after, last_edge, owed_lines, lines_left, differs, sum, differing}
+use Rattle.model.specs.Marks.{owing}
+use Rattle.model.specs.Open.{is_key, with_keys, clear_memory, open_state}
+use Rattle.model.specs.Calls.{Call, opening, send, lent, answered, done}
+use Rattle.model.specs.Lists.{accepted, Item, here, Buffers, buffers, panel_buffer, lent_to_send, lent_to, given_back, after, run, lines_left, differs, sum, differing}
 use Rattle.model.specs.Script.Output.{no_keys}
 use Rattle.laws.specs.Glasses.{base_glass}
 use Rattle.laws.specs.Bands.{well_owing, owing_adds}
@@ -31,9 +29,8 @@ use Rattle.laws.specs.Counts.{byte_differs, bytes_differ, differing_bytes}
 use Rattle.order.specs.Step.{Lendable}
 use Rattle.order.specs.EachCall.{item_step}
 use Rattle.order.specs.Accepted.{accepted_call, accepted_calls, named, leaves-done}
-use Rattle.order.specs.Apart.{SentApart, send_apart}
-use Rattle.order.specs.Order.{standing-opened, sendable}
-use Rattle.order.specs.Theorem.{lines_in, screen_in, Promised}
+use Rattle.order.specs.Order.{sendable}
+use Rattle.order.specs.Theorem.{screen_in}
 
 -- the open of the script program (bases 4,096 and 8,192, V2, no keys) is accepted over a record and a memory of any bytes, with both edge flags
 pub accepted_open : (edge : ℕ) (r m : List ℕ) → edge_fits edge ≡ true → length r ≡ 359 → length m ≡ 65536 → accepted base (opening 4096 8192 1 no_keys edge) (lent r m [])

@@ -1,6 +1,6 @@
 use Rattle.ellipse_walk.proofs.Laws.{advance_moves, advance_stays}
 use Rattle.ellipse_walk.specs.Walk.{axis_of}
-use Rattle.std.proofs.Common.{arith, rules}
+use Rattle.std.proofs.Common.{arith}
 use Rattle.ellipse_walk.proofs.advance.Goals as goal
 
 pub returns-then-moved : goal.returns-then-moved

@@ -1,4 +1,4 @@
-use Rattle.std.proofs.Common.{rules, le-ltb, lt-ltb}
+use Rattle.std.proofs.Common.{le-ltb, lt-ltb}
 use Rattle.ellipse_walk.proofs.apart.Goals as goal
 
 pub returns-then-m-n : goal.returns-then-m-n

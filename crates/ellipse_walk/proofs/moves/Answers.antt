@@ -1,5 +1,5 @@
 use Rattle.ellipse_walk.specs.Walk.{axis_of}
-use Rattle.std.proofs.Common.{◌≡◌, ℕ, ◌+◌, ◌-◌, ◌%◌, ltb, ap, arith, rules}
+use Rattle.std.proofs.Common.{◌≡◌, ℕ, ◌+◌, ◌-◌, ◌%◌, ltb, ap, arith}
 use Rattle.model.specs.Ellipses.{moves, fed}
 use Rattle.ellipse_walk.proofs.moves.Goals as goal
 

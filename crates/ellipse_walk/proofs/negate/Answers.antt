@@ -1,4 +1,4 @@
-use Rattle.std.proofs.Common.{arith, rules}
+use Rattle.std.proofs.Common.{arith}
 use Rattle.ellipse_walk.proofs.negate.Goals as goal
 
 pub returns-then-t : goal.returns-then-t

@@ -1,5 +1,4 @@
 use Rattle.ellipse_walk.proofs.Laws.{stepped_y, stepped_x}
-use Rattle.std.proofs.Common.{rules}
 use Rattle.ellipse_walk.proofs.next_step.Goals as goal
 
 pub returns-then-w : goal.returns-then-w

@@ -1,4 +1,4 @@
-use Rattle.std.proofs.Common.{rules, le-ltb, lt-ltb}
+use Rattle.std.proofs.Common.{le-ltb, lt-ltb}
 use Rattle.ellipse_walk.proofs.raise.Goals as goal
 
 pub returns-then-f-gt2 : goal.returns-then-f-gt2

@@ -1,5 +1,5 @@
 use Rattle.ellipse_walk.proofs.Laws.{start_is}
-use Rattle.std.proofs.Common.{arith, rules}
+use Rattle.std.proofs.Common.{arith}
 use Rattle.ellipse_walk.proofs.start.Goals as goal
 
 pub returns : goal.returns

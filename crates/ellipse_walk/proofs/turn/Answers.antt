@@ -1,6 +1,6 @@
 use Rattle.ellipse_walk.proofs.Laws.{turn_back, turn_not}
 use Rattle.ellipse_walk.specs.Walk.{axis_of}
-use Rattle.std.proofs.Common.{arith, rules}
+use Rattle.std.proofs.Common.{arith}
 use Rattle.ellipse_walk.proofs.turn.Goals as goal
 
 pub returns-then-t : goal.returns-then-t

@@ -1,5 +1,4 @@
 use Rattle.ellipse_walk.specs.Walk.{parts_of}
-use Rattle.std.proofs.Common.{rules}
 use Rattle.ellipse_walk.proofs.x_part.Goals as goal
 
 pub returns-then-moved-wrapping_add_u8 : goal.returns-then-moved-wrapping_add_u8

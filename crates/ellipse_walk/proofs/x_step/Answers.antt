@@ -1,5 +1,4 @@
 use Rattle.ellipse_walk.proofs.Laws.{x_stepped}
-use Rattle.std.proofs.Common.{rules}
 use Rattle.ellipse_walk.proofs.x_step.Goals as goal
 
 pub returns : goal.returns

@@ -1,5 +1,4 @@
 use Rattle.ellipse_walk.proofs.Laws.{y_stepped}
-use Rattle.std.proofs.Common.{rules}
 use Rattle.ellipse_walk.proofs.y_step.Goals as goal
 
 pub returns : goal.returns

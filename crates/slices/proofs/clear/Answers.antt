@@ -1,9 +1,8 @@
 use borrow.Author.Rules.{rules}
-use mathlib.Core.Path.{◌≡◌, refl}
-use Prim.Native.Nat.{◌≤◌, ◌-◌}
+use mathlib.Core.Path.{refl}
 use native.Mathlib.Omega.{arith}
-use lib.ListN.{length, length-set}
-use Rattle.laws.specs.Loops.{clearing, clear_turn, clear_end}
+use lib.ListN.{length-set}
+use Rattle.laws.specs.Loops.{clear_turn, clear_end}
 use Rattle.slices.proofs.clear.Goals as goal
 
 pub loop-i-init : goal.loop-i-init

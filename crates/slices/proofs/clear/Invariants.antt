@@ -1,9 +1,7 @@
-use borrow.Author.Rules.{rules}
-use mathlib.Core.Path.{◌≡◌, refl}
+use mathlib.Core.Path.{◌≡◌}
 use Prim.Native.Nat.{◌≤◌, ◌-◌}
-use native.Mathlib.Omega.{arith}
-use lib.ListN.{length, length-set}
-use Rattle.laws.specs.Loops.{clearing, clear_turn, clear_end}
+use lib.ListN.{length}
+use Rattle.laws.specs.Loops.{clearing}
 use Rattle.slices.proofs.clear.Given as goal
 
 abbrev pub invariant-loop-i : goal.invariant-loop-i

@@ -1,9 +1,7 @@
 use borrow.Author.Rules.{rules}
-use mathlib.Core.Path.{◌≡◌, refl}
-use Prim.Native.Nat.{◌≤◌, ◌-◌}
+use mathlib.Core.Path.{refl}
 use native.Mathlib.Omega.{arith}
-use lib.ListN.{length}
-use Rattle.laws.specs.Loops.{putting, put-start, put_turn, put_end}
+use Rattle.laws.specs.Loops.{put-start, put_turn, put_end}
 use Rattle.slices.proofs.put_bytes.Goals as goal
 
 pub loop-i-init : goal.loop-i-init

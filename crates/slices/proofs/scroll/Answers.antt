@@ -1,9 +1,8 @@
 use borrow.Author.Rules.{rules}
-use mathlib.Core.Path.{◌≡◌, refl}
-use Prim.Native.Nat.{◌≤◌, ◌-◌}
+use mathlib.Core.Path.{refl}
 use native.Mathlib.Omega.{arith}
-use lib.ListN.{length, length-set}
-use Rattle.laws.specs.Pages.{scrolling, scroll_turn}
+use lib.ListN.{length-set}
+use Rattle.laws.specs.Pages.{scroll_turn}
 use Rattle.slices.proofs.Scrolling.{scrolled-up}
 use Rattle.slices.proofs.scroll.Goals as goal
 

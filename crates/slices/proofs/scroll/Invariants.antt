@@ -1,11 +1,8 @@
 -- The invariant: the first i bytes are those that stood n places on, the others are as they were.
-use borrow.Author.Rules.{rules}
-use mathlib.Core.Path.{◌≡◌, refl}
+use mathlib.Core.Path.{◌≡◌}
 use Prim.Native.Nat.{◌≤◌, ◌-◌}
-use native.Mathlib.Omega.{arith}
-use lib.ListN.{length, length-set}
-use Rattle.laws.specs.Pages.{scrolling, scroll_turn}
-use Rattle.slices.proofs.Scrolling.{scrolled-up}
+use lib.ListN.{length}
+use Rattle.laws.specs.Pages.{scrolling}
 use Rattle.slices.proofs.scroll.Given as goal
 
 abbrev pub invariant-loop-i : goal.invariant-loop-i

@@ -1,6 +1,5 @@
 use mathlib.Core.Path.{◌∙◌}
 use Rattle.marks.proofs.Scrolling.{scroll_none, scroll_whole}
-use borrow.Author.Rules.{rules}
 use Rattle.marks.proofs.mark.scroll_marks.Goals as goal
 
 pub returns-then-n-eq0 : goal.returns-then-n-eq0

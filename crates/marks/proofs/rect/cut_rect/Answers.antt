@@ -1,5 +1,4 @@
 use Rattle.laws.specs.Rects.{is_cut, is_cut_none}
-use borrow.Author.Rules.{rules}
 use Rattle.marks.proofs.rect.cut_rect.Goals as goal
 
 pub returns-then-left-right : goal.returns-then-left-right

@@ -1,6 +1,5 @@
 -- Four zeros pass; of any other rectangle the proper tests decide.
 use Rattle.laws.specs.Rects.{fits_empty, fits_proper}
-use borrow.Author.Rules.{rules}
 use Rattle.marks.proofs.rect.rect_fits.Goals as goal
 
 pub returns-then-is_empty : goal.returns-then-is_empty

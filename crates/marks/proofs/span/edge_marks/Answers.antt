@@ -1,4 +1,3 @@
-use borrow.Author.Rules.{rules}
 use Rattle.marks.proofs.span.edge_marks.Goals as goal
 
 pub returns : goal.returns

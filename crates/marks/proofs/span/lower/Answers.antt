@@ -1,7 +1,6 @@
 use mathlib.Core.Path.{refl}
 use Rattle.laws.specs.Rects.{rect_equal}
 use Rattle.model.specs.Rects.{lowered}
-use borrow.Author.Rules.{rules}
 use Rattle.marks.proofs.span.lower.Goals as goal
 
 pub returns : goal.returns

@@ -1,5 +1,4 @@
 use Rattle.model.specs.Lines.{owed_by}
-use borrow.Author.Rules.{rules}
 use Rattle.marks.proofs.span.owed_by.Goals as goal
 
 pub returns-in-Clamp : goal.returns-in-Clamp

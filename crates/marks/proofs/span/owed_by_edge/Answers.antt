@@ -1,4 +1,3 @@
-use borrow.Author.Rules.{rules}
 use Rattle.marks.proofs.span.owed_by_edge.Goals as goal
 
 pub returns : goal.returns

@@ -1,6 +1,5 @@
 use mathlib.Core.Path.{ap, ◌∙◌}
 use Rattle.laws.specs.Points.{both}
-use borrow.Author.Rules.{rules}
 use Rattle.marks.proofs.span.span_marks.Goals as goal
 
 pub returns : goal.returns
