@@ -1,4 +1,4 @@
-/* The 160 by 80 caption screen: the exported calls of libcaption.a (`rt staticlib caption`).
+/* The 160 by 80 caption screen: the exported calls of libcaption.a (tools/staticlib).
 
    A host owns these buffers and lends them to every call that takes them:
 

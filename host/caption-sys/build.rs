@@ -1,12 +1,12 @@
 //! Links libcaption.a: that of the folder which CAPTION_LIBRARY names or, where it is not set, target/staticlib of this
-//! repository, where `rt staticlib caption` makes it if it is missing or older than the core's sources.
+//! repository, where tools/staticlib makes it if it is missing or older than the core's sources.
 
 use std::path::{Path, PathBuf};
 use std::process::Command;
 use std::time::SystemTime;
 use std::{env, fs};
 
-/// What `rt staticlib` compiles for: machine, system, bits of a pointer.
+/// What `rt lib` compiles for: machine, system, bits of a pointer.
 const TARGET: [&str; 3] = ["x86_64", "linux", "64"];
 /// The number of that machine in the head of an object file.
 const X86_64: [u8; 2] = [62, 0];
@@ -35,7 +35,7 @@ fn test_target() -> Result<(), String> {
         return Ok(());
     }
     let target = env::var("TARGET").unwrap();
-    Err(format!("the target is {target}, and libcaption.a is for x86-64 Linux: `rt staticlib caption` makes no other"))
+    Err(format!("the target is {target}, and libcaption.a is for x86-64 Linux: tools/staticlib makes no other"))
 }
 
 /// The library that is linked.
@@ -67,11 +67,11 @@ fn made(repository: &Path) -> Result<PathBuf, String> {
     if changed(&library).is_some_and(|made| newest.is_none_or(|source| source <= made)) {
         return Ok(library);
     }
-    match Command::new("rt").args(["staticlib", "caption"]).current_dir(repository).output() {
+    match Command::new("rt").arg("version").output().and_then(|_| Command::new(repository.join("tools/staticlib")).output()) {
         Ok(output) if output.status.success() && library.is_file() => Ok(library),
         Ok(output) => {
             let said = [output.stdout, output.stderr].map(|bytes| String::from_utf8_lossy(&bytes).into_owned());
-            Err(format!("`rt staticlib caption` fails, run it by hand to see all:\n{}", last_lines(&said.concat())))
+            Err(format!("tools/staticlib fails, run it by hand to see all:\n{}", last_lines(&said.concat())))
         }
         Err(error) if library.is_file() => {
             println!(
@@ -80,7 +80,7 @@ fn made(repository: &Path) -> Result<PathBuf, String> {
             Ok(library)
         }
         Err(error) => Err(format!(
-            "there is no libcaption.a: `rt staticlib caption` makes it in target/staticlib of the repository, but rt can't be run \
+            "there is no libcaption.a: tools/staticlib makes it in target/staticlib of the repository, but rt can't be run \
              ({error}). Put the Rattle toolchain on PATH, or let CAPTION_LIBRARY name the folder of a libcaption.a"
         )),
     }

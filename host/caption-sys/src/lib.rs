@@ -5,7 +5,7 @@
 //! takes and what is trusted of its caller: include/caption.h, docs/CALLS.md.
 //!
 //! The library is that of the folder which `CAPTION_LIBRARY` names or, where it is not set, the one that
-//! `rt staticlib caption` makes of this repository (see build.rs). Without the feature `link` nothing is linked.
+//! `tools/staticlib` makes of this repository (see build.rs). Without the feature `link` nothing is linked.
 #![no_std]
 #![warn(missing_docs)]
 

@@ -80,7 +80,7 @@ const DAMAGES: [Damage; 59] = [
     (NAMES, "reset\n", "", "caption_reset"),
     (NAMES, "drive_line\n", "", "caption_drive_line"),
     // A function that is not exported by its name.
-    (SOURCES, "# [ no_mangle ]", "", "no_mangle"),
+    (SOURCES, "# [ unsafe ( no_mangle ) ]", "", "no_mangle"),
     // Another result.
     (
         SOURCES,

@@ -1,6 +1,6 @@
 //! The header include/caption.h, the table of docs/CALLS.md, the Rust declarations of
 //! host/caption-sys and the names of core/calls.txt are held to the exported functions of
-//! crates/caption: their names, the number, names and kinds of their parameters, and the numbers that
+//! crates/caption_c: their names, the number, names and kinds of their parameters, and the numbers that
 //! they answer.
 
 mod damage;
@@ -18,7 +18,7 @@ use std::path::{Path, PathBuf};
 /// The files as text.
 #[derive(Clone)]
 struct Texts {
-    /// crates/caption/src/*.rt, and crates/model/src/lib.rt for the results.
+    /// crates/caption_c/src/*.rt, and crates/model/src/lib.rt for the results.
     sources: String,
     header: String,
     table: String,
@@ -37,7 +37,7 @@ fn text(name: &str) -> String {
 
 fn sources() -> String {
     let folder =
-        fs::read_dir(repository().join("crates/caption/src")).expect("the folder of the exported calls");
+        fs::read_dir(repository().join("crates/caption_c/src")).expect("the folder of the exported calls");
     let mut names: Vec<PathBuf> = folder.map(|entry| entry.expect("a file").path()).collect();
     names.sort();
     let mut all = text("crates/model/src/lib.rt");
@@ -62,7 +62,7 @@ impl Texts {
     fn complaints(&self) -> Vec<String> {
         let exported = match rust_like::exported(&self.sources) {
             Ok(exported) => exported,
-            Err(error) => return vec![format!("crates/caption/src: {error}")],
+            Err(error) => return vec![format!("crates/caption_c/src: {error}")],
         };
         let found = [
             (

@@ -16,7 +16,7 @@ pub fn exported(text: &str) -> Result<Vec<Function>, String> {
             parameters.iter().map(|(name, kind)| slice_or_number(name, kind).map(with_full_name)).collect()
         })?);
     }
-    let marked = ["#", "[", "no_mangle", "]", "pub", "extern", "\"C\"", "fn"];
+    let marked = ["#", "[", "unsafe", "(", "no_mangle", ")", "]", "pub", "extern", "\"C\"", "fn"];
     let both = tokens.windows(marked.len()).filter(|part| *part == marked).count();
     if both != marks || both != functions.len() {
         return Err(format!("{} functions, {marks} no_mangle, {both} with both", functions.len()));

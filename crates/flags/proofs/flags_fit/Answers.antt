@@ -1,11 +1,7 @@
 use borrow.Author.Rules.{rules}
-use mathlib.Core.Path.{◌≡◌, refl, sym, ◌∙◌}
-use Prim.Native.Nat.{◌≤◌, ◌-◌}
+use mathlib.Core.Path.{refl, sym, ◌∙◌}
 use native.Mathlib.Omega.{arith}
 use native.Mathlib.Numerals.{unary_clauses}
-use mathlib.Core.Bool.{◌&&◌}
-use lib.ListN.{drop}
-use Rattle.model.specs.Flags.{flags_fit}
 use Rattle.laws.specs.Flags.{flags_turn, flags_end}
 use Rattle.flags.proofs.flags_fit.Goals as goal
 

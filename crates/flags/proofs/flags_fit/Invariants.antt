@@ -1,12 +1,8 @@
-use borrow.Author.Rules.{rules}
-use mathlib.Core.Path.{◌≡◌, refl, sym, ◌∙◌}
+use mathlib.Core.Path.{◌≡◌}
 use Prim.Native.Nat.{◌≤◌, ◌-◌}
-use native.Mathlib.Omega.{arith}
-use native.Mathlib.Numerals.{unary_clauses}
 use mathlib.Core.Bool.{◌&&◌}
 use lib.ListN.{drop}
 use Rattle.model.specs.Flags.{flags_fit}
-use Rattle.laws.specs.Flags.{flags_turn, flags_end}
 use Rattle.flags.proofs.flags_fit.Given as goal
 
 abbrev pub invariant-loop-i : goal.invariant-loop-i

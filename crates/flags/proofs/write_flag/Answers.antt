@@ -1,6 +1,5 @@
 use mathlib.Core.Path.{refl}
 use Rattle.laws.specs.Flags.{with_flag}
-use borrow.Author.Rules.{rules}
 use Rattle.flags.proofs.write_flag.Goals as goal
 
 pub returns : goal.returns

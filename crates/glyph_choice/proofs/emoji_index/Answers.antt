@@ -1,6 +1,5 @@
 use native.Mathlib.Omega.{arith}
 use Rattle.laws.specs.Glyphs.{index_v1, index_v2, no_emoji}
-use borrow.Author.Rules.{rules}
 use Rattle.glyph_choice.proofs.emoji_index.Goals as goal
 
 pub returns-then-lead-lt-EMOJI_LEAD : goal.returns-then-lead-lt-EMOJI_LEAD

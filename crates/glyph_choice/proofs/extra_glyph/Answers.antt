@@ -2,7 +2,6 @@ use mathlib.Core.Path.{◌≡◌}
 use Rattle.model.specs.declared.Glyph.TheVariants.{Hexadecimal}
 use Rattle.glyph_choice.specs.Choice.{extra_glyph}
 use Rattle.glyph_choice.proofs.Choosing.{extra_at, extra_none}
-use borrow.Author.Rules.{rules}
 use Rattle.glyph_choice.proofs.extra_glyph.Goals as goal
 
 pub returns-in-At : goal.returns-in-At

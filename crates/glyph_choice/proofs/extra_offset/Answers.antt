@@ -1,8 +1,6 @@
-use mathlib.Core.Path.{◌≡◌, refl, sym, ap, ◌∙◌}
-use Prim.Native.Nat.{◌-◌, ◌*◌, ◌≤◌}
+use mathlib.Core.Path.{refl, sym, ap, ◌∙◌}
 use native.Mathlib.Omega.{arith}
 use Rattle.model.specs.declared.Found.TheVariants.{At}
-use Rattle.model.specs.Codes.{extra_from, extra_offset}
 use Rattle.laws.specs.Glyphs.{extra_here, extra_past, extra_end}
 use Rattle.glyph_choice.proofs.Choosing.{extra_start}
 use Rattle.glyph_choice.proofs.extra_offset.Goals as goal

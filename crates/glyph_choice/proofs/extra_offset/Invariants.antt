@@ -1,11 +1,7 @@
 -- The entries that are left, from the place that is reached, give what the whole list gives.
-use mathlib.Core.Path.{◌≡◌, refl, sym, ap, ◌∙◌}
+use mathlib.Core.Path.{◌≡◌}
 use Prim.Native.Nat.{◌-◌, ◌*◌, ◌≤◌}
-use native.Mathlib.Omega.{arith}
-use Rattle.model.specs.declared.Found.TheVariants.{At}
 use Rattle.model.specs.Codes.{extra_from, extra_offset}
-use Rattle.laws.specs.Glyphs.{extra_here, extra_past, extra_end}
-use Rattle.glyph_choice.proofs.Choosing.{extra_start}
 use Rattle.glyph_choice.proofs.extra_offset.Given as goal
 
 abbrev pub invariant-loop-k : goal.invariant-loop-k

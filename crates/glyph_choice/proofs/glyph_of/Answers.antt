@@ -1,5 +1,4 @@
 use Rattle.glyph_choice.proofs.Choosing.{emoji_at, emoji_else}
-use borrow.Author.Rules.{rules}
 use Rattle.glyph_choice.proofs.glyph_of.Goals as goal
 
 pub returns-in-At : goal.returns-in-At

@@ -1,7 +1,6 @@
 use native.Mathlib.Omega.{arith}
 use Rattle.laws.specs.Glyphs.{row_first, row_here, row_past}
 use Rattle.glyph_choice.proofs.Choosing.{no_row}
-use borrow.Author.Rules.{rules}
 use Rattle.glyph_choice.proofs.index_v1.Goals as goal
 
 pub place-requires : goal.place-requires

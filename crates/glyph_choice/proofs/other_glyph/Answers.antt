@@ -1,5 +1,4 @@
 use Rattle.glyph_choice.proofs.Choosing.{gb_at, gb_else}
-use borrow.Author.Rules.{rules}
 use Rattle.glyph_choice.proofs.other_glyph.Goals as goal
 
 pub returns-in-At : goal.returns-in-At

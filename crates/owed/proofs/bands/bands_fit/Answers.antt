@@ -1,6 +1,5 @@
-use Rattle.laws.specs.Owed.{Testing, test_starts, test_goes, test_fails, test_ends, band_in}
+use Rattle.laws.specs.Owed.{test_starts, test_goes, test_fails, test_ends, band_in}
 use native.Mathlib.Omega.{arith}
-use borrow.Author.Rules.{rules}
 use Rattle.owed.proofs.bands.bands_fit.Goals as goal
 
 pub loop-left-init : goal.loop-left-init

@@ -1,7 +1,5 @@
 -- The bands before have passed, so what is left decides the whole; one that fails decides it at once.
-use Rattle.laws.specs.Owed.{Testing, test_starts, test_goes, test_fails, test_ends, band_in}
-use native.Mathlib.Omega.{arith}
-use borrow.Author.Rules.{rules}
+use Rattle.laws.specs.Owed.{Testing}
 use Rattle.owed.proofs.bands.bands_fit.Given as goal
 
 abbrev pub invariant-loop-left : goal.invariant-loop-left

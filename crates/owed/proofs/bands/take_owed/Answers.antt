@@ -1,8 +1,6 @@
-use Prim.Native.Nat.{◌-◌}
 use native.Mathlib.Omega.{arith}
 use borrow.Author.Tests.{not-true, not-false}
-use borrow.Author.Rules.{rules}
-use Rattle.laws.specs.Owed.{Taking, take_starts, take_room, take_goes, take_finds, take_ends}
+use Rattle.laws.specs.Owed.{take_starts, take_room, take_goes, take_finds, take_ends}
 use Rattle.owed.proofs.bands.take_owed.Goals as goal
 
 pub loop-i-init : goal.loop-i-init

@@ -1,8 +1,5 @@
 use Prim.Native.Nat.{◌-◌}
-use native.Mathlib.Omega.{arith}
-use borrow.Author.Tests.{not-true, not-false}
-use borrow.Author.Rules.{rules}
-use Rattle.laws.specs.Owed.{Taking, take_starts, take_room, take_goes, take_finds, take_ends}
+use Rattle.laws.specs.Owed.{Taking}
 use Rattle.owed.proofs.bands.take_owed.Given as goal
 
 abbrev pub invariant-loop-i : goal.invariant-loop-i

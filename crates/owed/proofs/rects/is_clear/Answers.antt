@@ -1,5 +1,4 @@
 -- A number of two bytes is zero where both are.
-use borrow.Author.Rules.{rules}
 use Rattle.laws.specs.Owed.{is_clear}
 use Rattle.owed.proofs.rects.is_clear.Goals as goal
 

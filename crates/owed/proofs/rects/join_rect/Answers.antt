@@ -1,5 +1,4 @@
 -- Where nothing stands q is stored; else the four sides are, two bytes each, one after another.
-use borrow.Author.Rules.{rules}
 use Rattle.laws.specs.Owed.{joins_clear, joins_sides}
 use Rattle.owed.proofs.rects.join_rect.Goals as goal
 

@@ -1,4 +1,3 @@
-use borrow.Author.Rules.{rules}
 use Rattle.laws.specs.Owed.{owes-whole, owes-part}
 use Rattle.owed.proofs.rects.owe_rect.Goals as goal
 

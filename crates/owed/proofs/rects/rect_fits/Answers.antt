@@ -1,6 +1,5 @@
 -- Four zeros pass; of any other rectangle the proper tests decide.
 use mathlib.Core.Path.{◌∙◌, ap}
-use borrow.Author.Rules.{rules}
 use Rattle.model.specs.Rects.{every, proper_tests}
 use Rattle.laws.specs.Rects.{fits_empty, fits_proper}
 use Rattle.owed.proofs.rects.rect_fits.Goals as goal

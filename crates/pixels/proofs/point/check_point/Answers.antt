@@ -1,6 +1,5 @@
 use Rattle.pixels.proofs.Axis.{axis_given}
 use Rattle.laws.specs.Points.{check_on, check_below, check_beside}
-use borrow.Author.Rules.{rules}
 use Rattle.pixels.proofs.point.check_point.Goals as goal
 
 pub returns-then-line-height : goal.returns-then-line-height

@@ -1,5 +1,4 @@
 use Rattle.laws.specs.Points.{point_on, point_off, on_true}
-use borrow.Author.Rules.{rules}
 use Rattle.pixels.proofs.point.draw_point.Goals as goal
 
 pub plot_mask-requires : goal.plot_mask-requires

@@ -1,6 +1,5 @@
 use mathlib.Core.Path.{refl}
 use Rattle.model.specs.Pixels.{on_screen}
-use borrow.Author.Rules.{rules}
 use Rattle.pixels.proofs.point.on_screen.Goals as goal
 
 pub returns : goal.returns

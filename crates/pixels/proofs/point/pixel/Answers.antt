@@ -1,7 +1,6 @@
 use Rattle.model.specs.Bytes.{Bytes}
 use native.Mathlib.Omega.{arith}
 use Rattle.laws.specs.Points.{place_in, seen-bit}
-use borrow.Author.Rules.{rules}
 use Rattle.pixels.proofs.point.pixel.Goals as goal
 
 pub overflow_mul-at : goal.overflow_mul-at

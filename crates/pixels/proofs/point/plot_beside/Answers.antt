@@ -2,7 +2,6 @@ use native.Mathlib.Omega.{arith}
 use Rattle.model.specs.Bytes.{Bytes}
 use Rattle.laws.specs.Runs.{line_in, beside_drawn, beside_none}
 use Rattle.pixels.specs.Raster.{op_known}
-use borrow.Author.Rules.{rules}
 use Rattle.pixels.proofs.point.plot_beside.Goals as goal
 
 pub overflow_mul-stride-then-x-stride : goal.overflow_mul-stride-then-x-stride

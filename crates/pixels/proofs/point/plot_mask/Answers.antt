@@ -1,7 +1,6 @@
 use native.Mathlib.Omega.{arith}
 use Rattle.model.specs.Bytes.{Bytes}
 use Rattle.laws.specs.Points.{place_in, plotted}
-use borrow.Author.Rules.{rules}
 use Rattle.pixels.proofs.point.plot_mask.Goals as goal
 
 pub overflow_mul-at : goal.overflow_mul-at

@@ -1,5 +1,4 @@
 use Rattle.laws.specs.Runs.{pair_drawn, pair_below}
-use borrow.Author.Rules.{rules}
 use Rattle.pixels.proofs.point.plot_pair.Goals as goal
 
 pub returns-then-y-canvas : goal.returns-then-y-canvas

@@ -1,5 +1,4 @@
 use Rattle.laws.specs.Points.{seen_one, seen_none, on_true}
-use borrow.Author.Rules.{rules}
 use Rattle.pixels.proofs.point.plot_seen.Goals as goal
 
 pub plot_mask-requires : goal.plot_mask-requires

@@ -1,5 +1,4 @@
 use Rattle.laws.specs.Points.{point_byte}
-use borrow.Author.Rules.{rules}
 use Rattle.pixels.proofs.point.point_byte.Goals as goal
 
 pub returns-in-Clear : goal.returns-in-Clear

@@ -1,5 +1,4 @@
 use Rattle.laws.specs.Points.{mask_at}
-use borrow.Author.Rules.{rules}
 use Rattle.pixels.proofs.point.point_mask.Goals as goal
 
 pub returns : goal.returns

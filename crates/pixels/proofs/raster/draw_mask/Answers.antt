@@ -1,5 +1,4 @@
 use Rattle.laws.specs.Runs.{masked}
-use borrow.Author.Rules.{rules}
 use Rattle.pixels.proofs.raster.draw_mask.Goals as goal
 
 pub returns : goal.returns

@@ -1,5 +1,4 @@
 use Rattle.pixels.specs.Raster.{op-clear, op-or, op-xor, op-unknown}
-use borrow.Author.Rules.{rules}
 use Rattle.pixels.proofs.raster.raster_op.Goals as goal
 
 pub returns-in-Clear : goal.returns-in-Clear

@@ -1,9 +1,6 @@
-use mathlib.Core.Path.{◌≡◌, refl}
-use Prim.Native.Nat.{◌≤◌, ◌-◌}
+use mathlib.Core.Path.{refl}
 use native.Mathlib.Omega.{arith}
-use lib.ListN.{length}
-use Rattle.laws.specs.Runs.{masked_bytes, bytes_turn, bytes_end}
-use Rattle.pixels.specs.Raster.{mode_of}
+use Rattle.laws.specs.Runs.{bytes_turn, bytes_end}
 use Rattle.pixels.proofs.run.draw_bytes.Goals as goal
 
 pub loop-at-init : goal.loop-at-init

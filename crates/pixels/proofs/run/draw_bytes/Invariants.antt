@@ -1,9 +1,8 @@
 -- The loop's invariant: the rest of the bytes, drawn on the screen as it stands, gives them all.
-use mathlib.Core.Path.{◌≡◌, refl}
+use mathlib.Core.Path.{◌≡◌}
 use Prim.Native.Nat.{◌≤◌, ◌-◌}
-use native.Mathlib.Omega.{arith}
 use lib.ListN.{length}
-use Rattle.laws.specs.Runs.{masked_bytes, bytes_turn, bytes_end}
+use Rattle.laws.specs.Runs.{masked_bytes}
 use Rattle.pixels.specs.Raster.{mode_of}
 use Rattle.pixels.proofs.run.draw_bytes.Given as goal
 

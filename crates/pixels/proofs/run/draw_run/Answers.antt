@@ -1,7 +1,6 @@
 use native.Mathlib.Omega.{arith}
 use Rattle.model.specs.Bytes.{Bytes}
 use Rattle.laws.specs.Runs.{line_in, one_byte, many_bytes}
-use borrow.Author.Rules.{rules}
 use Rattle.pixels.proofs.run.draw_run.Goals as goal
 
 pub overflow_mul-line : goal.overflow_mul-line

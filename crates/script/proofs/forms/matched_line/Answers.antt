@@ -1,12 +1,6 @@
 use Rattle.script.proofs.Matching.{still_ok, match_start, match_turn, match_none, match_more, match_end}
 use borrow.Author.Rules.{rules}
 use native.Mathlib.Omega.{arith}
-use mathlib.Core.Path.{◌≡◌}
-use Prim.Native.Nat.{◌-◌}
-use lib.ListN.{length, drop}
-use mathlib.Core.Bool.{true}
-use Rattle.model.specs.Script.Read.{matched, no_fields}
-use Rattle.script.specs.Meaning.{fields_of}
 use Rattle.script.proofs.forms.matched_line.Goals as goal
 
 pub loop-i-init : goal.loop-i-init

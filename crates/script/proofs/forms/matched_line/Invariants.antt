@@ -1,6 +1,3 @@
-use Rattle.script.proofs.Matching.{still_ok, match_start, match_turn, match_none, match_more, match_end}
-use borrow.Author.Rules.{rules}
-use native.Mathlib.Omega.{arith}
 use mathlib.Core.Path.{◌≡◌}
 use Prim.Native.Nat.{◌-◌}
 use lib.ListN.{length, drop}

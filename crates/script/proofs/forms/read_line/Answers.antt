@@ -1,7 +1,6 @@
 use native.Mathlib.Omega.{arith}
 use Rattle.script.proofs.Bounding.{point-fits, line-fits, poke_fits}
 use Rattle.script.proofs.Choosing.{is_point, is_line, is_poke, is_send, is_bad}
-use borrow.Author.Rules.{rules}
 use Rattle.script.proofs.forms.read_line.Goals as goal
 
 pub overflow_cast-result : goal.overflow_cast-result

@@ -1,7 +1,6 @@
 use Rattle.script.specs.Meaning.{fields_of}
 use mathlib.Core.Path.{refl}
 use Rattle.script.proofs.Matching.{kept_yes, kept_no}
-use borrow.Author.Rules.{rules}
 use Rattle.script.proofs.forms.with_field.Goals as goal
 
 pub returns-then-is_field : goal.returns-then-is_field

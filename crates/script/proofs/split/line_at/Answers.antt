@@ -1,5 +1,4 @@
 use Rattle.script.proofs.Splitting.{line_read, end_read}
-use borrow.Author.Rules.{rules}
 use Rattle.script.proofs.split.line_at.Goals as goal
 
 pub returns-then-at-s : goal.returns-then-at-s

@@ -1,9 +1,6 @@
 use native.Mathlib.Omega.{arith}
-use mathlib.Core.Path.{◌≡◌, refl}
-use Prim.Native.Nat.{◌+◌, ◌-◌, ◌≤◌}
-use lib.ListN.{length, drop}
+use mathlib.Core.Path.{refl}
 use Rattle.script.proofs.Splitting.{line_turn, line-stop, line_out}
-use Rattle.script.specs.Lines.{line_length}
 use Rattle.script.proofs.split.line_end.Goals as goal
 
 pub loop-i-init : goal.loop-i-init

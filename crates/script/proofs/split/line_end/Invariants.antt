@@ -1,8 +1,6 @@
-use native.Mathlib.Omega.{arith}
-use mathlib.Core.Path.{◌≡◌, refl}
+use mathlib.Core.Path.{◌≡◌}
 use Prim.Native.Nat.{◌+◌, ◌-◌, ◌≤◌}
 use lib.ListN.{length, drop}
-use Rattle.script.proofs.Splitting.{line_turn, line-stop, line_out}
 use Rattle.script.specs.Lines.{line_length}
 use Rattle.script.proofs.split.line_end.Given as goal
 

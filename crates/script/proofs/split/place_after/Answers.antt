@@ -1,4 +1,3 @@
-use borrow.Author.Rules.{rules}
 use native.Mathlib.Omega.{arith}
 use Rattle.script.proofs.Splitting.{after_read, stays_read}
 use Rattle.script.proofs.split.place_after.Goals as goal

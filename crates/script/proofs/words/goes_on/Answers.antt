@@ -2,7 +2,6 @@ use mathlib.Core.Path.{ap}
 use Rattle.model.specs.Script.Read.{goes_on}
 use mathlib.Core.Bool.{Bool, ◌&&◌}
 use lib.Dec.{ltb}
-use borrow.Author.Rules.{rules}
 use Rattle.script.proofs.words.goes_on.Goals as goal
 
 pub returns : goal.returns

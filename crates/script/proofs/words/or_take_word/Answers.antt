@@ -1,5 +1,4 @@
 use Rattle.script.proofs.Reading.{or_found, or_other}
-use borrow.Author.Rules.{rules}
 use Rattle.script.proofs.words.or_take_word.Goals as goal
 
 pub returns-in-At : goal.returns-in-At

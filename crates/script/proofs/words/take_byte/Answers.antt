@@ -1,5 +1,4 @@
 use Rattle.script.proofs.Reading.{byte_is, byte_not, byte_none}
-use borrow.Author.Rules.{rules}
 use Rattle.script.proofs.words.take_byte.Goals as goal
 
 pub returns-then-s-at : goal.returns-then-s-at

@@ -1,10 +1,6 @@
-use borrow.Author.Rules.{rules}
 use native.Mathlib.Omega.{arith}
-use mathlib.Core.Path.{◌≡◌, refl}
-use Prim.Native.Nat.{◌-◌, ◌<◌}
-use lib.ListN.{length, drop}
+use mathlib.Core.Path.{refl}
 use Rattle.script.proofs.Reading.{goes_on_is, digits_end, digits_stop, digits_turn}
-use Rattle.model.specs.Script.Read.{take_digits}
 use Rattle.script.proofs.words.take_digits.Goals as goal
 
 pub loop-i-init : goal.loop-i-init

@@ -1,9 +1,6 @@
-use borrow.Author.Rules.{rules}
-use native.Mathlib.Omega.{arith}
-use mathlib.Core.Path.{◌≡◌, refl}
+use mathlib.Core.Path.{◌≡◌}
 use Prim.Native.Nat.{◌-◌, ◌<◌}
 use lib.ListN.{length, drop}
-use Rattle.script.proofs.Reading.{goes_on_is, digits_end, digits_stop, digits_turn}
 use Rattle.model.specs.Script.Read.{take_digits}
 use Rattle.script.proofs.words.take_digits.Given as goal
 

@@ -1,5 +1,4 @@
 use Rattle.script.proofs.Reading.{mode_is}
-use borrow.Author.Rules.{rules}
 use Rattle.script.proofs.words.take_mode.Goals as goal
 
 pub returns : goal.returns

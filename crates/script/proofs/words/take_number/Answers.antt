@@ -1,6 +1,5 @@
 use native.Mathlib.Omega.{arith}
 use Rattle.script.proofs.Reading.{digit_is, number_none, number_zero, number_is, number_over, number_not}
-use borrow.Author.Rules.{rules}
 use Rattle.script.proofs.words.take_number.Goals as goal
 
 pub returns-then-at-s : goal.returns-then-at-s

@@ -1,9 +1,6 @@
 use native.Mathlib.Omega.{arith}
-use mathlib.Core.Path.{◌≡◌, refl}
-use Prim.Native.Nat.{◌-◌}
-use lib.ListN.{length, drop}
+use mathlib.Core.Path.{refl}
 use Rattle.script.proofs.Reading.{word_end, word_out, word_not, word_turn}
-use Rattle.model.specs.Script.Read.{take_word}
 use Rattle.script.proofs.words.take_word.Goals as goal
 
 pub loop-i-init : goal.loop-i-init

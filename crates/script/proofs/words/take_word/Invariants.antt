@@ -1,8 +1,6 @@
-use native.Mathlib.Omega.{arith}
-use mathlib.Core.Path.{◌≡◌, refl}
+use mathlib.Core.Path.{◌≡◌}
 use Prim.Native.Nat.{◌-◌}
 use lib.ListN.{length, drop}
-use Rattle.script.proofs.Reading.{word_end, word_out, word_not, word_turn}
 use Rattle.model.specs.Script.Read.{take_word}
 use Rattle.script.proofs.words.take_word.Given as goal
 
