@@ -10,7 +10,7 @@ use Rattle.model.specs.declared.Rect.{Rect}
 use Rattle.model.specs.declared.Head.{Head}
 use Rattle.model.specs.declared.Sent.{Sent}
 use Rattle.model.specs.declared.glass.Glass.{Glass}
-use Rattle.model.specs.Geometry.{Geometry, height, screen_bytes}
+use Rattle.model.specs.Geometry.{Geometry, screen_bytes}
 use Rattle.model.specs.Glass.{geometry, canvas, glass_of}
 use Rattle.model.specs.Memory.{window}
 use Rattle.model.specs.Rects.{is_empty}

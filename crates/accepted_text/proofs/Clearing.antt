@@ -10,7 +10,6 @@ use Rattle.model.specs.declared.Canvas.{Canvas}
 use Rattle.model.specs.declared.Head.{Head}
 use Rattle.model.specs.declared.Marks.{Marks}
 use Rattle.model.specs.declared.glass.Glass.{Glass}
-use Rattle.model.specs.Geometry.{height, cells}
 use Rattle.model.specs.Glass.{geometry, glass_of, canvas, Suits}
 use Rattle.model.specs.Memory.{zeros, with_window}
 use Rattle.model.specs.Record.{head_of, decode, encode, WellFormed}

@@ -15,7 +15,7 @@ use Rattle.model.specs.Geometry.{Geometry, height, rows, columns, cells, screen_
 use Rattle.model.specs.Glass.{geometry, glass_of, canvas, text_bytes}
 use Rattle.model.specs.Memory.{window, with_window}
 use Rattle.model.specs.Flags.{flag_bytes, flags_in}
-use Rattle.model.specs.Record.{flags, decode, encode}
+use Rattle.model.specs.Record.{decode, encode}
 use Rattle.model.specs.Marks.{whole, marked}
 use Rattle.model.specs.Glyphs.{Fonts, fonts_fit, paint}
 use Rattle.model.specs.Flush.{text_stores, flush_stores, cleared_in_text, flushed}

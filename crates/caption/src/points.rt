@@ -9,13 +9,7 @@ use model::glass::MEMORY_BYTES;
 use model::{Value, refusal};
 use record::entry;
 
-pub fn caption_draw_point(
-    rec: &mut [u8],
-    memory: &mut [u8],
-    x: u8,
-    y: u8,
-    mode: u8,
-) -> u32
+pub fn caption_draw_point(rec: &mut [u8], memory: &mut [u8], x: u8, y: u8, mode: u8) -> u32
     ensures { answered result [] (lent rec.new memory.new []) ≡ outcome (glass_of (length rec.old)) (draw (point x y mode)) (lent rec.old memory.old []) }
 {
     let code = entry::enter(rec, memory.len() == MEMORY_BYTES);

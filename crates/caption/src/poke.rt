@@ -7,12 +7,7 @@ use accepted::poke;
 use model::glass::MEMORY_BYTES;
 use record::entry;
 
-pub fn caption_write_byte(
-    rec: &mut [u8],
-    memory: &mut [u8],
-    address: u16,
-    byte: u8,
-) -> u32
+pub fn caption_write_byte(rec: &mut [u8], memory: &mut [u8], address: u16, byte: u8) -> u32
     ensures { answered result [] (lent rec.new memory.new []) ≡ outcome (glass_of (length rec.old)) (write_byte address byte) (lent rec.old memory.old []) }
 {
     let code = entry::enter(rec, memory.len() == MEMORY_BYTES);

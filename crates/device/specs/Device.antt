@@ -9,7 +9,7 @@ use Rattle.model.specs.declared.Register.{Register}
 use Rattle.model.specs.declared.Register.TheVariants.{Command, Line, First, Count, Data, Status, Enable, Reset, Beyond}
 use Rattle.model.specs.Geometry.{Geometry, screen_bytes}
 use Rattle.model.specs.Refusals.{refusal, ruled}
-use Rattle.model.specs.Controller.{register_bytes, register_of, registers_of, bytes_of_registers, registers, registers_fit, takes_write, registers_after, panel_after, registers_read, DeviceCall, write, read, Device, device, Answer, answer, takes_call, device_refusals, device_numbers, device_done, device_outcome, run_device}
+use Rattle.model.specs.Controller.{register_bytes, register_of, registers_of, bytes_of_registers, registers_fit, takes_write, registers_after, panel_after, registers_read, DeviceCall, write, read, Device, device, Answer, answer, takes_call, device_refusals, device_numbers, device_done, device_outcome, run_device}
 use Rattle.laws.specs.Tests.{if_cases, by_test}
 use Rattle.laws.specs.Loops.{length-zeros}
 use Rattle.device.specs.Writing.{Ready, Written}

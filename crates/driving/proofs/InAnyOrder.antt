@@ -1,24 +1,22 @@
 -- Each call leaves the driven side beside the direct one, so every list does; what crates/order promises of a buffer then holds of the panel behind its controller.
-use Rattle.std.specs.Prelude.{◌≡◌, ◌≢◌, ◌⊎◌, Bool, true, false, ℕ, zero, suc, ◌-◌, ◌≤◌, ◌<◌, length, get_or, set, replicate}
+use Rattle.std.specs.Prelude.{◌≡◌, ◌≢◌, Bool, true, ℕ, zero, suc, ◌≤◌, ◌<◌, length, get_or, set, replicate}
 use Rattle.std.proofs.Math.Path.{refl, sym, ap, subst}
 use Rattle.std.proofs.Common.{◌∙◌, arith}
 use mathlib.Core.List.{List, [], ◌∷◌, map}
 use Rattle.std.proofs.Math.Seq.{get_or-set_same, get_or-set_other}
-use Rattle.model.specs.Geometry.{Geometry, base, width, height, screen_bytes}
+use Rattle.model.specs.Geometry.{Geometry, base, screen_bytes}
 use Rattle.model.specs.Glass.{IsGlass}
-use Rattle.model.specs.Rects.{In}
 use Rattle.model.specs.Calls.{opening, send, Lent, lent, Lending, to_open, record_only, with_memory, with_fonts, with-panel, takes, outcome}
-use Rattle.model.specs.Lists.{accepted, Typed, Item, here, elsewhere, Buffers, buffers, panel_buffer, lent_to_send, lent_to, given_back, leaves, after, run, own_band, Differs, differing}
+use Rattle.model.specs.Lists.{accepted, Typed, Item, here, elsewhere, Buffers, buffers, panel_buffer, lent_to_send, lent_to, given_back, leaves, after, run, differing}
 use Rattle.model.specs.Controller.{register_bytes, Device, device}
 use Rattle.model.specs.Driver.{Driven, driven, drive_outcome}
-use Rattle.laws.specs.Tests.{by_eq, clash}
+use Rattle.laws.specs.Tests.{by_eq}
 use Rattle.laws.specs.ListLaws.{map-replicate}
 use Rattle.laws.specs.Glasses.{base_glass}
 use Rattle.order.specs.Step.{Lendable}
 use Rattle.order.specs.EachCall.{buffer_there, item_step}
-use Rattle.order.specs.Accepted.{accepted_calls, named}
 use Rattle.order.specs.Order.{standing-opened}
-use Rattle.order.specs.Theorem.{pending_in, lines_in, most_lines, screen_in, Promised}
+use Rattle.order.specs.Theorem.{lines_in, screen_in, Promised}
 use Rattle.driving.specs.Sends.{Free, Same, same_send}
 use Rattle.order.proofs.Theorem.{calls_on_any_glass}
 use Rattle.driving.specs.InAnyOrder.{Driving, device_of, Each, NotTo, DrivenItem, drive, other, leaves_driven, after_driven, run_driven, as_sent, Behind, Beside, opens_no_panel, open_item, PanelPromised, PromisedDriven}

@@ -1,21 +1,18 @@
 -- The theorems of specs/Theorem.antt: driven sends are as direct ones, and a driver call stores just the bytes of its line.
-use Rattle.std.specs.Prelude.{◌≡◌, refl, true, false, List, [], ◌∷◌, ℕ, zero, suc, ◌+◌, ◌≤◌, ◌<◌, length}
+use Rattle.std.specs.Prelude.{◌≡◌, refl, false, List, ◌∷◌, ℕ, zero, suc, ◌≤◌, ◌<◌, length}
 use Rattle.std.proofs.Common.{ap, ◌∙◌, arith}
 use Rattle.model.specs.Geometry.{Geometry, width, height, screen_bytes}
 use Rattle.model.specs.Glass.{IsGlass}
 use Rattle.model.specs.Bytes.{Bytes}
-use Rattle.model.specs.declared.Rect.{Rect}
-use Rattle.model.specs.Rects.{is_empty}
 use Rattle.model.specs.Refusals.{refusal, ruled}
-use Rattle.model.specs.Pixels.{place}
 use Rattle.model.specs.Record.{listing}
-use Rattle.model.specs.Calls.{send, Lent, lent, answered, done, outcome}
+use Rattle.model.specs.Calls.{send, lent, answered, done, outcome}
 use Rattle.model.specs.Controller.{busy, Device, device, answer, run_device}
-use Rattle.model.specs.Driver.{byte_count, Driven, driven, line_writes, driver_writes, drive_refusals, drive_done, drive_outcome}
+use Rattle.model.specs.Driver.{byte_count, Driven, driven, driver_writes, drive_refusals, drive_done, drive_outcome}
 use Rattle.laws.specs.Memory.{length-window}
 use Rattle.device.specs.Device.{Sound, fields_of}
-use Rattle.driving.specs.Copies.{line_at, pixel_of, pixel_in, pixel-of}
-use Rattle.driving.specs.Writes.{AllDone, stored_bytes, line-done, line_room}
+use Rattle.driving.specs.Copies.{line_at, pixel_in, pixel-of}
+use Rattle.driving.specs.Writes.{line-done, line_room}
 use Rattle.driving.specs.Sends.{Free, drivable, to_send, line_lies, image_long, same_send}
 use Rattle.driving.specs.Theorem.{driven_answers, driven_left, sent_answers, sent_left, DrivenAsSent, LineBytes, JustTheBytes}
 

@@ -1,26 +1,18 @@
 -- Driven panels, in any order of calls: the driver's calls in the place of the sends to them, and every other call as it is. Each driven panel has a device of its own. Record,
 -- memory and all buffers stand as with direct sends, and each device's panel is as its panel's buffer there: what crates/order promises of that buffer holds of it.
-use Rattle.std.specs.Prelude.{◌≡◌, ◌≢◌, ◌⊎◌, Bool, true, false, ℕ, zero, suc, ◌-◌, ◌≤◌, ◌<◌, length, get_or, set, replicate}
-use Rattle.std.proofs.Math.Path.{refl, sym, ap, subst}
-use Rattle.std.proofs.Common.{◌∙◌, arith}
+use Rattle.std.specs.Prelude.{◌≡◌, ◌≢◌, ◌⊎◌, Bool, true, false, ℕ, ◌-◌, ◌≤◌, ◌<◌, length, get_or, set, replicate}
+use Rattle.std.proofs.Math.Path.{refl, ap}
 use mathlib.Core.List.{List, [], ◌∷◌, map}
-use Rattle.std.proofs.Math.Seq.{get_or-set_same, get_or-set_other}
-use Rattle.model.specs.Geometry.{Geometry, base, width, height, screen_bytes}
-use Rattle.model.specs.Glass.{IsGlass}
+use Rattle.model.specs.Geometry.{Geometry, width, height, screen_bytes}
 use Rattle.model.specs.Rects.{In}
-use Rattle.model.specs.Calls.{opening, send, Lent, lent, Lending, to_open, record_only, with_memory, with_fonts, with-panel, takes, outcome}
-use Rattle.model.specs.Lists.{accepted, Typed, Item, here, elsewhere, Buffers, buffers, panel_buffer, lent_to_send, lent_to, given_back, leaves, after, run, own_band, Differs, differing}
-use Rattle.model.specs.Controller.{register_bytes, Device, device}
-use Rattle.model.specs.Driver.{Driven, driven, drive_outcome}
-use Rattle.laws.specs.Tests.{by_eq, clash}
-use Rattle.laws.specs.ListLaws.{map-replicate}
-use Rattle.laws.specs.Glasses.{base_glass}
-use Rattle.order.specs.Step.{Lendable}
-use Rattle.order.specs.EachCall.{buffer_there, item_step}
+use Rattle.model.specs.Calls.{opening, send, Lending, to_open, record_only, with_memory, with_fonts, with-panel, takes}
+use Rattle.model.specs.Lists.{Typed, Item, here, elsewhere, Buffers, buffers, panel_buffer, after, run, own_band, Differs, differing}
+use Rattle.model.specs.Controller.{Device, device}
+use Rattle.model.specs.Driver.{driven, drive_outcome}
+use Rattle.laws.specs.Tests.{clash}
 use Rattle.order.specs.Accepted.{accepted_calls, named}
-use Rattle.order.specs.Order.{standing-opened}
 use Rattle.order.specs.Theorem.{pending_in, lines_in, most_lines, screen_in, Promised}
-use Rattle.driving.specs.Sends.{Free, Same, same_send}
+use Rattle.driving.specs.Sends.{Free}
 
 -- what stands between the calls: the buffers, of which those of driven panels are the driver's images, and a device for each panel's number; that of a panel that is not
 -- driven is never used

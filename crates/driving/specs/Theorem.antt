@@ -1,23 +1,17 @@
 -- Driven sends leave what direct sends leave. docs/THEOREM.md says it in words. The device, its calls and `run_device` stand in crates/model/specs/Controller.antt, the
 -- driver in Driver.antt there; Free, a device that the driver may use, and toSend in Sends.antt here.
-use Rattle.std.specs.Prelude.{◌≡◌, refl, true, false, List, [], ◌∷◌, ℕ, zero, suc, ◌+◌, ◌≤◌, ◌<◌, length}
-use Rattle.std.proofs.Common.{ap, ◌∙◌, arith}
-use Rattle.model.specs.Geometry.{Geometry, width, height, screen_bytes}
-use Rattle.model.specs.Glass.{IsGlass}
-use Rattle.model.specs.Bytes.{Bytes}
+use Rattle.std.specs.Prelude.{◌≡◌, true, false, List, [], ◌∷◌, ℕ, zero, suc, ◌+◌, ◌≤◌, ◌<◌}
+use Rattle.model.specs.Geometry.{Geometry}
 use Rattle.model.specs.declared.Rect.{Rect}
 use Rattle.model.specs.Rects.{is_empty}
-use Rattle.model.specs.Refusals.{refusal, ruled}
 use Rattle.model.specs.Pixels.{place}
 use Rattle.model.specs.Record.{listing}
-use Rattle.model.specs.Calls.{send, Lent, lent, answered, done, outcome}
-use Rattle.model.specs.Controller.{busy, Device, device, answer, run_device}
-use Rattle.model.specs.Driver.{byte_count, Driven, driven, line_writes, driver_writes, drive_refusals, drive_done, drive_outcome}
-use Rattle.laws.specs.Memory.{length-window}
-use Rattle.device.specs.Device.{Sound, fields_of}
-use Rattle.driving.specs.Copies.{line_at, pixel_of, pixel_in, pixel-of}
-use Rattle.driving.specs.Writes.{AllDone, stored_bytes, line-done, line_room}
-use Rattle.driving.specs.Sends.{Free, drivable, to_send, line_lies, image_long, same_send}
+use Rattle.model.specs.Calls.{send, Lent, outcome}
+use Rattle.model.specs.Controller.{Device, run_device}
+use Rattle.model.specs.Driver.{byte_count, Driven, line_writes, drive_outcome}
+use Rattle.driving.specs.Copies.{line_at, pixel_of}
+use Rattle.driving.specs.Writes.{AllDone, stored_bytes}
+use Rattle.driving.specs.Sends.{Free}
 
 -- ---- n sends to panel k, driven or direct: what they answer, codes first, and what they leave
 

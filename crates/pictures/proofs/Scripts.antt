@@ -14,15 +14,15 @@ use Rattle.model.specs.Memory.{zeros, screen_of, with_screen}
 use Rattle.model.specs.Record.{State, nothing_pending, panel_of, windows, encode, with_panel, WellFormed}
 use Rattle.model.specs.Refusals.{refusal}
 use Rattle.model.specs.Marks.{update_dirty, join_owed, owing, within, owes, marked, drawn_on}
-use Rattle.model.specs.Open.{clear_memory, open_pending, open_state}
+use Rattle.model.specs.Open.{open_pending, open_state}
 use Rattle.model.specs.Points.{point_op, point_rect, point as pointDrawing}
 use Rattle.model.specs.Sends.{first_owed, rest_owed, take_owed, next_line, line_sent, send_pending, line_numbers, send_numbers, copy_line, send_panel}
 use Rattle.model.specs.Shapes.{point}
 use Rattle.model.specs.Calls.{Call, draw, send, Lent, lent, answered, drawing_with, done, outcome}
 use Rattle.model.specs.Lists.{owed_lines, lines_left, differs, sum, differing}
 use Rattle.model.specs.Characters.{bytes_of}
-use Rattle.model.specs.Script.Read.{ScriptLine, on_first, script_lines, is_digit, goes_on, take_digits, at_most, take_number, take_word, or_taken, take_mode, take_piece, is_field, with_field, and_then, matched, call_line, if_matched, read_line, read_script}
-use Rattle.model.specs.Script.Output.{spelled, spaced, printed, said, line_prints, line_leaves, no_keys, opened, ending, run_lines_from, run_lines, script_text}
+use Rattle.model.specs.Script.Read.{ScriptLine, call_line}
+use Rattle.model.specs.Script.Output.{printed, said, line_prints, line_leaves, no_keys, ending, run_lines_from, run_lines}
 use Rattle.laws.specs.Calls.{own_decide, outcome-done}
 use Rattle.laws.specs.Glasses.{base_glass}
 use Rattle.laws.specs.Record.{decode-encode}
@@ -33,8 +33,6 @@ use Rattle.laws.specs.Counts.{byte_differs, bytes_differ, differing_bytes}
 use Rattle.laws.specs.Bands.{well_send}
 use Rattle.laws.specs.Formed.{panel_formed, marked_formed}
 use Rattle.laws.specs.Opening.{open_formed}
-use Rattle.order.specs.Opens.{length-clear-memory}
-use Rattle.order.specs.Witnesses.{cleared_screen}
 use Rattle.pictures.specs.Picture.{rect}
 
 -- ---- the record

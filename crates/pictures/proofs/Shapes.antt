@@ -1,5 +1,5 @@
 -- The pictures of points, lines, boxes, circles and bitmaps: each computes from its drawing.
-use Rattle.std.specs.Prelude.{◌≡◌, ◌≢◌, [], ◌∷◌, ℕ, ◌+◌, ◌≤◌, ◌<◌, ℤ, pos, negsuc, get_or, take}
+use Rattle.std.specs.Prelude.{◌≡◌, [], ◌∷◌, ℕ, ◌+◌, ◌≤◌, ◌<◌, ℤ, pos, negsuc, get_or, take}
 use Rattle.std.proofs.Math.Path.{refl, ap}
 use Rattle.std.proofs.Common.{◌∙◌, inr, arith, drop-cons, le-leb}
 use Rattle.model.specs.declared.Edge.TheVariants.{Stop}
@@ -21,7 +21,7 @@ use Rattle.model.specs.Calls.{draw, Lent, lent, Outcome, answered, refusals, dra
 use Rattle.laws.specs.Memory.{window_back}
 use Rattle.laws.specs.Calls.{own_decide}
 use Rattle.laws.specs.Updates.{unmarked}
-use Rattle.pictures.specs.Picture.{screen_in, rect, nothing, first, last, down_from, sets, clears, inverts, graphics_in, edge_flag, Unmarked, Drew, Picture, EdgePicture}
+use Rattle.pictures.specs.Picture.{rect, nothing, first, last, down_from, sets, clears, inverts, graphics_in, Unmarked, Drew, Picture, EdgePicture}
 use Rattle.pictures.specs.Writes.{hits, made, alike, names, all_of, pictured}
 use Rattle.pictures.specs.Drawings.{passing, screen_fits, entered, done_on, drew_as, drew}
 

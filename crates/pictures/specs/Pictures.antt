@@ -1,6 +1,6 @@
 -- The known pictures of document 01 that it stars, both of its scripts, and pictures of our own, from the definitions of crates/model/specs. Picture.antt says what a picture is:
 -- each starts with dirty and owed empty, in any record that passes STATE and over any memory. `script_text` of crates/model/specs/Script/Output.antt is what a script prints.
-use Rattle.std.specs.Prelude.{◌≡◌, refl, List, [], ◌∷◌, ◌++◌, ℕ, ◌+◌, ◌*◌, ◌/◌, ◌%◌, ◌≤◌, ◌<◌, ℤ, pos, negsuc, length, get_or}
+use Rattle.std.specs.Prelude.{◌≡◌, List, [], ◌∷◌, ◌++◌, ℕ, ◌+◌, ◌*◌, ◌/◌, ◌%◌, ◌≤◌, ◌<◌, ℤ, pos, negsuc, length, get_or}
 use Prim.Native.Char.{code}
 use Rattle.model.specs.declared.Found.{Found}
 use Rattle.model.specs.declared.Found.TheVariants.{At, Nothing}
@@ -12,13 +12,12 @@ use Rattle.model.specs.Pixels.{bit}
 use Rattle.model.specs.Rects.{none}
 use Rattle.model.specs.Refusals.{SOURCE}
 use Rattle.model.specs.Ellipses.{part, parts, steps}
-use Rattle.model.specs.Codes.{in_row, index_in, emoji_index, gb_index, extra_offset}
+use Rattle.model.specs.Codes.{emoji_index, gb_index, extra_offset}
 use Rattle.model.specs.Glyphs.{Fonts, glyph_or, glyph_of}
 use Rattle.model.specs.Shapes.{point, line, box, circle, bitmap}
 use Rattle.model.specs.Calls.{draw, Lent, answered, outcome}
 use Rattle.model.specs.Characters.{bytes_of}
 use Rattle.model.specs.Script.Output.{script_text}
-use Rattle.laws.specs.Glyphs.{empty_row}
 use Rattle.pictures.specs.Picture.{screen_in, edge_flag, rect, nothing, first, last, down_from, sets, clears, inverts, Unmarked, Drew, Picture, EdgePicture, OnePair, character, over, digits_of, corner, corner_glyph, Shows}
 use Rattle.pictures.specs.Drawings.{clear_bytes}
 

@@ -10,7 +10,7 @@ use Rattle.model.specs.declared.Sent.{Sent}
 use Rattle.model.specs.Geometry.{base}
 use Rattle.model.specs.Refusals.{refusal, ruled}
 use Rattle.model.specs.Shapes.{Shape, point, line}
-use Rattle.model.specs.Calls.{Call, draw, write_byte, send, Lent, lent, Outcome, answered, sent_numbers, refusals, numbers, drawing_with, done, refused, outcome}
+use Rattle.model.specs.Calls.{Call, draw, write_byte, send, Lent, lent, Outcome, answered, sent_numbers, refusals, drawing_with, done, refused, outcome}
 use Rattle.model.specs.Characters.{bytes_of}
 use Rattle.model.specs.Script.Read.{call_line}
 use Rattle.model.specs.Script.Output.{printed, spaced, said, line_prints, line_leaves, ending}

@@ -13,7 +13,7 @@ use Rattle.model.specs.Rects.{is_empty}
 use Rattle.model.specs.Refusals.{ruled}
 use Rattle.model.specs.Sends.{take_owed, line_numbers, send_numbers}
 use Rattle.model.specs.Shapes.{Shape}
-use Rattle.model.specs.Calls.{draw, write_byte, send, Lent, Outcome, answered, numbers, done, refused, outcome}
+use Rattle.model.specs.Calls.{draw, write_byte, send, Lent, Outcome, answered, done, refused, outcome}
 use Rattle.model.specs.Characters.{bytes_of}
 use Rattle.model.specs.Script.Read.{Match, unmatched, matched_with, ScriptLine, bad_line, if_matched, point_form, line_form, poke_form, send_form, read_line, script_lines, read_script}
 use Rattle.model.specs.Script.Output.{spelled, decimal, spaced, printed, said, line_prints, line_leaves, opened, ending, run_lines_from, run_lines, longest, script_text}

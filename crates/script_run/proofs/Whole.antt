@@ -29,7 +29,7 @@ use Rattle.record.specs.Entry.{Chosen}
 use Rattle.script.specs.declared.LineOrEnd.{LineOrEnd}
 use Rattle.script.specs.Meaning.{standing}
 use Rattle.script.specs.Lines.{lines_from}
-use Rattle.script.proofs.Splitting.{first_reads, others_read, read_le}
+use Rattle.script.proofs.Splitting.{first_reads, others_read}
 use Rattle.script_run.specs.declared.Progress.{Progress}
 use Rattle.script_run.specs.Buffers.{Wrote, BuffersSized, next_prints, next_leaves, number_after, has_line, AnsweredNext}
 use Rattle.script_run.proofs.Writing.{wrote_as, wrote_length}

@@ -12,7 +12,7 @@ use marks::mark;
 use record::glass::{canvas_of, glass_of};
 
 // The key words, one after another.
-fn store_keys(rec: &mut [u8], at: usize, keys: [u32; 8])
+pub fn store_keys(rec: &mut [u8], at: usize, keys: [u32; 8])
     requires { (at + 32 ≤ length rec.old) × (length keys ≡ 8) }
     ensures { rec.new ≡ with_window at (words_bytes keys) rec.old }
 {
@@ -23,7 +23,7 @@ fn store_keys(rec: &mut [u8], at: usize, keys: [u32; 8])
     }
 }
 
-fn store_edge(rec: &mut [u8], at: usize, edge: u8)
+pub fn store_edge(rec: &mut [u8], at: usize, edge: u8)
     requires { at < length rec.old }
     ensures { rec.new ≡ with_window at (edge ∷ []) rec.old }
 {

@@ -1,7 +1,6 @@
 use mathlib.Core.Path.{sym, ◌∙◌}
 use native.Mathlib.Omega.{arith}
 use Rattle.laws.specs.PaintedBits.{before}
-use borrow.Author.Rules.{rules}
 use Rattle.bit_runs.proofs.byte_before.Goals as goal
 
 pub returns : goal.returns

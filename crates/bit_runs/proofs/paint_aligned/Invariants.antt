@@ -1,10 +1,8 @@
 -- The loop's invariant: the bytes before `at` are painted.
-use mathlib.Core.Path.{◌≡◌, refl, ap, ◌∙◌}
-use Prim.Native.Nat.{ℕ, ◌≤◌, ◌+◌, ◌-◌, ◌*◌}
-use native.Mathlib.Omega.{arith}
-use lib.ListN.{length, length-set}
-use Rattle.model.specs.Bytes.{Bytes}
-use Rattle.laws.specs.PaintedBits.{painted_bits, bits_none, bytes_turn, aligned_source}
+use mathlib.Core.Path.{◌≡◌}
+use Prim.Native.Nat.{◌≤◌, ◌+◌, ◌-◌, ◌*◌}
+use lib.ListN.{length}
+use Rattle.laws.specs.PaintedBits.{painted_bits}
 use Rattle.bit_runs.proofs.paint_aligned.Given as goal
 
 abbrev pub invariant-loop-at : goal.invariant-loop-at

@@ -3,7 +3,6 @@ use native.Mathlib.Omega.{arith}
 use Rattle.model.specs.Bytes.{Bytes}
 use Rattle.laws.specs.Tests.{either}
 use Rattle.laws.specs.PaintedBits.{one_byte, many_bytes}
-use borrow.Author.Rules.{rules}
 use Rattle.bit_runs.proofs.paint_bits.Goals as goal
 
 pub returns-then-first-last : goal.returns-then-first-last

@@ -1,4 +1,3 @@
-use borrow.Author.Rules.{rules}
 use Rattle.bit_runs.proofs.paint_byte.Goals as goal
 
 pub returns-in-Or : goal.returns-in-Or

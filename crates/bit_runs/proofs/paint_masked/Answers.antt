@@ -1,5 +1,4 @@
 use mathlib.Core.Path.{refl}
-use borrow.Author.Rules.{rules}
 use Rattle.bit_runs.proofs.paint_masked.Goals as goal
 
 pub returns : goal.returns

@@ -1,7 +1,6 @@
 use mathlib.Core.Path.{◌∙◌}
 use Prim.Native.Nat.{◌%◌}
 use Rattle.laws.specs.PaintedBits.{shifted}
-use borrow.Author.Rules.{rules}
 use Rattle.bit_runs.proofs.source_byte.Goals as goal
 
 pub returns : goal.returns

@@ -1,6 +1,5 @@
 use Rattle.laws.specs.Parts.{part-window}
 use Rattle.laws.specs.PaintedMemory.{copied}
-use borrow.Author.Rules.{rules}
 use Rattle.bitmap_bytes.proofs.copy_both.Goals as goal
 
 pub returns : goal.returns

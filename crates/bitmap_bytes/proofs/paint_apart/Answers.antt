@@ -5,7 +5,6 @@ use Rattle.model.specs.Bitmaps.{source_bytes}
 use Rattle.laws.specs.Bitmaps.{bitmap_beside, bitmap-below}
 use Rattle.laws.specs.PaintedMemory.{none_in, painted-in}
 use Rattle.bitmap.proofs.Sources.{visible-given, visible_lies}
-use borrow.Author.Rules.{rules}
 use Rattle.bitmap_bytes.proofs.paint_apart.Goals as goal
 
 pub returns-then-across : goal.returns-then-across

@@ -2,7 +2,6 @@ use native.Mathlib.Omega.{arith}
 use mir.Syntax.{w32}
 use mir.Facts.{to_z-of_z}
 use Rattle.laws.specs.PaintedMemory.{placed}
-use borrow.Author.Rules.{rules}
 use Rattle.bitmap_bytes.proofs.paint_bitmap_by_bytes.Goals as goal
 
 pub paint_apart-requires : goal.paint_apart-requires

@@ -8,7 +8,6 @@ use Rattle.model.specs.Bitmaps.{source_bytes, bitmap}
 use Rattle.laws.specs.PaintedMemory.{copied_in}
 use Rattle.bitmap_bytes.specs.InMemory.{size}
 use Rattle.bitmap_bytes.proofs.Copies.{both_room, copies_hold}
-use borrow.Author.Rules.{rules}
 use Rattle.bitmap_bytes.proofs.paint_copied.Goals as goal
 
 pub copy_both-requires : goal.copy_both-requires

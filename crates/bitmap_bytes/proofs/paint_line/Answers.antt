@@ -1,6 +1,5 @@
 use native.Mathlib.Omega.{arith}
-use Rattle.laws.specs.PaintedMemory.{LineLies, line_lies}
-use borrow.Author.Rules.{rules}
+use Rattle.laws.specs.PaintedMemory.{line_lies}
 use Rattle.bitmap_bytes.proofs.paint_line.Goals as goal
 
 pub bit_of-to-requires : goal.bit_of-to-requires

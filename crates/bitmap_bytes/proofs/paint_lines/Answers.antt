@@ -1,9 +1,7 @@
-use mathlib.Core.Path.{◌≡◌, refl}
-use Prim.Native.Nat.{◌≤◌, ◌+◌, ◌-◌, ◌*◌}
+use mathlib.Core.Path.{refl}
 use native.Mathlib.Omega.{arith}
-use lib.ListN.{length}
 use Rattle.laws.specs.Pixels.{row_below}
-use Rattle.laws.specs.PaintedMemory.{Placed, painted_in, turn_in, end_in}
+use Rattle.laws.specs.PaintedMemory.{turn_in, end_in}
 use Rattle.bitmap_bytes.proofs.paint_lines.Goals as goal
 
 pub loop-y-init : goal.loop-y-init

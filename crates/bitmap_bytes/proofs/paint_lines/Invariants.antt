@@ -1,10 +1,8 @@
 -- The loop's invariant: the rest of the lines, painted in memory as it stands, gives the whole bitmap.
-use mathlib.Core.Path.{◌≡◌, refl}
+use mathlib.Core.Path.{◌≡◌}
 use Prim.Native.Nat.{◌≤◌, ◌+◌, ◌-◌, ◌*◌}
-use native.Mathlib.Omega.{arith}
 use lib.ListN.{length}
-use Rattle.laws.specs.Pixels.{row_below}
-use Rattle.laws.specs.PaintedMemory.{Placed, painted_in, turn_in, end_in}
+use Rattle.laws.specs.PaintedMemory.{Placed, painted_in}
 use Rattle.bitmap_bytes.proofs.paint_lines.Given as goal
 
 abbrev pub invariant-loop-y : goal.invariant-loop-y

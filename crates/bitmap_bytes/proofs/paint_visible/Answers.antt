@@ -1,10 +1,9 @@
-use mathlib.Core.Path.{◌≡◌, ap, ◌∙◌}
+use mathlib.Core.Path.{ap, ◌∙◌}
 use Prim.Native.Nat.{ℕ, ◌-◌, ◌*◌}
 use native.Mathlib.Omega.{arith}
 use borrow.Author.Tests.{eqb-true}
 use Rattle.model.specs.Bytes.{Bytes}
-use Rattle.laws.specs.PaintedMemory.{WholeLies, whole_lies}
-use borrow.Author.Rules.{rules}
+use Rattle.laws.specs.PaintedMemory.{whole_lies}
 use Rattle.bitmap_bytes.proofs.paint_visible.Goals as goal
 
 pub bit_of-to-requires : goal.bit_of-to-requires

@@ -1,9 +1,6 @@
-use borrow.Author.Rules.{rules}
-use native.Mathlib.Omega.{arith}
 use mathlib.Core.Path.{◌≡◌}
 use Prim.Native.Nat.{◌+◌, ◌-◌, ◌*◌, ◌≤◌}
 use lib.ListN.{length, drop}
-use Rattle.level.proofs.Counting.{count_turn, count_end}
 use Rattle.laws.specs.Counts.{bytes_differ}
 use Rattle.level.proofs.count_differing.Given as goal
 

@@ -1,10 +1,7 @@
-use native.Mathlib.Omega.{arith}
-use borrow.Author.Rules.{rules}
 use mathlib.Core.Path.{◌≡◌}
 use Prim.Native.Nat.{◌+◌, ◌*◌, ◌≤◌}
 use Rattle.model.specs.Bytes.{rects_at}
 use Rattle.model.specs.Lists.{owed_lines}
-use Rattle.level.proofs.Counting.{left_turn, left_end}
 use Rattle.level.proofs.lines_left.Given as goal
 
 abbrev pub invariant-loop-left : goal.invariant-loop-left

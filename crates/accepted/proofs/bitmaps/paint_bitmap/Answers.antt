@@ -12,7 +12,6 @@ use Rattle.record.proofs.Lengths.{head_there}
 use Rattle.updates.proofs.Drawing.{loaded, screen_room, screen-part, drew}
 use Rattle.updates.proofs.Kept.{kept, kept_length, kept_room}
 use Rattle.accepted.proofs.Painting.{is_source, source_length}
-use borrow.Author.Rules.{rules}
 use Rattle.accepted.proofs.bitmaps.paint_bitmap.Goals as goal
 
 pub overflow_add-end : goal.overflow_add-end

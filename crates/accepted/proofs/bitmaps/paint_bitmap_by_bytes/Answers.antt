@@ -8,7 +8,6 @@ use Rattle.model.specs.Calls.{done}
 use Rattle.record.proofs.Lengths.{head_there}
 use Rattle.updates.proofs.Drawing.{loaded, screen_room, screen-bytes, screen_window, drew_in}
 use Rattle.accepted.proofs.Painting.{is_source, screen_kept}
-use borrow.Author.Rules.{rules}
 use Rattle.accepted.proofs.bitmaps.paint_bitmap_by_bytes.Goals as goal
 
 pub load_head-from-requires : goal.load_head-from-requires

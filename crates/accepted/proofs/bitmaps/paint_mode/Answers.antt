@@ -1,7 +1,6 @@
 use Prim.Native.Nat.{◌≤◌}
 use native.Mathlib.Omega.{arith}
 use Rattle.accepted.proofs.Painting.{last_mode}
-use borrow.Author.Rules.{rules}
 use Rattle.accepted.proofs.bitmaps.paint_mode.Goals as goal
 
 pub returns-in_default : goal.returns-in_default

@@ -1,7 +1,6 @@
 use mathlib.Core.Path.{ap, ◌∙◌}
 use Rattle.model.specs.Ellipses.{radii_fit}
 use Rattle.model.specs.Shapes.{filled}
-use borrow.Author.Rules.{rules}
 use Rattle.accepted.proofs.ellipses.radii_fit.Goals as goal
 
 pub returns : goal.returns

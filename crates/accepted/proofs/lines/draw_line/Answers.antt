@@ -5,7 +5,6 @@ use Rattle.model.specs.Lines.{line}
 use Rattle.model.specs.Calls.{done}
 use Rattle.record.proofs.Lengths.{head_there}
 use Rattle.updates.proofs.Drawing.{loaded, screen_room, screen-part, drew}
-use borrow.Author.Rules.{rules}
 use Rattle.accepted.proofs.lines.draw_line.Goals as goal
 
 pub load_head-from-requires : goal.load_head-from-requires

@@ -1,5 +1,4 @@
 use Rattle.accepted.proofs.Opening.{opened_sized, was_opened}
-use borrow.Author.Rules.{rules}
 use Rattle.accepted.proofs.open.open.Goals as goal
 
 pub open_record-requires : goal.open_record-requires

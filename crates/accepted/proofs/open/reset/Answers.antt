@@ -1,5 +1,4 @@
 use Rattle.accepted.proofs.Opening.{was_reset}
-use borrow.Author.Rules.{rules}
 use Rattle.accepted.proofs.open.reset.Goals as goal
 
 pub clear_memory-requires : goal.clear_memory-requires

@@ -2,7 +2,6 @@ use mir.Syntax.{w32}
 use mir.Facts.{to_z-of_z}
 use Rattle.record.proofs.Lengths.{head_there}
 use Rattle.updates.proofs.Drawing.{loaded, screen_room, screen-part, checked}
-use borrow.Author.Rules.{rules}
 use Rattle.accepted.proofs.points.check_point.Goals as goal
 
 pub load_head-from-requires : goal.load_head-from-requires

@@ -1,7 +1,6 @@
 use Prim.Native.Nat.{◌≤◌}
 use Rattle.updates.proofs.Drawing.{unknown_mode}
 use native.Mathlib.Omega.{arith}
-use borrow.Author.Rules.{rules}
 use Rattle.accepted.proofs.points.draw_mode.Goals as goal
 
 pub returns-in_default : goal.returns-in_default

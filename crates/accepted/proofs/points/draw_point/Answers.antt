@@ -2,7 +2,6 @@ use Rattle.model.specs.Points.{point}
 use Rattle.model.specs.Calls.{done}
 use Rattle.record.proofs.Lengths.{head_there}
 use Rattle.updates.proofs.Drawing.{loaded, screen_room, screen-part, drew}
-use borrow.Author.Rules.{rules}
 use Rattle.accepted.proofs.points.draw_point.Goals as goal
 
 pub load_head-from-requires : goal.load_head-from-requires

@@ -1,6 +1,5 @@
 use native.Mathlib.Omega.{arith}
 use Rattle.accepted.proofs.Poking.{line-below, column_below, eight_pixels}
-use borrow.Author.Rules.{rules}
 use Rattle.accepted.proofs.poke.byte_rect.Goals as goal
 
 pub overflow_mul-left : goal.overflow_mul-left

@@ -1,6 +1,5 @@
 use native.Mathlib.Omega.{arith}
 use Rattle.accepted.proofs.Poking.{part-fits, column_found}
-use borrow.Author.Rules.{rules}
 use Rattle.accepted.proofs.poke.column_of.Goals as goal
 
 pub overflow_mul-result : goal.overflow_mul-result

@@ -1,6 +1,5 @@
 use native.Mathlib.Omega.{arith}
 use Rattle.accepted.proofs.Poking.{product_fits}
-use borrow.Author.Rules.{rules}
 use Rattle.accepted.proofs.poke.in_lines.Goals as goal
 
 pub overflow_mul-result : goal.overflow_mul-result

@@ -1,5 +1,4 @@
 use Rattle.accepted.proofs.Poking.{in-screen}
-use borrow.Author.Rules.{rules}
 use Rattle.accepted.proofs.poke.in_screen.Goals as goal
 
 pub returns : goal.returns

@@ -1,5 +1,4 @@
 use Rattle.accepted.proofs.Poking.{is_ignored}
-use borrow.Author.Rules.{rules}
 use Rattle.accepted.proofs.poke.is_ignored.Goals as goal
 
 pub returns : goal.returns

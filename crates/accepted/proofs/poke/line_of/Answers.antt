@@ -1,6 +1,5 @@
 use native.Mathlib.Omega.{arith}
 use Rattle.accepted.proofs.Poking.{line_found}
-use borrow.Author.Rules.{rules}
 use Rattle.accepted.proofs.poke.line_of.Goals as goal
 
 pub returns : goal.returns

@@ -2,7 +2,6 @@ use borrow.Author.Tests.{not-true, not-false}
 use Rattle.record.proofs.Lengths.{sized_for, head_there}
 use Rattle.updates.proofs.Drawing.{loaded}
 use Rattle.accepted.proofs.Poking.{from_base, on_screen, poke_ignored, poke_elsewhere, poke_screen}
-use borrow.Author.Rules.{rules}
 use Rattle.accepted.proofs.poke.write_byte.Goals as goal
 
 pub is_ignored-requires : goal.is_ignored-requires

@@ -1,7 +1,6 @@
 use mathlib.Core.Path.{refl}
 use Rattle.model.specs.Sends.{line_numbers}
 use Rattle.accepted.proofs.Sending.{answers_idle, answers_line}
-use borrow.Author.Rules.{rules}
 use Rattle.accepted.proofs.sends.answer.Goals as goal
 
 pub returns-then-is_empty : goal.returns-then-is_empty

@@ -3,7 +3,6 @@ use native.Mathlib.Omega.{arith}
 use Rattle.record.proofs.Lengths.{passes_for, head_there}
 use Rattle.updates.proofs.Drawing.{loaded, screen_room}
 use Rattle.accepted.proofs.Sending.{panel_for, sent_for, idles, may_copy, sends_line}
-use borrow.Author.Rules.{rules}
 use Rattle.accepted.proofs.sends.send_line.Goals as goal
 
 pub load_head-from-requires : goal.load_head-from-requires

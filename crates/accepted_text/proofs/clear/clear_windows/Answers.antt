@@ -1,5 +1,4 @@
 use Rattle.accepted_text.proofs.Clearing.{windows-cleared}
-use borrow.Author.Rules.{rules}
 use Rattle.accepted_text.proofs.clear.clear_windows.Goals as goal
 
 pub returns : goal.returns

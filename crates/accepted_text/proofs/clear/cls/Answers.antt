@@ -1,6 +1,5 @@
 use Rattle.record.proofs.Lengths.{head_there}
 use Rattle.accepted_text.proofs.Clearing.{keeps_mode}
-use borrow.Author.Rules.{rules}
 use Rattle.accepted_text.proofs.clear.cls.Goals as goal
 
 pub load_head-mode-requires : goal.load_head-mode-requires

@@ -2,7 +2,6 @@ use Rattle.laws.specs.Updates.{screen_small}
 use Rattle.record.proofs.Lengths.{head_there}
 use Rattle.updates.proofs.Drawing.{loaded, screen_room, text_room}
 use Rattle.accepted_text.proofs.Clearing.{flagless, all-marked, was_cleared}
-use borrow.Author.Rules.{rules}
 use Rattle.accepted_text.proofs.clear.set_screen_mode.Goals as goal
 
 pub load_head-requires : goal.load_head-requires

@@ -2,7 +2,6 @@ use Rattle.laws.specs.Cursors.{blink_fits, box_bottom, box_right}
 use Rattle.record.proofs.Lengths.{head_there}
 use Rattle.updates.proofs.Drawing.{loaded, numbers, screen_room, screen-part, text_room}
 use Rattle.accepted_text.proofs.Blinking.{blink_graph, next_passes, blink_drew}
-use borrow.Author.Rules.{rules}
 use Rattle.accepted_text.proofs.cursor.blink_cursor.Goals as goal
 
 pub load_head-h-requires : goal.load_head-h-requires

@@ -1,5 +1,4 @@
 use Rattle.laws.specs.Cursors.{next_new, next-none}
-use borrow.Author.Rules.{rules}
 use Rattle.accepted_text.proofs.cursor.blink_next.Goals as goal
 
 pub returns-then-cursor-eq0 : goal.returns-then-cursor-eq0

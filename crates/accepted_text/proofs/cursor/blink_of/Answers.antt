@@ -1,5 +1,4 @@
 use Rattle.laws.specs.Cursors.{blink_new, blink_old}
-use borrow.Author.Rules.{rules}
 use Rattle.accepted_text.proofs.cursor.blink_of.Goals as goal
 
 pub returns-then-cursor-eq0 : goal.returns-then-cursor-eq0

@@ -1,7 +1,6 @@
 use mathlib.Core.Path.{◌∙◌}
 use Rattle.record.proofs.Lengths.{head_there}
 use Rattle.accepted_text.proofs.Blinking.{clear_none, clear-blinks, clear_graph}
-use borrow.Author.Rules.{rules}
 use Rattle.accepted_text.proofs.cursor.clear_cursor.Goals as goal
 
 pub load_head-h-requires : goal.load_head-h-requires

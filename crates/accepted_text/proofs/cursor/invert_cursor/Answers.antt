@@ -1,7 +1,6 @@
 use mathlib.Core.Path.{◌∙◌}
 use Rattle.model.specs.declared.Edge.TheVariants.{Clamp}
 use Rattle.laws.specs.Cursors.{is_cursor_box}
-use borrow.Author.Rules.{rules}
 use Rattle.accepted_text.proofs.cursor.invert_cursor.Goals as goal
 
 pub returns : goal.returns

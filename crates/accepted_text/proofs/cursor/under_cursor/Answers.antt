@@ -1,6 +1,5 @@
 use native.Mathlib.Omega.{arith}
 use Rattle.accepted_text.proofs.Blinking.{cell_in, byte_under}
-use borrow.Author.Rules.{rules}
 use Rattle.accepted_text.proofs.cursor.under_cursor.Goals as goal
 
 pub overflow_mul-cell : goal.overflow_mul-cell

@@ -6,7 +6,6 @@ use Rattle.record.proofs.Lengths.{head_there}
 use Rattle.updates.proofs.Drawing.{loaded, screen-in, screen_room, text_room, text-length}
 use Rattle.updates.proofs.Kept.{kept, kept_length, kept_room}
 use Rattle.accepted_text.proofs.Flushing.{glyphs_are, text_kept, flags_counted, text_screen, flush_drew}
-use borrow.Author.Rules.{rules}
 use Rattle.accepted_text.proofs.flushes.flush.Goals as goal
 
 pub load_head-h-requires : goal.load_head-h-requires

@@ -2,7 +2,6 @@ use mathlib.Core.Path.{refl, ◌∙◌}
 use Rattle.record.proofs.Lengths.{head_there}
 use Rattle.updates.proofs.Drawing.{loaded, text_room}
 use Rattle.accepted_text.proofs.Flushing.{glyphs_are}
-use borrow.Author.Rules.{rules}
 use Rattle.accepted_text.proofs.flushes.glyphs_fit.Goals as goal
 
 pub load_head-h-requires : goal.load_head-h-requires

@@ -2,7 +2,6 @@ use native.Mathlib.Omega.{arith}
 use Rattle.record.proofs.Lengths.{head_there}
 use Rattle.updates.proofs.Drawing.{loaded, text_room}
 use Rattle.accepted_text.proofs.Printing.{flags_end, ready, few_scrolls, newline_keeps, store_given, page-stored, newline_left}
-use borrow.Author.Rules.{rules}
 use Rattle.accepted_text.proofs.print.newline.Goals as goal
 
 pub load_head-h-requires : goal.load_head-h-requires

@@ -3,7 +3,6 @@ use Rattle.laws.specs.Pages.{print_sheet}
 use Rattle.record.proofs.Lengths.{head_there}
 use Rattle.updates.proofs.Drawing.{loaded, text_room}
 use Rattle.accepted_text.proofs.Printing.{flags_end, ready, no_scrolls, store_given, page-stored, print_left}
-use borrow.Author.Rules.{rules}
 use Rattle.accepted_text.proofs.print.print.Goals as goal
 
 pub load_head-h-requires : goal.load_head-h-requires

@@ -3,7 +3,6 @@ use Rattle.laws.specs.Updates.{screen_small}
 use Rattle.record.proofs.Lengths.{head_there}
 use Rattle.updates.proofs.Drawing.{loaded, screen-in, screen_room}
 use Rattle.accepted_text.proofs.Printing.{rows-lent, page_stays, place_passes, page_follows}
-use borrow.Author.Rules.{rules}
 use Rattle.accepted_text.proofs.print.store_page.Goals as goal
 
 pub load_head-h-requires : goal.load_head-h-requires

@@ -1,6 +1,5 @@
 use Rattle.pixels.proofs.Axis.{axis_cast}
 use Rattle.bitmap.proofs.Signed.{before_cast, before_add, before_visible, after-add, after-visible}
-use borrow.Author.Rules.{rules}
 use Rattle.bitmap.proofs.axis.visible.Goals as goal
 
 pub overflow_cast-before : goal.overflow_cast-before

@@ -2,7 +2,6 @@ use Prim.Native.Nat.{◌*◌}
 use native.Mathlib.Omega.{arith}
 use Rattle.laws.specs.Bitmaps.{bitmap-painted, bitmap_beside, bitmap-below}
 use Rattle.bitmap.proofs.Sources.{visible-given, visible_lies, source_screen}
-use borrow.Author.Rules.{rules}
 use Rattle.bitmap.proofs.paint.paint_bitmap.Goals as goal
 
 pub returns-then-across : goal.returns-then-across

@@ -1,8 +1,5 @@
-use mathlib.Core.Path.{◌≡◌, refl}
-use Prim.Native.Nat.{◌≤◌, ◌+◌, ◌-◌, ◌*◌}
+use mathlib.Core.Path.{refl}
 use native.Mathlib.Omega.{arith}
-use Rattle.model.specs.Pixels.{Screen, draw}
-use Rattle.model.specs.Bitmaps.{painted_line}
 use Rattle.laws.specs.Writes.{screen_write}
 use Rattle.laws.specs.Bitmaps.{line_turn, line_end}
 use Rattle.bitmap.proofs.paint.paint_line.Goals as goal

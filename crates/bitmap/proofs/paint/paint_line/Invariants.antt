@@ -1,11 +1,8 @@
 -- The loop's invariant: the rest of the line, painted on the screen as it stands, gives the whole line.
-use mathlib.Core.Path.{◌≡◌, refl}
+use mathlib.Core.Path.{◌≡◌}
 use Prim.Native.Nat.{◌≤◌, ◌+◌, ◌-◌, ◌*◌}
-use native.Mathlib.Omega.{arith}
 use Rattle.model.specs.Pixels.{Screen, draw}
 use Rattle.model.specs.Bitmaps.{painted_line}
-use Rattle.laws.specs.Writes.{screen_write}
-use Rattle.laws.specs.Bitmaps.{line_turn, line_end}
 use Rattle.bitmap.proofs.paint.paint_line.Given as goal
 
 abbrev pub invariant-loop-x : goal.invariant-loop-x

@@ -1,8 +1,5 @@
-use mathlib.Core.Path.{◌≡◌, refl}
-use Prim.Native.Nat.{◌≤◌, ◌+◌, ◌-◌}
+use mathlib.Core.Path.{refl}
 use native.Mathlib.Omega.{arith}
-use Rattle.model.specs.Pixels.{Screen, draw}
-use Rattle.model.specs.Bitmaps.{painted_lines}
 use Rattle.laws.specs.Writes.{screen_draw}
 use Rattle.laws.specs.Bitmaps.{lines_turn, lines_end}
 use Rattle.bitmap.proofs.paint.paint_lines.Goals as goal

@@ -1,11 +1,8 @@
 -- The loop's invariant: the rest of the lines, painted on the screen as it stands, gives the whole bitmap.
-use mathlib.Core.Path.{◌≡◌, refl}
+use mathlib.Core.Path.{◌≡◌}
 use Prim.Native.Nat.{◌≤◌, ◌+◌, ◌-◌}
-use native.Mathlib.Omega.{arith}
 use Rattle.model.specs.Pixels.{Screen, draw}
 use Rattle.model.specs.Bitmaps.{painted_lines}
-use Rattle.laws.specs.Writes.{screen_draw}
-use Rattle.laws.specs.Bitmaps.{lines_turn, lines_end}
 use Rattle.bitmap.proofs.paint.paint_lines.Given as goal
 
 abbrev pub invariant-loop-y : goal.invariant-loop-y

@@ -1,6 +1,5 @@
 use native.Mathlib.Omega.{arith}
 use Rattle.bitmap.proofs.Sources.{source_small}
-use borrow.Author.Rules.{rules}
 use Rattle.bitmap.proofs.source.source_bytes.Goals as goal
 
 pub overflow_mul-result : goal.overflow_mul-result

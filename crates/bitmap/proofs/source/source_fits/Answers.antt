@@ -1,6 +1,5 @@
 use native.Mathlib.Omega.{arith}
 use Rattle.bitmap.proofs.Sources.{source_small, source_tested}
-use borrow.Author.Rules.{rules}
 use Rattle.bitmap.proofs.source.source_fits.Goals as goal
 
 pub overflow_add-end : goal.overflow_add-end

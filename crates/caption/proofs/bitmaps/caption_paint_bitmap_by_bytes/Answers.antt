@@ -6,7 +6,6 @@ use mir.Facts.{to_z-of_z}
 use borrow.Author.Tests.{lt-leb, le-leb}
 use Rattle.model.specs.Refusals.{VALUE, SOURCE}
 use Rattle.caption.proofs.Calls.{fails, passes, failed, passed, none_left, stops, stops_later, finishes, given}
-use borrow.Author.Rules.{rules}
 use Rattle.caption.proofs.bitmaps.caption_paint_bitmap_by_bytes.Goals as goal
 
 pub returns-then-code-ne0 : goal.returns-then-code-ne0

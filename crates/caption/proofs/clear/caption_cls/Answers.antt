@@ -1,6 +1,5 @@
 use mathlib.Core.Path.{refl}
 use Rattle.caption.proofs.Calls.{none_left, stops, finishes, given}
-use borrow.Author.Rules.{rules}
 use Rattle.caption.proofs.clear.caption_cls.Goals as goal
 
 pub returns-then-code-ne0 : goal.returns-then-code-ne0

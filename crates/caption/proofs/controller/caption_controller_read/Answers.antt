@@ -2,7 +2,6 @@
 use native.Mathlib.Omega.{arith}
 use Rattle.model.specs.Controller.{read}
 use Rattle.caption.proofs.Devices.{device_stops, read_refused, read_done}
-use borrow.Author.Rules.{rules}
 use Rattle.caption.proofs.controller.caption_controller_read.Goals as goal
 
 -- refused at the entry

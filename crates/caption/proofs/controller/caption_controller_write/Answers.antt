@@ -1,7 +1,6 @@
 -- Three ends: refused at the entry, a write that the device does not take, and what the write leaves.
 use Rattle.model.specs.Controller.{write}
 use Rattle.caption.proofs.Devices.{device_stops, write_refused, write_ready, write_done}
-use borrow.Author.Rules.{rules}
 use Rattle.caption.proofs.controller.caption_controller_write.Goals as goal
 
 -- refused at the entry

@@ -10,7 +10,6 @@ use Rattle.laws.specs.Updates.{head_decoded}
 use Rattle.updates.specs.Update.{updated}
 use Rattle.record.proofs.Lengths.{head_there}
 use Rattle.caption.proofs.Calls.{as_answered, none_left, stops, finishes}
-use borrow.Author.Rules.{rules}
 use Rattle.caption.proofs.dirty.caption_take_dirty_area.Goals as goal
 
 pub returns-then-code-ne0 : goal.returns-then-code-ne0

@@ -3,7 +3,6 @@ use mathlib.Core.Path.{ap}
 use Rattle.model.specs.declared.Sent.{Sent}
 use Rattle.model.specs.Calls.{sent_numbers}
 use Rattle.caption.proofs.Devices.{as_answer, drive_stops, registers-lent, drive_stops_later, tested, drive_given, drive_image, drive_idle, drive_ends}
-use borrow.Author.Rules.{rules}
 use Rattle.caption.proofs.drive.caption_drive_line.Goals as goal
 
 pub returns-then-code-ne0 : goal.returns-then-code-ne0

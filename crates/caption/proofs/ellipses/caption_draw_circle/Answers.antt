@@ -1,5 +1,4 @@
 use Rattle.model.specs.Calls.{refusals, refused, done, outcome}
-use borrow.Author.Rules.{rules}
 use Rattle.caption.proofs.ellipses.caption_draw_circle.Goals as goal
 
 pub returns : goal.returns

@@ -4,7 +4,6 @@ use native.Mathlib.Omega.{arith}
 use Rattle.model.specs.Refusals.{VALUE, RADIUS, ENDLESS}
 use Rattle.laws.specs.EllipseMarks.{always_ends}
 use Rattle.caption.proofs.Calls.{fails, passes, failed, passed, none_left, stops, stops_later, finishes, given}
-use borrow.Author.Rules.{rules}
 use Rattle.caption.proofs.ellipses.caption_draw_ellipse.Goals as goal
 
 pub returns-then-code-ne0 : goal.returns-then-code-ne0

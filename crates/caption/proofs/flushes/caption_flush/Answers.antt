@@ -3,7 +3,6 @@ use mathlib.Core.List.{[]}
 use native.Mathlib.Omega.{arith}
 use Rattle.model.specs.Refusals.{GLYPH}
 use Rattle.caption.proofs.Calls.{fails, passes, failed, passed, none_left, stops, stops_later, finishes, given_list}
-use borrow.Author.Rules.{rules}
 use Rattle.caption.proofs.flushes.caption_flush.Goals as goal
 
 pub returns-then-code-ne0 : goal.returns-then-code-ne0

@@ -3,7 +3,6 @@ use mathlib.Core.List.{[]}
 use native.Mathlib.Omega.{arith}
 use Rattle.model.specs.Refusals.{VALUE}
 use Rattle.caption.proofs.Calls.{fails, passes, failed, passed, none_left, stops, stops_later, finishes, given}
-use borrow.Author.Rules.{rules}
 use Rattle.caption.proofs.lines.caption_draw_box.Goals as goal
 
 pub returns-then-code-ne0 : goal.returns-then-code-ne0

@@ -4,7 +4,6 @@ use native.Mathlib.Omega.{arith}
 use borrow.Author.Tests.{lt-leb, le-leb}
 use Rattle.model.specs.Refusals.{VALUE}
 use Rattle.caption.proofs.Calls.{fails, passes, none_left, stops, stops_later, finishes, given}
-use borrow.Author.Rules.{rules}
 use Rattle.caption.proofs.lines.caption_draw_line.Goals as goal
 
 pub returns-then-code-ne0 : goal.returns-then-code-ne0

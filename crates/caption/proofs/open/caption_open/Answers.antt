@@ -1,6 +1,5 @@
 use mathlib.Core.Path.{refl}
 use Rattle.caption.proofs.Opening.{may_open, open_ends, open_value, open_window, open_lent}
-use borrow.Author.Rules.{rules}
 use Rattle.caption.proofs.open.caption_open.Goals as goal
 
 pub open-requires : goal.open-requires

@@ -7,7 +7,6 @@ use Rattle.model.specs.Calls.{lent, answered, done}
 use Rattle.laws.specs.Updates.{head_decoded}
 use Rattle.record.proofs.Lengths.{head_there}
 use Rattle.caption.proofs.Calls.{as_answered, none_left, stops, finishes}
-use borrow.Author.Rules.{rules}
 use Rattle.caption.proofs.place.caption_get_row.Goals as goal
 
 pub returns-then-code-ne0 : goal.returns-then-code-ne0

@@ -7,7 +7,6 @@ use Rattle.model.specs.Refusals.{VALUE}
 use Rattle.model.specs.Calls.{lent, answered, changed, done}
 use Rattle.updates.specs.Update.{updated}
 use Rattle.caption.proofs.Calls.{fails, passes, none_left, stops, stops_later, finishes}
-use borrow.Author.Rules.{rules}
 use Rattle.caption.proofs.place.caption_set_print_mode.Goals as goal
 
 pub returns-then-code-ne0 : goal.returns-then-code-ne0

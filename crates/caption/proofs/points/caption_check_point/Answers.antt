@@ -5,7 +5,6 @@ use mir.Syntax.{w32}
 use mir.Facts.{to_z-of_z}
 use Rattle.model.specs.Calls.{lent, answered, done}
 use Rattle.caption.proofs.Calls.{none_left, stops, finishes, given}
-use borrow.Author.Rules.{rules}
 use Rattle.caption.proofs.points.caption_check_point.Goals as goal
 
 pub returns-then-code-ne0 : goal.returns-then-code-ne0

@@ -10,7 +10,6 @@ use Rattle.model.specs.Refusals.{PANEL}
 use Rattle.model.specs.Calls.{sent_numbers}
 use Rattle.accepted.proofs.Sending.{send_done}
 use Rattle.caption.proofs.Calls.{as_answered, fails, passes, none_left, stops, stops_later, finishes, beyond, below, entered_panel, given_panel}
-use borrow.Author.Rules.{rules}
 use Rattle.caption.proofs.sends.caption_send.Goals as goal
 
 pub returns-then-code-ne0 : goal.returns-then-code-ne0

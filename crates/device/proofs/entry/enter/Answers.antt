@@ -1,5 +1,4 @@
 use Rattle.device.specs.Entry.{sized, entered, damaged, wrong_length}
-use borrow.Author.Rules.{rules}
 use Rattle.device.proofs.entry.enter.Goals as goal
 
 pub load_registers-r-requires : goal.load_registers-r-requires

@@ -1,7 +1,6 @@
 use mathlib.Core.Path.{refl}
 use borrow.Author.Tests.{eq-eqb, ne_eqb}
 use Rattle.model.specs.Controller.{registers_read}
-use borrow.Author.Rules.{rules}
 use Rattle.device.proofs.read.read_registers.Goals as goal
 
 pub returns-then-n-eq5 : goal.returns-then-n-eq5

@@ -1,6 +1,5 @@
 use mathlib.Core.Path.{refl}
 use Rattle.model.specs.Controller.{line_fits}
-use borrow.Author.Rules.{rules}
 use Rattle.device.proofs.registers.line_fits.Goals as goal
 
 pub returns : goal.returns

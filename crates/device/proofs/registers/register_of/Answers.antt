@@ -1,5 +1,4 @@
 use Rattle.device.proofs.Fields.{beyond}
-use borrow.Author.Rules.{rules}
 use Rattle.device.proofs.registers.register_of.Goals as goal
 
 pub returns-in_default : goal.returns-in_default

@@ -1,6 +1,5 @@
 use mathlib.Core.Path.{refl}
 use Rattle.device.proofs.Fields.{state_is}
-use borrow.Author.Rules.{rules}
 use Rattle.device.proofs.registers.registers_fit.Goals as goal
 
 pub returns : goal.returns

@@ -1,6 +1,5 @@
 use native.Mathlib.Omega.{arith}
 use Rattle.device.proofs.Fields.{bool_byte-le, status_is}
-use borrow.Author.Rules.{rules}
 use Rattle.device.proofs.registers.status_of.Goals as goal
 
 pub overflow_mul-result : goal.overflow_mul-result

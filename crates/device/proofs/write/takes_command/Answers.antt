@@ -1,6 +1,5 @@
 use mathlib.Core.Path.{refl}
 use Rattle.model.specs.Controller.{takes_write}
-use borrow.Author.Rules.{rules}
 use Rattle.device.proofs.write.takes_command.Goals as goal
 
 pub returns : goal.returns

@@ -1,7 +1,6 @@
 use mathlib.Core.Path.{refl, ap}
 use mathlib.Core.Bool.{not}
 use Rattle.model.specs.Controller.{takes_write}
-use borrow.Author.Rules.{rules}
 use Rattle.device.proofs.write.takes_write.Goals as goal
 
 pub returns-in-Command : goal.returns-in-Command

@@ -1,7 +1,6 @@
 use mathlib.Core.Path.{refl}
 use Rattle.model.specs.Controller.{registers_after, panel_after}
 use Rattle.device.specs.Writing.{written}
-use borrow.Author.Rules.{rules}
 use Rattle.device.proofs.write.write.Goals as goal
 
 pub write_data-s-requires : goal.write_data-s-requires

@@ -1,6 +1,5 @@
 use Rattle.model.specs.Geometry.{base}
 use Rattle.device.specs.Writing.{clears, starts, nothing}
-use borrow.Author.Rules.{rules}
 use Rattle.device.proofs.write.write_command.Goals as goal
 
 pub returns-then-value-eq1 : goal.returns-then-value-eq1

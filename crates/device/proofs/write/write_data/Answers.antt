@@ -1,7 +1,6 @@
 use native.Mathlib.Omega.{arith}
 use Rattle.model.specs.Geometry.{base}
 use Rattle.device.specs.Writing.{in_panel, ends, goes_on}
-use borrow.Author.Rules.{rules}
 use Rattle.device.proofs.write.write_data.Goals as goal
 
 pub bounds-panel-at : goal.bounds-panel-at

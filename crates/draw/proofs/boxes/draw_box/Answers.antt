@@ -1,5 +1,4 @@
 use Rattle.laws.specs.Boxes.{box-outlined}
-use Rattle.std.proofs.Common.{rules}
 use Rattle.draw.proofs.boxes.draw_box.Goals as goal
 
 pub returns-then-fill : goal.returns-then-fill

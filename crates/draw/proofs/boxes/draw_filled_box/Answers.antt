@@ -1,5 +1,4 @@
 use Rattle.laws.specs.Boxes.{box-filled}
-use Rattle.std.proofs.Common.{rules}
 use Rattle.draw.proofs.boxes.draw_filled_box.Goals as goal
 
 pub returns : goal.returns

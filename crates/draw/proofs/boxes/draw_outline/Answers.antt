@@ -1,5 +1,4 @@
 use Rattle.laws.specs.Boxes.{outline-unknown, outline-drawn}
-use Rattle.std.proofs.Common.{rules}
 use Rattle.draw.proofs.boxes.draw_outline.Goals as goal
 
 pub returns-then-is_unknown : goal.returns-then-is_unknown

@@ -1,4 +1,4 @@
-use Rattle.std.proofs.Common.{arith, rules}
+use Rattle.std.proofs.Common.{arith}
 use Rattle.model.specs.Bytes.{Bytes}
 use Rattle.laws.specs.Boxes.{whole_in, box-whole}
 use Rattle.draw.proofs.boxes.fill_clamped.Goals as goal

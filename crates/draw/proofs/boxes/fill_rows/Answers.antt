@@ -1,10 +1,6 @@
-use Rattle.std.proofs.Common.{◌≡◌, ◌+◌, ◌≤◌, arith}
-use Rattle.model.specs.declared.Edge.TheVariants.{Clamp}
-use Rattle.model.specs.Pixels.{Screen, draw, seen}
-use Rattle.model.specs.Boxes.{box_rows, filled_box}
+use Rattle.std.proofs.Common.{arith}
 use Rattle.laws.specs.Writes.{screen_draw}
 use Rattle.laws.specs.Boxes.{rows_start, rows_turn, rows_end}
-use Rattle.pixels.specs.Raster.{mode_of}
 use Rattle.draw.proofs.boxes.fill_rows.Goals as goal
 
 pub overflow_mul-stride : goal.overflow_mul-stride

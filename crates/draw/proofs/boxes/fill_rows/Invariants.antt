@@ -1,10 +1,8 @@
 -- The loop's invariant: the rest of the rows, drawn on the screen as it stands, gives the whole box.
-use Rattle.std.proofs.Common.{◌≡◌, ◌+◌, ◌≤◌, arith}
+use Rattle.std.proofs.Common.{◌≡◌, ◌+◌, ◌≤◌}
 use Rattle.model.specs.declared.Edge.TheVariants.{Clamp}
 use Rattle.model.specs.Pixels.{Screen, draw, seen}
 use Rattle.model.specs.Boxes.{box_rows, filled_box}
-use Rattle.laws.specs.Writes.{screen_draw}
-use Rattle.laws.specs.Boxes.{rows_start, rows_turn, rows_end}
 use Rattle.pixels.specs.Raster.{mode_of}
 use Rattle.draw.proofs.boxes.fill_rows.Given as goal
 

@@ -1,4 +1,4 @@
-use Rattle.std.proofs.Common.{refl, rules}
+use Rattle.std.proofs.Common.{refl}
 use Rattle.laws.specs.Boxes.{whole_lines}
 use Rattle.draw.proofs.boxes.is_whole.Goals as goal
 

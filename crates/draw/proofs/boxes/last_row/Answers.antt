@@ -1,5 +1,4 @@
 use Rattle.laws.specs.Boxes.{last_row}
-use Rattle.std.proofs.Common.{rules}
 use Rattle.draw.proofs.boxes.last_row.Goals as goal
 
 pub returns-in-Clamp : goal.returns-in-Clamp

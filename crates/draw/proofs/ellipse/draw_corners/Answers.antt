@@ -1,5 +1,4 @@
 use Rattle.laws.specs.EllipseMarks.{corners-drawn}
-use Rattle.std.proofs.Common.{rules}
 use Rattle.draw.proofs.ellipse.draw_corners.Goals as goal
 
 pub returns : goal.returns

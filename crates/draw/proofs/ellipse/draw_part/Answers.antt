@@ -1,5 +1,4 @@
 use Rattle.laws.specs.EllipseMarks.{part_filled, part-outlined}
-use Rattle.std.proofs.Common.{rules}
 use Rattle.draw.proofs.ellipse.draw_part.Goals as goal
 
 pub returns-then-fill : goal.returns-then-fill

@@ -1,5 +1,4 @@
 use Rattle.draw.proofs.Parts.{step-drawn, step-none}
-use Rattle.std.proofs.Common.{rules}
 use Rattle.draw.proofs.ellipse.draw_step.Goals as goal
 
 pub returns-in-At : goal.returns-in-At

@@ -1,13 +1,9 @@
 -- The loop's invariant: the part at hand and those of the steps that are left, drawn on the screen as it stands, give the whole ellipse.
-use Rattle.std.proofs.Common.{◌∙◌, arith}
 use Rattle.model.specs.Pixels.{Screen}
 use Rattle.model.specs.Ellipses.{parts}
-use Rattle.laws.specs.Writes.{screen_draw}
-use Rattle.laws.specs.Ellipses.{radii}
-use Rattle.laws.specs.EllipseWalks.{painted, LeftToDraw, turns_left, painting_starts, painting-steps, painting_less}
+use Rattle.laws.specs.EllipseWalks.{painted, LeftToDraw, turns_left}
 use Rattle.pixels.specs.Raster.{mode_of}
 use Rattle.ellipse_walk.specs.Walk.{walk_of, parts_of}
-use Rattle.draw.proofs.Parts.{parts_at}
 use Rattle.draw.proofs.ellipse.draw_walk.Given as goal
 
 abbrev pub invariant-loop-last : goal.invariant-loop-last

@@ -1,4 +1,4 @@
-use Rattle.std.proofs.Common.{arith, rules}
+use Rattle.std.proofs.Common.{arith}
 use Rattle.laws.specs.EllipseMarks.{mark_whole, mark_around, not_wrapped}
 use Rattle.draw.proofs.ellipse.ellipse_mark.Goals as goal
 

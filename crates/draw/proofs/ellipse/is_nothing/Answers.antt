@@ -1,5 +1,4 @@
 use Rattle.model.specs.Ellipses.{is_nothing}
-use Rattle.std.proofs.Common.{rules}
 use Rattle.draw.proofs.ellipse.is_nothing.Goals as goal
 
 pub returns : goal.returns

@@ -1,5 +1,4 @@
 use Rattle.model.specs.Ellipses.{radii_fit}
-use Rattle.std.proofs.Common.{rules}
 use Rattle.draw.proofs.ellipse.radii_fit.Goals as goal
 
 pub returns : goal.returns

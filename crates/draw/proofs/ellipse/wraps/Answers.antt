@@ -1,4 +1,4 @@
-use Rattle.std.proofs.Common.{refl, rules}
+use Rattle.std.proofs.Common.{refl}
 use Rattle.model.specs.Ellipses.{wraps}
 use Rattle.draw.proofs.ellipse.wraps.Goals as goal
 

@@ -1,5 +1,4 @@
 use Rattle.laws.specs.Lines.{clamped-drawn}
-use Rattle.std.proofs.Common.{rules}
 use Rattle.draw_lines.proofs.line.draw_clamped.Goals as goal
 
 pub returns : goal.returns

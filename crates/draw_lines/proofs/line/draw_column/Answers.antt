@@ -1,6 +1,4 @@
-use Rattle.std.proofs.Common.{◌≡◌, ◌+◌, ◌≤◌, refl, arith}
-use Rattle.model.specs.Pixels.{Screen, draw}
-use Rattle.model.specs.Lines.{pixel_column}
+use Rattle.std.proofs.Common.{refl, arith}
 use Rattle.laws.specs.Writes.{screen_write}
 use Rattle.laws.specs.Lines.{column_turn, column_end}
 use Rattle.draw_lines.proofs.line.draw_column.Goals as goal

@@ -1,9 +1,7 @@
 -- The loop's invariant: the rest of the column, drawn on the screen as it stands, gives the whole column.
-use Rattle.std.proofs.Common.{◌≡◌, ◌+◌, ◌≤◌, refl, arith}
+use Rattle.std.proofs.Common.{◌≡◌, ◌+◌, ◌≤◌}
 use Rattle.model.specs.Pixels.{Screen, draw}
 use Rattle.model.specs.Lines.{pixel_column}
-use Rattle.laws.specs.Writes.{screen_write}
-use Rattle.laws.specs.Lines.{column_turn, column_end}
 use Rattle.draw_lines.proofs.line.draw_column.Given as goal
 
 abbrev pub invariant-loop-points : goal.invariant-loop-points

@@ -1,5 +1,4 @@
 use Rattle.laws.specs.Lines.{horizontal-beyond, horizontal_on}
-use Rattle.std.proofs.Common.{rules}
 use Rattle.draw_lines.proofs.line.draw_hor_line.Goals as goal
 
 pub returns-then-is_beyond : goal.returns-then-is_beyond

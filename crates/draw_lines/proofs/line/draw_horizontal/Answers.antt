@@ -1,5 +1,4 @@
 use Rattle.laws.specs.Lines.{horizontal-marked}
-use Rattle.std.proofs.Common.{rules}
 use Rattle.draw_lines.proofs.line.draw_horizontal.Goals as goal
 
 pub returns : goal.returns

@@ -1,5 +1,4 @@
 use Rattle.laws.specs.Slopes.{line-horizontal, line-unknown, line-vertical, line_slopes}
-use Rattle.std.proofs.Common.{rules}
 use Rattle.draw_lines.proofs.line.draw_line.Goals as goal
 
 pub returns-then-y1-y2 : goal.returns-then-y1-y2

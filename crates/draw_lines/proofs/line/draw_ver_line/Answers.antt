@@ -1,5 +1,4 @@
 use Rattle.laws.specs.Lines.{vertical-drawn, vertical-below, vertical_beside}
-use Rattle.std.proofs.Common.{rules}
 use Rattle.draw_lines.proofs.line.draw_ver_line.Goals as goal
 
 pub returns-then-first-height : goal.returns-then-first-height

@@ -1,4 +1,4 @@
-use Rattle.std.proofs.Common.{not, refl, ap, rules}
+use Rattle.std.proofs.Common.{not, refl, ap}
 use Rattle.laws.specs.Lines.{beyond}
 use Rattle.draw_lines.proofs.line.is_beyond.Goals as goal
 

@@ -1,5 +1,4 @@
 use Rattle.model.specs.Lines.{is_unknown}
-use Rattle.std.proofs.Common.{rules}
 use Rattle.draw_lines.proofs.line.is_unknown.Goals as goal
 
 pub returns-in-Clear : goal.returns-in-Clear

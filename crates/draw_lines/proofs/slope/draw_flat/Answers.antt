@@ -1,8 +1,6 @@
-use Rattle.std.proofs.Common.{◌≡◌, ◌+◌, ◌<◌, ◌≤◌, refl, arith}
-use Rattle.model.specs.Pixels.{Screen, draw, seen}
-use Rattle.model.specs.Lines.{slope}
+use Rattle.std.proofs.Common.{refl, arith}
 use Rattle.laws.specs.Writes.{screen_draw}
-use Rattle.laws.specs.Slopes.{slope_by, slope_turn, slope_end, longer_steps, longer_error}
+use Rattle.laws.specs.Slopes.{slope_turn, slope_end, longer_steps, longer_error}
 use Rattle.draw_lines.proofs.slope.draw_flat.Goals as goal
 
 pub overflow_add-points : goal.overflow_add-points

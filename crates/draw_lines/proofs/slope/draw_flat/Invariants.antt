@@ -1,9 +1,8 @@
 -- The loop's invariant: the walk from here on, drawn on the screen as it stands, gives what the whole walk gives. The other error sum stays 0.
-use Rattle.std.proofs.Common.{◌≡◌, ◌+◌, ◌<◌, ◌≤◌, refl, arith}
+use Rattle.std.proofs.Common.{◌≡◌, ◌+◌, ◌<◌, ◌≤◌}
 use Rattle.model.specs.Pixels.{Screen, draw, seen}
 use Rattle.model.specs.Lines.{slope}
-use Rattle.laws.specs.Writes.{screen_draw}
-use Rattle.laws.specs.Slopes.{slope_by, slope_turn, slope_end, longer_steps, longer_error}
+use Rattle.laws.specs.Slopes.{slope_by}
 use Rattle.draw_lines.proofs.slope.draw_flat.Given as goal
 
 abbrev pub invariant-loop-points : goal.invariant-loop-points

@@ -1,5 +1,4 @@
 use Rattle.laws.specs.Slopes.{slope_flat, slope_steep}
-use Rattle.std.proofs.Common.{rules}
 use Rattle.draw_lines.proofs.slope.draw_slope.Goals as goal
 
 pub returns-then-dist_y-dist_x : goal.returns-then-dist_y-dist_x

@@ -1,5 +1,4 @@
 use Rattle.laws.specs.Slopes.{error_taken, error_left}
-use Rattle.std.proofs.Common.{rules}
 use Rattle.draw_lines.proofs.slope.next_error.Goals as goal
 
 pub returns-then-reaches : goal.returns-then-reaches

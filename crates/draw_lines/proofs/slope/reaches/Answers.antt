@@ -1,4 +1,4 @@
-use Rattle.std.proofs.Common.{leb, ap, rules}
+use Rattle.std.proofs.Common.{leb, ap}
 use Rattle.draw_lines.proofs.slope.reaches.Goals as goal
 
 pub returns : goal.returns

@@ -1,5 +1,4 @@
 use Rattle.laws.specs.Slopes.{step_taken, step_left}
-use Rattle.std.proofs.Common.{rules}
 use Rattle.draw_lines.proofs.slope.step_x.Goals as goal
 
 pub returns-then-reaches : goal.returns-then-reaches

@@ -5,7 +5,6 @@ use Rattle.record.proofs.Lengths.{passes_for, head_there}
 use Rattle.updates.proofs.Drawing.{loaded, screen_room}
 use Rattle.accepted.proofs.Sending.{panel_for, sent_for, idles, may_copy, sends_line}
 use Rattle.driver.proofs.Driving.{drives_idle, on_glass, drives_line}
-use borrow.Author.Rules.{rules}
 use Rattle.driver.proofs.drive.drive.Goals as goal
 
 pub load_head-from-requires : goal.load_head-from-requires

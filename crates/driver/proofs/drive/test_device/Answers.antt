@@ -1,6 +1,5 @@
 use native.Mathlib.Omega.{arith}
 use Rattle.driver.proofs.Driving.{damaged, no_panel, still_busy, may_drive}
-use borrow.Author.Rules.{rules}
 use Rattle.driver.proofs.drive.test_device.Goals as goal
 
 pub returns-then-not-registers_fit : goal.returns-then-not-registers_fit

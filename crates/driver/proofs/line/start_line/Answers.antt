@@ -3,7 +3,6 @@ use mathlib.Core.Path.{refl}
 use Rattle.model.specs.Geometry.{base}
 use Rattle.model.specs.Controller.{takes_write, registers_after}
 use Rattle.driver.specs.Line.{ready_field, after_field, ready_start, line_starts}
-use borrow.Author.Rules.{rules}
 use Rattle.driver.proofs.line.start_line.Goals as goal
 
 pub write-a-requires : goal.write-a-requires

@@ -1,10 +1,7 @@
-use mathlib.Core.Path.{◌≡◌, refl}
-use Prim.Native.Nat.{◌-◌}
+use mathlib.Core.Path.{refl}
 use native.Mathlib.Omega.{arith}
-use lib.ListN.{length}
 use Rattle.model.specs.Geometry.{base}
-use Rattle.driver.specs.Line.{BytesTo, bytes_start, bytes_ready, bytes_turn, bytes_end}
-use borrow.Author.Rules.{rules}
+use Rattle.driver.specs.Line.{bytes_start, bytes_ready, bytes_turn, bytes_end}
 use Rattle.driver.proofs.line.write_bytes.Goals as goal
 
 pub loop-i-init : goal.loop-i-init

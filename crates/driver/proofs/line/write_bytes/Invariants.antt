@@ -1,11 +1,9 @@
 -- One data write for each byte: `BytesTo` says what is written when i of them are.
-use mathlib.Core.Path.{◌≡◌, refl}
+use mathlib.Core.Path.{◌≡◌}
 use Prim.Native.Nat.{◌-◌}
-use native.Mathlib.Omega.{arith}
 use lib.ListN.{length}
 use Rattle.model.specs.Geometry.{base}
-use Rattle.driver.specs.Line.{BytesTo, bytes_start, bytes_ready, bytes_turn, bytes_end}
-use borrow.Author.Rules.{rules}
+use Rattle.driver.specs.Line.{BytesTo}
 use Rattle.driver.proofs.line.write_bytes.Given as goal
 
 abbrev pub invariant-loop-i : goal.invariant-loop-i

@@ -2,7 +2,6 @@
 use native.Mathlib.Omega.{arith}
 use Rattle.model.specs.Geometry.{base}
 use Rattle.driver.specs.Line.{line_made}
-use borrow.Author.Rules.{rules}
 use Rattle.driver.proofs.line.write_line.Goals as goal
 
 pub slice_bounds-write_bytes-end : goal.slice_bounds-write_bytes-end

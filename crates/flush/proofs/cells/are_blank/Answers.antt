@@ -1,9 +1,6 @@
-use mathlib.Core.Bool.{◌&&◌}
-use mathlib.Core.Path.{◌≡◌, sym, ◌∙◌}
-use Prim.Native.Nat.{◌-◌}
+use mathlib.Core.Path.{sym, ◌∙◌}
 use native.Mathlib.Omega.{arith}
 use borrow.Author.Tests.{lt-leb, le-leb}
-use Rattle.flush.specs.Fits.{blank_cells}
 use Rattle.flush.proofs.Walking.{blank_start, blank_turn, blank_end}
 use Rattle.flush.proofs.cells.are_blank.Goals as goal
 

@@ -1,5 +1,4 @@
 use Rattle.flush.proofs.Walking.{past_end}
-use borrow.Author.Rules.{rules}
 use Rattle.flush.proofs.cells.byte_at.Goals as goal
 
 pub returns-else-cell-text : goal.returns-else-cell-text

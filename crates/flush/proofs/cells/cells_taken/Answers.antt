@@ -1,5 +1,4 @@
 use Rattle.flush.proofs.Walking.{taken_pair, taken_blank, taken_single, taken_code}
-use borrow.Author.Rules.{rules}
 use Rattle.flush.proofs.cells.cells_taken.Goals as goal
 
 pub returns-in-Pair : goal.returns-in-Pair

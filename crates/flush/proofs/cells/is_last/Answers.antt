@@ -1,6 +1,5 @@
 use mathlib.Core.Path.{refl}
 use Rattle.model.specs.Flush.{is_last}
-use borrow.Author.Rules.{rules}
 use Rattle.flush.proofs.cells.is_last.Goals as goal
 
 pub returns : goal.returns

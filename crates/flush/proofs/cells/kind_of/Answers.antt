@@ -1,5 +1,4 @@
 use Rattle.flush.proofs.Walking.{kind_blank, kind_single, kind_code, kind_pair}
-use borrow.Author.Rules.{rules}
 use Rattle.flush.proofs.cells.kind_of.Goals as goal
 
 pub returns-then-b-eq0 : goal.returns-then-b-eq0

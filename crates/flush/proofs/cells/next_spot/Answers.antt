@@ -1,6 +1,5 @@
 use Rattle.flush.proofs.Walking.{taken_small, went_on}
 use native.Mathlib.Omega.{arith}
-use borrow.Author.Rules.{rules}
 use Rattle.flush.proofs.cells.next_spot.Goals as goal
 
 pub spot_after-requires : goal.spot_after-requires

@@ -1,5 +1,4 @@
 use Rattle.flush.proofs.Walking.{shown_here}
-use borrow.Author.Rules.{rules}
 use Rattle.flush.proofs.cells.shown_at.Goals as goal
 
 pub returns : goal.returns

@@ -1,6 +1,5 @@
 use native.Mathlib.Omega.{arith}
 use Rattle.flush.proofs.Walking.{after_row, after_end}
-use borrow.Author.Rules.{rules}
 use Rattle.flush.proofs.cells.spot_after.Goals as goal
 
 pub returns-then-column-columns : goal.returns-then-column-columns

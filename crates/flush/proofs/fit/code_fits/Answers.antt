@@ -1,5 +1,4 @@
 use Rattle.flush.proofs.Fitting.{code_tested}
-use borrow.Author.Rules.{rules}
 use Rattle.flush.proofs.fit.code_fits.Goals as goal
 
 pub returns : goal.returns

@@ -1,10 +1,7 @@
-use mathlib.Core.Path.{◌≡◌, refl}
-use Prim.Native.Nat.{◌-◌, ◌/◌, ◌≤◌}
+use mathlib.Core.Path.{refl}
 use native.Mathlib.Nat.{sub-zero}
 use native.Mathlib.Omega.{arith}
-use borrow.Author.Rules.{rules}
 use lib.ListN.{length}
-use Rattle.flush.specs.Fits.{entries_fit_from, entries_fit}
 use Rattle.flush.proofs.Fitting.{entry_turn, entry_stop, entries_end}
 use Rattle.flush.proofs.fit.entries_fit.Goals as goal
 

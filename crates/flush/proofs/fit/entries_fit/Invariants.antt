@@ -1,12 +1,7 @@
 -- The entries that are left pass exactly where the whole list does; one that fails decides.
-use mathlib.Core.Path.{◌≡◌, refl}
+use mathlib.Core.Path.{◌≡◌}
 use Prim.Native.Nat.{◌-◌, ◌/◌, ◌≤◌}
-use native.Mathlib.Nat.{sub-zero}
-use native.Mathlib.Omega.{arith}
-use borrow.Author.Rules.{rules}
-use lib.ListN.{length}
 use Rattle.flush.specs.Fits.{entries_fit_from, entries_fit}
-use Rattle.flush.proofs.Fitting.{entry_turn, entry_stop, entries_end}
 use Rattle.flush.proofs.fit.entries_fit.Given as goal
 
 abbrev pub invariant-loop-at : goal.invariant-loop-at

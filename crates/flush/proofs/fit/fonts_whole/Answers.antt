@@ -1,5 +1,4 @@
 use mathlib.Core.Path.{refl}
-use borrow.Author.Rules.{rules}
 use Rattle.flush.specs.Fits.{whole_fonts}
 use Rattle.flush.proofs.fit.fonts_whole.Goals as goal
 

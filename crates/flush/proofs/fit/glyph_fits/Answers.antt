@@ -1,5 +1,4 @@
 use Rattle.flush.proofs.Fitting.{emoji_fits, gb_fits, extra_fits, codes_fit}
-use borrow.Author.Rules.{rules}
 use Rattle.flush.proofs.fit.glyph_fits.Goals as goal
 
 pub returns-in-Emoji : goal.returns-in-Emoji

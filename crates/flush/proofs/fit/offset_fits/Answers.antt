@@ -1,5 +1,4 @@
 use Rattle.flush.proofs.Fitting.{offset-fits, offset_past}
-use borrow.Author.Rules.{rules}
 use Rattle.flush.proofs.fit.offset_fits.Goals as goal
 
 pub returns-then-at-font : goal.returns-then-at-font

@@ -1,5 +1,4 @@
 use Rattle.flush.proofs.Fitting.{blank_fits, single_fits, pair_fits, alone_fits}
-use borrow.Author.Rules.{rules}
 use Rattle.flush.proofs.fit.shown_fits.Goals as goal
 
 pub returns-in-Blank : goal.returns-in-Blank

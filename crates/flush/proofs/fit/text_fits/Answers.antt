@@ -1,7 +1,6 @@
 use mathlib.Core.Path.{sym, ◌∙◌}
 use Rattle.model.specs.Glyphs.{fonts}
 use Rattle.flush.proofs.Whole.{text-whole}
-use borrow.Author.Rules.{rules}
 use Rattle.flush.proofs.fit.text_fits.Goals as goal
 
 pub returns-then-fonts_whole : goal.returns-then-fonts_whole

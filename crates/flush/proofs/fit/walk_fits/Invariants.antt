@@ -1,11 +1,8 @@
 -- What is left of the walk passes exactly where the whole does; a step that fails decides.
-use mathlib.Core.Path.{◌≡◌, sym, ◌∙◌}
-use native.Mathlib.Omega.{arith}
+use mathlib.Core.Path.{◌≡◌}
 use Rattle.model.specs.Glyphs.{fonts}
 use Rattle.laws.specs.FlushWalk.{Within, places_left, rest}
 use Rattle.flush.specs.Fits.{walk_fits, text_fits}
-use Rattle.flush.proofs.Walking.{cell_small, within-start, spot_small, within_turn, left_turn}
-use Rattle.flush.proofs.Fitting.{fits-start, fits_turn, fits-stop, fits_end}
 use Rattle.flush.proofs.fit.walk_fits.Given as goal
 
 abbrev pub invariant-loop-s : goal.invariant-loop-s

@@ -1,6 +1,5 @@
 use native.Mathlib.Omega.{arith}
 use Rattle.flush.proofs.Painting.{digit_low, digit_high}
-use borrow.Author.Rules.{rules}
 use Rattle.flush.proofs.glyph.digit_of.Goals as goal
 
 pub returns-then-n-lt10 : goal.returns-then-n-lt10

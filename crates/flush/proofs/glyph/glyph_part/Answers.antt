@@ -1,6 +1,5 @@
 use native.Mathlib.Omega.{arith}
 use Rattle.flush.proofs.Painting.{emoji_in, gb_in, extra_in, emoji_part, gb_part, extra_part, no_part}
-use borrow.Author.Rules.{rules}
 use Rattle.flush.proofs.glyph.glyph_part.Goals as goal
 
 pub overflow_mul-at : goal.overflow_mul-at

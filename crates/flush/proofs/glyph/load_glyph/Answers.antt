@@ -1,6 +1,5 @@
 use native.Mathlib.Omega.{arith}
 use mathlib.Core.List.{[], ◌∷◌}
-use borrow.Author.Rules.{rules}
 use Rattle.flush.proofs.glyph.load_glyph.Goals as goal
 
 pub line-requires-15 : goal.line-requires-15

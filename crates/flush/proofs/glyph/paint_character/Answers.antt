@@ -1,5 +1,4 @@
 use Rattle.flush.proofs.Painting.{column_as}
-use borrow.Author.Rules.{rules}
 use Rattle.flush.proofs.glyph.paint_character.Goals as goal
 
 pub returns-then-inverse : goal.returns-then-inverse

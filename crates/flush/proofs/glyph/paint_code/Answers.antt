@@ -1,5 +1,4 @@
 use Rattle.flush.proofs.Painting.{code_painted}
-use borrow.Author.Rules.{rules}
 use Rattle.flush.proofs.glyph.paint_code.Goals as goal
 
 pub returns : goal.returns

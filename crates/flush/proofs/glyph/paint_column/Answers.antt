@@ -1,8 +1,6 @@
-use mathlib.Core.Path.{◌≡◌, refl}
-use Prim.Native.Nat.{◌+◌, ◌-◌, ◌*◌, ◌≤◌, ◌<◌}
+use mathlib.Core.Path.{refl}
 use native.Mathlib.Omega.{arith}
-use lib.ListN.{length, length-set}
-use Rattle.model.specs.Glyphs.{paint, column_stores}
+use lib.ListN.{length-set}
 use Rattle.laws.specs.Glyphs.{room_here, room_next}
 use Rattle.flush.proofs.Painting.{column_start, column_again, column_done, room_start}
 use Rattle.flush.proofs.glyph.paint_column.Goals as goal

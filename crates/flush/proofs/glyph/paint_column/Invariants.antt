@@ -1,11 +1,8 @@
 -- What is left of the column, painted on the screen as it stands, gives what the whole gives.
-use mathlib.Core.Path.{◌≡◌, refl}
+use mathlib.Core.Path.{◌≡◌}
 use Prim.Native.Nat.{◌+◌, ◌-◌, ◌*◌, ◌≤◌, ◌<◌}
-use native.Mathlib.Omega.{arith}
-use lib.ListN.{length, length-set}
+use lib.ListN.{length}
 use Rattle.model.specs.Glyphs.{paint, column_stores}
-use Rattle.laws.specs.Glyphs.{room_here, room_next}
-use Rattle.flush.proofs.Painting.{column_start, column_again, column_done, room_start}
 use Rattle.flush.proofs.glyph.paint_column.Given as goal
 
 abbrev pub invariant-loop-i : goal.invariant-loop-i

@@ -1,8 +1,7 @@
-use mathlib.Core.Path.{◌≡◌, refl}
-use Prim.Native.Nat.{◌+◌, ◌-◌, ◌*◌, ◌≤◌, ◌<◌}
+use mathlib.Core.Path.{refl}
 use native.Mathlib.Omega.{arith}
-use lib.ListN.{length, length-set, drop}
-use Rattle.laws.specs.Glyphs.{paint_lines, room_here, room_next}
+use lib.ListN.{length-set}
+use Rattle.laws.specs.Glyphs.{room_here, room_next}
 use Rattle.flush.proofs.Painting.{lines_again, lines_done}
 use Rattle.flush.proofs.glyph.paint_glyph.Goals as goal
 

@@ -1,10 +1,8 @@
 -- What is left of the glyph, painted on the screen as it stands, gives what the whole gives.
-use mathlib.Core.Path.{◌≡◌, refl}
+use mathlib.Core.Path.{◌≡◌}
 use Prim.Native.Nat.{◌+◌, ◌-◌, ◌*◌, ◌≤◌, ◌<◌}
-use native.Mathlib.Omega.{arith}
-use lib.ListN.{length, length-set, drop}
-use Rattle.laws.specs.Glyphs.{paint_lines, room_here, room_next}
-use Rattle.flush.proofs.Painting.{lines_again, lines_done}
+use lib.ListN.{length, drop}
+use Rattle.laws.specs.Glyphs.{paint_lines}
 use Rattle.flush.proofs.glyph.paint_glyph.Given as goal
 
 abbrev pub invariant-loop-i : goal.invariant-loop-i

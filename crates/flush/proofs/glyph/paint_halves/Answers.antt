@@ -1,5 +1,4 @@
 use Rattle.flush.proofs.Painting.{lines_as}
-use borrow.Author.Rules.{rules}
 use Rattle.flush.proofs.glyph.paint_halves.Goals as goal
 
 pub returns : goal.returns

@@ -1,5 +1,4 @@
 use Rattle.flush.proofs.Showing.{hex_yes, hex_emoji, hex_gb, hex_extra}
-use borrow.Author.Rules.{rules}
 use Rattle.flush.proofs.paint.is_hexadecimal.Goals as goal
 
 pub returns-in-Hexadecimal : goal.returns-in-Hexadecimal

@@ -6,7 +6,6 @@ use Rattle.model.specs.Flags.{flags_in}
 use Rattle.model.specs.Glyphs.{code_stores}
 use Rattle.laws.specs.Glyphs.{length-paint}
 use Rattle.flush.proofs.Showing.{room_at, fits_as, codes_end, part-fits, part_long, shown_as, codes_shown, glyph_shown}
-use borrow.Author.Rules.{rules}
 use Rattle.flush.proofs.paint.paint_pair.Goals as goal
 
 pub paint_code-requires : goal.paint_code-requires

@@ -2,8 +2,6 @@ use Prim.Native.Nat.{◌<◌}
 use native.Mathlib.Omega.{arith}
 use Rattle.model.specs.Flags.{flags_in}
 use Rattle.model.specs.Glyphs.{fonts}
-use Rattle.laws.specs.FlushWalk.{places_left}
-use Rattle.flush.specs.Painted.{PaintedTo}
 use Rattle.flush.proofs.Walking.{cell_small, spot_few, spot_small, left_turn}
 use Rattle.flush.proofs.Fitting.{fits_here}
 use Rattle.flush.proofs.Showing.{shown_room}

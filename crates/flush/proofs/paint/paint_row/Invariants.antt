@@ -1,14 +1,8 @@
 -- What is left of the walk fits, and painted on the screen as it stands it gives what it gave at the row's first spot.
-use Prim.Native.Nat.{◌<◌}
-use native.Mathlib.Omega.{arith}
 use Rattle.model.specs.Flags.{flags_in}
 use Rattle.model.specs.Glyphs.{fonts}
 use Rattle.laws.specs.FlushWalk.{places_left}
 use Rattle.flush.specs.Painted.{PaintedTo}
-use Rattle.flush.proofs.Walking.{cell_small, spot_few, spot_small, left_turn}
-use Rattle.flush.proofs.Fitting.{fits_here}
-use Rattle.flush.proofs.Showing.{shown_room}
-use Rattle.flush.proofs.Texts.{on_screen, painted-none, painted_turn, row_blank}
 use Rattle.flush.proofs.paint.paint_row.Given as goal
 
 abbrev pub invariant-loop-s : goal.invariant-loop-s

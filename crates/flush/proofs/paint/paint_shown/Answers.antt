@@ -2,7 +2,6 @@
 use mathlib.Core.Path.{refl}
 use Rattle.model.specs.Glyphs.{fonts}
 use Rattle.flush.proofs.Showing.{room_at, single_in, pair_in, code_in, blank_shown, single_shown, pair_shown, code_shown}
-use borrow.Author.Rules.{rules}
 use Rattle.flush.proofs.paint.paint_shown.Goals as goal
 
 pub paint_single-requires : goal.paint_single-requires

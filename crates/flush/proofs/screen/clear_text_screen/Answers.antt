@@ -1,5 +1,4 @@
 use Rattle.flush.proofs.Texts.{clears, keeps}
-use borrow.Author.Rules.{rules}
 use Rattle.flush.proofs.screen.clear_text_screen.Goals as goal
 
 pub returns-then-mode-eq0 : goal.returns-then-mode-eq0

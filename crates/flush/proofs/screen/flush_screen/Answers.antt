@@ -1,11 +1,9 @@
 use mathlib.Core.Path.{◌∙◌}
-use Prim.Native.Nat.{◌-◌, ◌*◌}
+use Prim.Native.Nat.{◌*◌}
 use native.Mathlib.Omega.{arith}
-use borrow.Author.Rules.{rules}
 use Rattle.model.specs.Flags.{flags_in}
 use Rattle.model.specs.Glyphs.{fonts}
-use Rattle.model.specs.Flush.{spot, text_stores}
-use Rattle.flush.specs.Painted.{PaintedTo}
+use Rattle.model.specs.Flush.{text_stores}
 use Rattle.flush.proofs.Texts.{same_screen, cells_small, painted_on, painted-start, painted_then, painted_end}
 use Rattle.flush.proofs.screen.flush_screen.Goals as goal
 

@@ -1,13 +1,9 @@
 -- Row after row: what is left of the walk, painted on the screen as it stands, gives what the whole gives on the cleared one.
-use mathlib.Core.Path.{◌∙◌}
-use Prim.Native.Nat.{◌-◌, ◌*◌}
-use native.Mathlib.Omega.{arith}
-use borrow.Author.Rules.{rules}
+use Prim.Native.Nat.{◌-◌}
 use Rattle.model.specs.Flags.{flags_in}
 use Rattle.model.specs.Glyphs.{fonts}
-use Rattle.model.specs.Flush.{spot, text_stores}
+use Rattle.model.specs.Flush.{spot}
 use Rattle.flush.specs.Painted.{PaintedTo}
-use Rattle.flush.proofs.Texts.{same_screen, cells_small, painted_on, painted-start, painted_then, painted_end}
 use Rattle.flush.proofs.screen.flush_screen.Given as goal
 
 abbrev pub invariant-loop-s : goal.invariant-loop-s

@@ -1,4 +1,3 @@
-use borrow.Author.Rules.{rules}
 use Rattle.record.proofs.Entering.{lent_sized, enters, breaks_state, breaks_lent}
 use Rattle.record.proofs.entry.enter.Goals as goal
 

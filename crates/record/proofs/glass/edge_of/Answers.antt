@@ -5,7 +5,6 @@ use Rattle.model.specs.Record.{decode}
 use Rattle.model.specs.Lines.{edge_of}
 use Rattle.laws.specs.StateTest.{edge_room, edge_clamps, edge_stops}
 use Rattle.record.proofs.Lengths.{sized_for}
-use borrow.Author.Rules.{rules}
 use Rattle.record.proofs.glass.edge_of.Goals as goal
 
 pub bounds-rec-at : goal.bounds-rec-at

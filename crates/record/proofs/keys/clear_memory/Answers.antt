@@ -7,7 +7,6 @@ use Rattle.model.specs.Record.{decode}
 use Rattle.model.specs.Open.{with_keys}
 use Rattle.laws.specs.Loops.{clears-memory}
 use Rattle.record.proofs.Lengths.{sized_for}
-use borrow.Author.Rules.{rules}
 use Rattle.record.proofs.keys.clear_memory.Goals as goal
 
 pub write_keys-requires : goal.write_keys-requires

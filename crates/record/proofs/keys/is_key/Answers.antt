@@ -1,7 +1,6 @@
 use native.Mathlib.Omega.{arith}
 use Rattle.laws.specs.Loops.{key_test, no_key}
 use Rattle.laws.specs.Updates.{keys_room}
-use borrow.Author.Rules.{rules}
 use Rattle.record.proofs.keys.is_key.Goals as goal
 
 pub overflow_add-glass : goal.overflow_add-glass

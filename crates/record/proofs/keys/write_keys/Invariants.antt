@@ -1,14 +1,9 @@
-use mathlib.Core.Path.{◌∙◌}
-use native.Mathlib.Omega.{arith}
-use Rattle.laws.specs.Tests.{either}
-use borrow.Author.Rules.{rules}
-use mathlib.Core.Path.{◌≡◌, refl}
+use mathlib.Core.Path.{◌≡◌}
 use Prim.Native.Nat.{◌≤◌, ◌-◌}
-use lib.ListN.{length, length-set}
+use lib.ListN.{length}
 use Rattle.model.specs.Glass.{geometry}
 use Rattle.model.specs.Record.{decode}
 use Rattle.model.specs.Open.{with_keys}
-use Rattle.laws.specs.Loops.{keys_set, keys_kept}
 use Rattle.record.proofs.keys.write_keys.Given as goal
 
 abbrev pub invariant-loop-a : goal.invariant-loop-a

@@ -1,6 +1,5 @@
 use native.Mathlib.Omega.{arith}
 use Rattle.laws.specs.Panels.{is_first_at, is_others_at, others_room}
-use borrow.Author.Rules.{rules}
 use Rattle.record.proofs.panels.panel_at.Goals as goal
 
 pub returns-then-k-eq0 : goal.returns-then-k-eq0

@@ -1,5 +1,4 @@
 use native.Mathlib.Omega.{arith}
-use borrow.Author.Rules.{rules}
 use Rattle.record.proofs.panels.sent_at.Goals as goal
 
 pub returns : goal.returns

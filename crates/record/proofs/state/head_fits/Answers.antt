@@ -1,5 +1,4 @@
 use Rattle.laws.specs.StateTest.{head_is}
-use borrow.Author.Rules.{rules}
 use Rattle.record.proofs.state.head_fits.Goals as goal
 
 pub returns : goal.returns

@@ -3,7 +3,6 @@ use native.Mathlib.Omega.{arith}
 use Rattle.model.specs.Glass.{geometry}
 use Rattle.laws.specs.Updates.{head_in}
 use Rattle.laws.specs.StateTest.{flags_room, flags_sized, edge_room, head_fails, edge_fails, panel_fails, flags_decide}
-use borrow.Author.Rules.{rules}
 use Rattle.record.proofs.state.is_valid.Goals as goal
 
 pub load_head-requires : goal.load_head-requires

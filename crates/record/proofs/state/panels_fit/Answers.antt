@@ -1,7 +1,5 @@
-use borrow.Author.Rules.{rules}
-use Prim.Native.Nat.{◌-◌}
 use native.Mathlib.Omega.{arith}
-use Rattle.laws.specs.StateTest.{Fitting, fit_starts, fit_goes, fit_fails, fit_ends}
+use Rattle.laws.specs.StateTest.{fit_starts, fit_goes, fit_fails, fit_ends}
 use Rattle.record.proofs.state.panels_fit.Goals as goal
 
 pub loop-k-init : goal.loop-k-init

@@ -1,8 +1,6 @@
 -- The panels before k have passed, so what is left decides the whole; one that fails decides it at once.
-use borrow.Author.Rules.{rules}
 use Prim.Native.Nat.{◌-◌}
-use native.Mathlib.Omega.{arith}
-use Rattle.laws.specs.StateTest.{Fitting, fit_starts, fit_goes, fit_fails, fit_ends}
+use Rattle.laws.specs.StateTest.{Fitting}
 use Rattle.record.proofs.state.panels_fit.Given as goal
 
 abbrev pub invariant-loop-k : goal.invariant-loop-k

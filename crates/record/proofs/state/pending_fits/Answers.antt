@@ -2,7 +2,6 @@
 use native.Mathlib.Omega.{arith}
 use Rattle.laws.specs.Panels.{bands_room, hand_room}
 use Rattle.laws.specs.StateTest.{pending_fails, pending_is}
-use borrow.Author.Rules.{rules}
 use Rattle.record.proofs.state.pending_fits.Goals as goal
 
 pub bands_fit-requires : goal.bands_fit-requires

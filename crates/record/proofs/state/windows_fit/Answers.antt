@@ -1,5 +1,4 @@
 use Rattle.laws.specs.StateTest.{windows_is}
-use borrow.Author.Rules.{rules}
 use Rattle.record.proofs.state.windows_fit.Goals as goal
 
 pub returns : goal.returns

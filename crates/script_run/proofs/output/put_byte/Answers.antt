@@ -1,5 +1,4 @@
 use Rattle.script_run.proofs.Writing.{wrote_byte}
-use borrow.Author.Rules.{rules}
 use Rattle.script_run.proofs.output.put_byte.Goals as goal
 
 pub returns : goal.returns

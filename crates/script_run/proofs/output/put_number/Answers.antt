@@ -1,5 +1,4 @@
 use Rattle.script_run.proofs.Writing.{number_written}
-use borrow.Author.Rules.{rules}
 use Rattle.script_run.proofs.output.put_number.Goals as goal
 
 pub returns : goal.returns

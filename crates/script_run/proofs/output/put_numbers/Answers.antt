@@ -1,10 +1,6 @@
 use borrow.Author.Rules.{rules}
 use native.Mathlib.Omega.{arith}
-use mathlib.Core.Path.{◌≡◌, refl}
-use lib.ListN.{length, take}
-use Prim.Native.Nat.{◌-◌}
-use Rattle.model.specs.Script.Output.{spaced}
-use Rattle.script_run.specs.Buffers.{Wrote}
+use mathlib.Core.Path.{refl}
 use Rattle.script_run.proofs.Writing.{number_room, numbers-start, numbers_turn, numbers_end}
 use Rattle.script_run.proofs.output.put_numbers.Goals as goal
 

@@ -1,11 +1,8 @@
-use borrow.Author.Rules.{rules}
-use native.Mathlib.Omega.{arith}
-use mathlib.Core.Path.{◌≡◌, refl}
+use mathlib.Core.Path.{◌≡◌}
 use lib.ListN.{length, take}
 use Prim.Native.Nat.{◌-◌}
 use Rattle.model.specs.Script.Output.{spaced}
 use Rattle.script_run.specs.Buffers.{Wrote}
-use Rattle.script_run.proofs.Writing.{number_room, numbers-start, numbers_turn, numbers_end}
 use Rattle.script_run.proofs.output.put_numbers.Given as goal
 
 abbrev pub invariant-loop-i : goal.invariant-loop-i

@@ -1,5 +1,4 @@
 use Rattle.script_run.proofs.Writing.{open_room, word_room, spaced_room, close_room, printed-written}
-use borrow.Author.Rules.{rules}
 use Rattle.script_run.proofs.output.put_printed.Goals as goal
 
 pub put_byte-open-requires : goal.put_byte-open-requires

@@ -1,9 +1,7 @@
 use borrow.Author.Rules.{rules}
 use native.Mathlib.Omega.{arith}
-use mathlib.Core.Path.{◌≡◌, refl}
-use Prim.Native.Nat.{◌-◌, ◌≤◌}
-use lib.ListN.{length}
-use Rattle.laws.specs.Loops.{putting, put-start, put_turn, put_end}
+use mathlib.Core.Path.{refl}
+use Rattle.laws.specs.Loops.{put-start, put_turn, put_end}
 use Rattle.script_run.proofs.output.put_text.Goals as goal
 
 pub loop-i-init : goal.loop-i-init

@@ -1,9 +1,7 @@
-use borrow.Author.Rules.{rules}
-use native.Mathlib.Omega.{arith}
-use mathlib.Core.Path.{◌≡◌, refl}
+use mathlib.Core.Path.{◌≡◌}
 use Prim.Native.Nat.{◌-◌, ◌≤◌}
 use lib.ListN.{length}
-use Rattle.laws.specs.Loops.{putting, put-start, put_turn, put_end}
+use Rattle.laws.specs.Loops.{putting}
 use Rattle.script_run.proofs.output.put_text.Given as goal
 
 abbrev pub invariant-loop-i : goal.invariant-loop-i

@@ -1,5 +1,4 @@
 use Rattle.script_run.proofs.Running.{plain_room, plain_answered, means_point, means_line, means_poke, beside_draw, beside_poke, send_room, send_answered, bad_room, bad_answered}
-use borrow.Author.Rules.{rules}
 use Rattle.script_run.proofs.runner.answer_line.Goals as goal
 
 pub put_code-requires : goal.put_code-requires

@@ -1,5 +1,4 @@
 use Rattle.script_run.proofs.Running.{done_room, done-written, refused_room, refused-written}
-use borrow.Author.Rules.{rules}
 use Rattle.script_run.proofs.runner.put_code.Goals as goal
 
 pub put_text-requires : goal.put_text-requires

@@ -1,5 +1,4 @@
 use Rattle.script_run.proofs.Whole.{part_room, lines_read, ending_room, ending-written}
-use borrow.Author.Rules.{rules}
 use Rattle.script_run.proofs.runner.put_ending.Goals as goal
 
 pub lines_left-left-requires : goal.lines_left-left-requires

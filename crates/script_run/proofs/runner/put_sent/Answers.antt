@@ -1,5 +1,4 @@
 use Rattle.script_run.proofs.Running.{refused_room, refused-written, sent_room, sent_written, idle_room, idle_written}
-use borrow.Author.Rules.{rules}
 use Rattle.script_run.proofs.runner.put_sent.Goals as goal
 
 pub put_printed-requires : goal.put_printed-requires

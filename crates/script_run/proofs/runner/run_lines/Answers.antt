@@ -1,12 +1,9 @@
 -- A turn answers what stands at the reader's place and goes on behind it: `turn_stands` and `turn_fewer` of Whole.antt.
-use Rattle.std.proofs.Common.{◌≡◌, sym, ap, ◌∙◌, map, take, drop, arith}
+use Rattle.std.proofs.Common.{ap, ◌∙◌, arith}
 use Rattle.model.specs.Calls.{lent}
-use Rattle.model.specs.Script.Read.{read_line, read_script}
-use Rattle.model.specs.Script.Output.{run_lines}
-use Rattle.script.specs.Meaning.{standing}
-use Rattle.script.specs.Lines.{lines_from}
+use Rattle.model.specs.Script.Read.{read_script}
 use Rattle.script.proofs.Splitting.{read_le}
-use Rattle.script_run.proofs.Whole.{ran_start, counts_on, stands_running, stands_ended, turns_left, turn_room, turn_stands, turn_fewer}
+use Rattle.script_run.proofs.Whole.{ran_start, counts_on, stands_running, stands_ended, turn_room, turn_stands, turn_fewer}
 use Rattle.script_run.proofs.runner.run_lines.Goals as goal
 
 pub loop-p-init : goal.loop-p-init

@@ -1,7 +1,6 @@
 -- The line lies in one byte, or in more: `in_one_byte` and `in_more_bytes` are the two returns.
 use native.Mathlib.Omega.{arith}
 use Rattle.send.proofs.Copy.{row_in, in_one_byte, in_more_bytes}
-use borrow.Author.Rules.{rules}
 use Rattle.send.proofs.line.copy_line.Goals as goal
 
 pub overflow_mul-row : goal.overflow_mul-row

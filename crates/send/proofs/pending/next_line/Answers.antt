@@ -1,5 +1,4 @@
 use Rattle.send.proofs.Hand.{goes_on, ends}
-use borrow.Author.Rules.{rules}
 use Rattle.send.proofs.pending.next_line.Goals as goal
 
 pub returns-then-top-q : goal.returns-then-top-q

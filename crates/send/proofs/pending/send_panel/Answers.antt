@@ -4,7 +4,6 @@ use Prim.Native.Nat.{ℕ, ◌+◌, min}
 use mathlib.Core.Path.{ap, ◌∙◌}
 use Rattle.laws.specs.Sending.{line_follows, line-sent, idle, sends}
 use Rattle.send.proofs.Hand.{panel_room, short_room, count_room}
-use borrow.Author.Rules.{rules}
 use Rattle.send.proofs.pending.send_panel.Goals as goal
 
 pub overflow_add-in_hand : goal.overflow_add-in_hand

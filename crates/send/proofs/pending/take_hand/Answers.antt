@@ -1,7 +1,6 @@
 use native.Mathlib.Omega.{arith}
 use Rattle.model.specs.Glass.{geometry}
 use Rattle.laws.specs.Sending.{hand_taken, hand_full}
-use borrow.Author.Rules.{rules}
 use Rattle.send.proofs.pending.take_hand.Goals as goal
 
 pub returns-then-is_empty : goal.returns-then-is_empty

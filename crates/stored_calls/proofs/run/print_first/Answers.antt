@@ -1,7 +1,6 @@
 use mathlib.Core.Path.{sym}
 use native.Mathlib.Omega.{arith}
 use lib.Seq.{length-take-le}
-use borrow.Author.Rules.{rules}
 use Rattle.stored_calls.proofs.run.print_first.Goals as goal
 
 pub slice_bounds-caption_print-end : goal.slice_bounds-caption_print-end

@@ -1,9 +1,6 @@
-use borrow.Author.Rules.{rules}
-use mathlib.Core.Path.{◌≡◌, refl, ◌∙◌}
-use Prim.Native.Nat.{◌-◌}
+use mathlib.Core.Path.{refl, ◌∙◌}
 use native.Mathlib.Omega.{arith}
-use lib.ListN.{length, length-set}
-use Rattle.model.specs.Print.{clear_until}
+use lib.ListN.{length-set}
 use Rattle.laws.specs.Pages.{set_in, until_turn}
 use Rattle.text.proofs.Turning.{was_cleared}
 use Rattle.text.proofs.clear.clear_from.Goals as goal

@@ -1,12 +1,8 @@
 -- The invariant: clearing on from here gives what clearing from the first cell gives. A cell that is set is there, so the loop ends by the text's end.
-use borrow.Author.Rules.{rules}
-use mathlib.Core.Path.{◌≡◌, refl, ◌∙◌}
+use mathlib.Core.Path.{◌≡◌}
 use Prim.Native.Nat.{◌-◌}
-use native.Mathlib.Omega.{arith}
-use lib.ListN.{length, length-set}
+use lib.ListN.{length}
 use Rattle.model.specs.Print.{clear_until}
-use Rattle.laws.specs.Pages.{set_in, until_turn}
-use Rattle.text.proofs.Turning.{was_cleared}
 use Rattle.text.proofs.clear.clear_from.Given as goal
 
 abbrev pub invariant-loop-text : goal.invariant-loop-text

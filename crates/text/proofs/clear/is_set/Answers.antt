@@ -1,5 +1,4 @@
 use Rattle.text.proofs.Turning.{not_set}
-use borrow.Author.Rules.{rules}
 use Rattle.text.proofs.clear.is_set.Goals as goal
 
 pub returns : goal.returns

@@ -1,7 +1,6 @@
 -- The three arms are the definition's. A row of cells lies in text and flags, so both can scroll by it.
 use native.Mathlib.Omega.{arith}
 use Rattle.text.proofs.Writing.{row_in_text, row_in_flags, newline_none, newline_scrolls, newline_next}
-use borrow.Author.Rules.{rules}
 use Rattle.text.proofs.page.newline.Goals as goal
 
 pub returns-then-column-eq0 : goal.returns-then-column-eq0

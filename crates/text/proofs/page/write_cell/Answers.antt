@@ -1,5 +1,4 @@
 use Rattle.text.proofs.Writing.{cell_in_flags, cell_written}
-use borrow.Author.Rules.{rules}
 use Rattle.text.proofs.page.write_cell.Goals as goal
 
 pub write_flag-requires : goal.write_flag-requires

@@ -1,5 +1,4 @@
 use Rattle.text.proofs.Writing.{row_ended, row_goes_on}
-use borrow.Author.Rules.{rules}
 use Rattle.text.proofs.print.end_row.Goals as goal
 
 pub returns-then-column-columns : goal.returns-then-column-columns

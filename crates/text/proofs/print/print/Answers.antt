@@ -1,7 +1,6 @@
 -- The next cell lies on the page that all bytes leave, so the clearing may start there.
 use native.Mathlib.Omega.{arith}
 use Rattle.text.proofs.Turning.{cell_after, text-printed}
-use borrow.Author.Rules.{rules}
 use Rattle.text.proofs.print.print.Goals as goal
 
 pub overflow_mul-cell : goal.overflow_mul-cell

@@ -1,8 +1,6 @@
 -- One turn: the two arms are the two ways in which the definition goes on.
 use native.Mathlib.Omega.{arith}
-use borrow.Author.Rules.{rules}
 use borrow.Author.Tests.{ltb-true}
-use Rattle.laws.specs.Tests.{either}
 use Rattle.text.proofs.Turning.{takes-next, last_alone, low_alone, pair_taken, byte_taken}
 use Rattle.text.proofs.print.print_at.Goals as goal
 use Rattle.text.proofs.print.print_at.Goals.{else-b-ge128-via-then-b-ge128+else-at-from, else-b-ge128-via-else-b-ge128}

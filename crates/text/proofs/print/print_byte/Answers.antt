@@ -1,6 +1,5 @@
 use native.Mathlib.Omega.{arith}
 use Rattle.text.proofs.Writing.{cell_after_wrap, ready_after_byte, byte_printed}
-use borrow.Author.Rules.{rules}
 use Rattle.text.proofs.print.print_byte.Goals as goal
 
 pub write_cell-r-requires : goal.write_cell-r-requires

@@ -1,10 +1,6 @@
 use borrow.Author.Rules.{rules}
-use mathlib.Core.Path.{◌≡◌, refl}
-use Prim.Native.Nat.{◌≤◌, ◌-◌, ◌*◌}
+use mathlib.Core.Path.{refl}
 use native.Mathlib.Omega.{arith}
-use lib.ListN.{length, drop}
-use Rattle.model.specs.Print.{print_bytes}
-use Rattle.text.specs.Written.{page, Ready}
 use Rattle.text.proofs.Turning.{same_rest, all-printed}
 use Rattle.text.proofs.print.print_bytes.Goals as goal
 

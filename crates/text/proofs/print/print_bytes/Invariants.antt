@@ -1,12 +1,9 @@
 -- The invariant: what is left of the text, printed on the page as it stands, gives what the whole text gives on the first page; each turn scrolls at most twice.
-use borrow.Author.Rules.{rules}
-use mathlib.Core.Path.{◌≡◌, refl}
+use mathlib.Core.Path.{◌≡◌}
 use Prim.Native.Nat.{◌≤◌, ◌-◌, ◌*◌}
-use native.Mathlib.Omega.{arith}
 use lib.ListN.{length, drop}
 use Rattle.model.specs.Print.{print_bytes}
 use Rattle.text.specs.Written.{page, Ready}
-use Rattle.text.proofs.Turning.{same_rest, all-printed}
 use Rattle.text.proofs.print.print_bytes.Given as goal
 
 abbrev pub invariant-loop-i : goal.invariant-loop-i

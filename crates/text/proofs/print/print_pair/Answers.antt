@@ -1,6 +1,5 @@
 use native.Mathlib.Omega.{arith}
 use Rattle.text.proofs.Writing.{cell_after_wrap, cell_of_pair, ready_after_pair, pair_printed}
-use borrow.Author.Rules.{rules}
 use Rattle.text.proofs.print.print_pair.Goals as goal
 
 pub write_cell-r-requires : goal.write_cell-r-requires

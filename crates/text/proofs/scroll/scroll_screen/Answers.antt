@@ -1,6 +1,5 @@
 use native.Mathlib.Omega.{arith}
 use Rattle.text.proofs.Turning.{gone_in, screen_scrolled}
-use borrow.Author.Rules.{rules}
 use Rattle.text.proofs.scroll.scroll_screen.Goals as goal
 
 pub overflow_mul-gone : goal.overflow_mul-gone

@@ -1,5 +1,4 @@
 use Rattle.updates.proofs.Updating.{is_clear_head}
-use borrow.Author.Rules.{rules}
 use Rattle.updates.proofs.head.clear_head.Goals as goal
 
 pub returns : goal.returns

@@ -10,7 +10,6 @@ use Rattle.model.specs.Text.{with_column}
 use Rattle.laws.specs.Updates.{in_head}
 use Rattle.updates.specs.Update.{updated}
 use Rattle.record.proofs.Lengths.{head_there}
-use borrow.Author.Rules.{rules}
 use Rattle.updates.proofs.head.set_column.Goals as goal
 
 pub bounds-rec-5 : goal.bounds-rec-5

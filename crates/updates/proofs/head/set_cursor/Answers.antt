@@ -10,7 +10,6 @@ use Rattle.model.specs.Text.{with_cursor}
 use Rattle.laws.specs.Updates.{in_head}
 use Rattle.updates.specs.Update.{updated}
 use Rattle.record.proofs.Lengths.{head_there}
-use borrow.Author.Rules.{rules}
 use Rattle.updates.proofs.head.set_cursor.Goals as goal
 
 pub bounds-rec-8 : goal.bounds-rec-8

@@ -11,7 +11,6 @@ use Rattle.model.specs.Marks.{with_dirty}
 use Rattle.laws.specs.Updates.{in_head}
 use Rattle.updates.specs.Update.{updated}
 use Rattle.record.proofs.Lengths.{head_there}
-use borrow.Author.Rules.{rules}
 use Rattle.updates.proofs.head.set_dirty.Goals as goal
 
 pub store_rect-requires : goal.store_rect-requires

@@ -11,7 +11,6 @@ use Rattle.model.specs.Text.{print_mode, with_print_mode}
 use Rattle.laws.specs.Updates.{head_decoded, in_head}
 use Rattle.updates.specs.Update.{updated}
 use Rattle.record.proofs.Lengths.{head_there}
-use borrow.Author.Rules.{rules}
 use Rattle.updates.proofs.head.set_print_mode.Goals as goal
 
 pub bounds-rec-7 : goal.bounds-rec-7

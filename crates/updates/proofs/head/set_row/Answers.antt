@@ -10,7 +10,6 @@ use Rattle.model.specs.Text.{with_row}
 use Rattle.laws.specs.Updates.{in_head}
 use Rattle.updates.specs.Update.{updated}
 use Rattle.record.proofs.Lengths.{head_there}
-use borrow.Author.Rules.{rules}
 use Rattle.updates.proofs.head.set_row.Goals as goal
 
 pub bounds-rec-4 : goal.bounds-rec-4

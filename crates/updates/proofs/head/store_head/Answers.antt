@@ -2,7 +2,6 @@ use mathlib.Core.Path.{ap, ◌∙◌}
 use mathlib.Core.List.{List}
 use Prim.Native.Nat.{ℕ}
 use Rattle.model.specs.Memory.{with_window}
-use borrow.Author.Rules.{rules}
 use Rattle.updates.proofs.head.store_head.Goals as goal
 
 pub returns : goal.returns

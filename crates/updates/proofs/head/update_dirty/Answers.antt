@@ -15,7 +15,6 @@ use Rattle.laws.specs.Owed.{joined_at}
 use Rattle.laws.specs.Updates.{head_decoded, in_head, empty_dirty}
 use Rattle.updates.specs.Update.{updated}
 use Rattle.record.proofs.Lengths.{head_there}
-use borrow.Author.Rules.{rules}
 use Rattle.updates.proofs.head.update_dirty.Goals as goal
 
 pub returns-then-is_empty : goal.returns-then-is_empty

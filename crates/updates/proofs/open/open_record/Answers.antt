@@ -11,7 +11,6 @@ use Rattle.laws.specs.StateTest.{edge_room}
 use Rattle.laws.specs.Opening.{Told, opening_passes, opens}
 use Rattle.record.proofs.Lengths.{chosen_as, sized_for, passes_as}
 use Rattle.updates.proofs.Updating.{updated_for}
-use borrow.Author.Rules.{rules}
 use Rattle.updates.proofs.open.open_record.Goals as goal
 
 pub store_head-requires : goal.store_head-requires

@@ -1,5 +1,4 @@
 use Rattle.laws.specs.Memory.{set-window}
-use borrow.Author.Rules.{rules}
 use Rattle.updates.proofs.open.store_edge.Goals as goal
 
 pub returns : goal.returns

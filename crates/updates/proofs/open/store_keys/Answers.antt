@@ -1,10 +1,6 @@
 use native.Mathlib.Omega.{arith}
 use borrow.Author.Rules.{rules}
-use mathlib.Core.Path.{◌≡◌, refl}
-use Prim.Native.Nat.{◌≤◌, ◌-◌}
-use lib.ListN.{length, take}
-use Rattle.model.specs.Memory.{with_window}
-use Rattle.model.specs.Bytes.{words_bytes}
+use mathlib.Core.Path.{refl}
 use Rattle.laws.specs.Loops.{words_start, words_turn, words_end}
 use Rattle.updates.proofs.open.store_keys.Goals as goal
 

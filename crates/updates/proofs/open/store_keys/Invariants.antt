@@ -1,11 +1,8 @@
-use native.Mathlib.Omega.{arith}
-use borrow.Author.Rules.{rules}
-use mathlib.Core.Path.{◌≡◌, refl}
+use mathlib.Core.Path.{◌≡◌}
 use Prim.Native.Nat.{◌≤◌, ◌-◌}
 use lib.ListN.{length, take}
 use Rattle.model.specs.Memory.{with_window}
 use Rattle.model.specs.Bytes.{words_bytes}
-use Rattle.laws.specs.Loops.{words_start, words_turn, words_end}
 use Rattle.updates.proofs.open.store_keys.Given as goal
 
 abbrev pub invariant-loop-i : goal.invariant-loop-i

@@ -2,7 +2,6 @@
 use mathlib.Core.Path.{refl, sym, ◌∙◌}
 use mathlib.Core.Bool.{true, false}
 use native.Mathlib.Omega.{arith}
-use borrow.Author.Rules.{rules}
 use Rattle.laws.specs.Tests.{clash}
 use Rattle.laws.specs.Marking.{empty_band, owed_band}
 use Rattle.laws.specs.MarkLoops.{band_low, is_part, is_band, band_full, is_whole}

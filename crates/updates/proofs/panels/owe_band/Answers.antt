@@ -1,9 +1,7 @@
 use mathlib.Core.Path.{◌∙◌}
 use borrow.Author.Rules.{rules}
-use Prim.Native.Nat.{◌-◌}
 use native.Mathlib.Omega.{arith}
-use Rattle.laws.specs.Owed.{owed_at}
-use Rattle.laws.specs.MarkLoops.{Owing, owe_room, owe_starts, owe_goes, owe_ends}
+use Rattle.laws.specs.MarkLoops.{owe_room, owe_starts, owe_goes, owe_ends}
 use Rattle.updates.proofs.panels.owe_band.Goals as goal
 
 pub loop-k-init : goal.loop-k-init

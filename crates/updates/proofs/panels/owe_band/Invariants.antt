@@ -1,9 +1,6 @@
-use mathlib.Core.Path.{◌∙◌}
-use borrow.Author.Rules.{rules}
 use Prim.Native.Nat.{◌-◌}
-use native.Mathlib.Omega.{arith}
 use Rattle.laws.specs.Owed.{owed_at}
-use Rattle.laws.specs.MarkLoops.{Owing, owe_room, owe_starts, owe_goes, owe_ends}
+use Rattle.laws.specs.MarkLoops.{Owing}
 use Rattle.updates.proofs.panels.owe_band.Given as goal
 
 abbrev pub invariant-loop-k : goal.invariant-loop-k

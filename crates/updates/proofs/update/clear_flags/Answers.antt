@@ -5,7 +5,6 @@ use Rattle.laws.specs.StateTest.{flags_room}
 use Rattle.laws.specs.Updates.{clears_flags}
 use Rattle.record.proofs.Lengths.{passes_for}
 use Rattle.updates.proofs.Updating.{updates}
-use borrow.Author.Rules.{rules}
 use Rattle.updates.proofs.update.clear_flags.Goals as goal
 
 pub slice_bounds-clear_flags-count : goal.slice_bounds-clear_flags-count

@@ -1,4 +1,3 @@
-use borrow.Author.Rules.{rules}
 use lib.ListN.{length}
 use Rattle.model.specs.Glass.{glass_of}
 use Rattle.model.specs.Record.{decode}

@@ -17,7 +17,6 @@ use Rattle.laws.specs.Updates.{head_decoded, screen_small}
 use Rattle.updates.specs.Update.{updated, on_head}
 use Rattle.record.proofs.Lengths.{head_there}
 use Rattle.updates.proofs.Updating.{whole_for, unflagged, unflagged_formed, sets_head, still_passes, then_updated}
-use borrow.Author.Rules.{rules}
 use Rattle.updates.proofs.update.reset_record.Goals as goal
 
 module _ {r s t : List ℕ} (q : Rect) (p : Passing (glass_of (length r)) r) (e : s ≡ updated unflagged r) (f : t ≡ updated (λ g x. owing_each g q x) s) where
