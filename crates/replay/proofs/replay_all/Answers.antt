@@ -1,7 +1,4 @@
-use mathlib.Core.Path.{◌≡◌}
-use borrow.Author.Rules.{rules}
 use native.Mathlib.Omega.{arith}
-use lib.ListN.{length}
 use Rattle.replay.proofs.replay_all.Goals as goal
 
 pub overflow_sub-turns : goal.overflow_sub-turns

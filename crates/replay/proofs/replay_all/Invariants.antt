@@ -1,7 +1,5 @@
 -- `replay::replay_all` is safe and ends: the turns that are left fall, and nobody changes the lengths of record and memory.
 use mathlib.Core.Path.{◌≡◌}
-use borrow.Author.Rules.{rules}
-use native.Mathlib.Omega.{arith}
 use lib.ListN.{length}
 use Rattle.replay.proofs.replay_all.Given as goal
 

@@ -1,5 +1,4 @@
 -- The sum stays below 2^32; what is left of memory falls.
-use borrow.Author.Rules.{rules}
 use Prim.Native.Nat.{◌<◌, ◌-◌}
 use lib.ListN.{length}
 use Rattle.replay.proofs.checksum.add_memory.Given as goal

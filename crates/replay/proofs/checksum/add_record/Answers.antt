@@ -1,7 +1,4 @@
 use native.Mathlib.Omega.{arith}
-use borrow.Author.Rules.{rules}
-use Prim.Native.Nat.{◌<◌, ◌-◌}
-use lib.ListN.{length}
 use Rattle.laws.specs.Panels.{panel_room}
 use Rattle.replay.proofs.checksum.add_record.Goals as goal
 

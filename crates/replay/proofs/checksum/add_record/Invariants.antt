@@ -1,10 +1,6 @@
 -- The sum stays below 2^32, whether a byte is added or not; what is left of the record falls.
-use native.Mathlib.Omega.{arith}
-use mathlib.Core.Logic.{⊎_elim}
-use borrow.Author.Rules.{rules}
 use Prim.Native.Nat.{◌<◌, ◌-◌}
 use lib.ListN.{length}
-use Rattle.laws.specs.Panels.{panel_room}
 use Rattle.replay.proofs.checksum.add_record.Given as goal
 
 abbrev pub invariant-loop-i : goal.invariant-loop-i
