@@ -1,5 +1,5 @@
 -- Driven sends leave what direct sends leave. docs/THEOREM.md says it in words. The device, its calls and `run_device` stand in crates/model/specs/Controller.antt, the
--- driver in Driver.antt there; Free, a device that the driver may use, and toSend in Sends.antt here.
+-- driver in Driver.antt there; Free, a device that the driver may use, and to_send in Sends.antt here.
 use Rattle.std.specs.Prelude.{◌≡◌, true, false, List, [], ◌∷◌, ℕ, zero, suc, ◌+◌, ◌≤◌, ◌<◌}
 use Rattle.model.specs.Geometry.{Geometry}
 use Rattle.model.specs.declared.Rect.{Rect}

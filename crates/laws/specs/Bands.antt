@@ -73,7 +73,7 @@ module _ (g : Geometry) (m : Rect) (p : Pending) (n : length p.owed ≡ g.bands)
   pub owing_marks : x < width g → In m x y → In (own_band g (owing g m p).owed y) x y
   owing_marks hx i = let b = own-band g y h in rw own (join_right _ _ x y (cut_in (width g) _ _ m x y hx b.from b.to i))
 
--- ---- owedLines
+-- ---- owed_lines
 
 owed_lines-le : (w b lo : ℕ) (rs : List Rect) → BandsFit w b lo rs → owed_lines rs ≤ length rs * b
 unfolding owed_lines

@@ -143,15 +143,15 @@ pub enum Register {
 }
 
 // Results that hold more than a code. With a refusal all numbers but the code are 0.
-#[repr(C)]
 #[derive(Clone, Copy)]
+#[repr(C)]
 pub struct Value {
     pub code: u32,
     pub value: u32,
 }
 
-#[repr(C)]
 #[derive(Clone, Copy)]
+#[repr(C)]
 pub struct Area {
     pub code: u32,
     pub left: u32,
@@ -161,8 +161,8 @@ pub struct Area {
 }
 
 // sent is 1, or 0 for idle.
-#[repr(C)]
 #[derive(Clone, Copy)]
+#[repr(C)]
 pub struct Sent {
     pub code: u32,
     pub sent: u32,

@@ -1,7 +1,7 @@
 -- Calls in any order, on any glass: what is promised of panel k, of the record, the memory and its buffer, after an accepted open and every list of calls.
 -- BaseNumbers has the sizes and the bound in numbers, for document 01's glass, `base`.
--- Call, takes and outcome stand in crates/model/specs/Calls.antt; Buffers, Item, lentTo, run, reckoned, lastEdge, linesLeft, ownBand, Differs and differing in Lists.antt there;
--- IsGlass, what is asked of a glass, in Glass.antt there; acceptedCalls, leftBy and named in Accepted.antt here. docs/THEOREM.md says it in words.
+-- Call, takes and outcome stand in crates/model/specs/Calls.antt; Buffers, Item, lent_to, run, reckoned, last_edge, lines_left, own_band, Differs and differing in Lists.antt there;
+-- IsGlass, what is asked of a glass, in Glass.antt there; accepted_calls, left_by and named in Accepted.antt here. docs/THEOREM.md says it in words.
 use Rattle.std.specs.Prelude.{◌≡◌, ◌⊎◌, ◌↔◌, true, List, [], ◌∷◌, map, ℕ, ◌+◌, ◌-◌, ◌≤◌, ◌<◌, length, replicate}
 use Rattle.model.specs.Geometry.{Geometry, base, width, height, screen_bytes, memory_bytes}
 use Rattle.model.specs.Memory.{screen_of}
@@ -42,7 +42,7 @@ pub record Promised (g : Geometry) (k : ℕ) (start : Buffers) (items : List (It
   pub left-by : b ≡ left_by g start (accepted_calls g start items)
   -- the edge flag is that of the last accepted open: no other call changes it
   pub edge : (decode g b.rec).edge ≡ last_edge g 0 start items
-  -- L is at most mostLines, on the base 95
+  -- L is at most most_lines, on the base 95
   pub bound : lines_in g k b ≤ most_lines g
   -- a pixel that differs on screen and panel lies in hand or in what its own band owes
   pub places : (x y : ℕ) → x < width g → y < height g → Differs g (screen_in g b) (panel_buffer k b) x y

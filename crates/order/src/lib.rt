@@ -1,2 +1,2 @@
-// Calls in any order: specs/Theorem.antt has the theorem, the other files of specs/ its proof. No function has a body here.
+// Calls in any order: specs/Theorem.antt says what is promised, proofs/Theorem.antt has the theorem, the other files of specs/ lead to it. No function has a body here.
 #![tactic(auto)]

@@ -6,7 +6,6 @@ use lib.ListN.{length-replicate}
 use lib.Seq.{length-take-le}
 use Rattle.model.specs.Record.{total}
 use Rattle.script_run.proofs.Sizing.{text_room, text-fits}
-use borrow.Author.Rules.{rules}
 use Rattle.panelrun.proofs.main.Goals as goal
 
 pub run_script-end-requires : goal.run_script-end-requires
