@@ -3,6 +3,7 @@ ghost use Rattle.std.specs.Prelude.{◌≡◌, []};
 ghost use Rattle.model.specs.Geometry.{base};
 ghost use Rattle.model.specs.Calls.{value_numbers};
 ghost use Rattle.model.specs.Controller.{device, answer, device_outcome};
+ghost use Rattle.model.specs.Controller as controller;
 
 use model::Value;
 
