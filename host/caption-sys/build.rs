@@ -99,7 +99,11 @@ fn changed(path: &Path) -> Option<SystemTime> {
 /// When a file was changed last, or the newest file of a folder.
 fn newest(path: &Path) -> Option<SystemTime> {
     match fs::read_dir(path) {
-        Ok(entries) => entries.filter_map(|entry| newest(&entry.ok()?.path())).max(),
+        // not what rt made: crates/NAME/out
+        Ok(entries) => entries
+            .filter_map(|entry| Some(entry.ok()?.path()).filter(|it| !it.ends_with("out")))
+            .filter_map(|it| newest(&it))
+            .max(),
         Err(_) => changed(path),
     }
 }
