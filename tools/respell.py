@@ -4,7 +4,7 @@
 usage: python3 tools/respell.py            at the top of the repository, once, on the files as port.py left them
 
 Words are in snake case: camel case goes (`lineBytes` is `line_bytes`), and so does a dash between plain words
-(`calls-in-any-order` is `calls_in_any_order`). A dash that joins names of functions stays (`length-draw`).
+(`calls-in-any-order` is `calls_in_any_order`). A dash that joins names of functions stays (`length-draw`), but not in the name of a field.
 Where the new spelling of a lemma is that of a word of one of its files, the lemma keeps its dash, or gets it back.
 It writes .antt files, the clauses of .rt files, must-fail edits, and words in backquotes in comments and pages.
 """
@@ -43,6 +43,22 @@ def camel_gone(name):
     return "-".join(one(p) for p in parts)
 
 
+def fields_of(text):
+    """The names of the fields of records."""
+    found, inside = set(), None
+    for line in text.split("\n"):
+        indent = len(line) - len(line.lstrip())
+        if inside is not None and line.strip() and indent <= inside:
+            inside = None
+        if inside is not None:
+            m = re.match(r"\s*(?:pub )?([^\s(){};,.:]+) :", line)
+            if m:
+                found.add(m.group(1))
+        elif re.match(r"\s*(?:pub )?record .* where$", line):
+            inside = indent
+    return found
+
+
 def declared(root):
     names, functions, made = {}, set(), set()
     for f in texts(root, ".antt"):
@@ -69,6 +85,7 @@ def read_line(f, m, cache={}):
 def plan(root):
     names, functions, made = declared(root)
     functions |= LIBRARY
+    fields = set().union(*(fields_of(read(f)) for f in texts(root, ".antt")))
     want = {}
     for name in names:
         if name in made or name in KEPT:
@@ -76,7 +93,7 @@ def plan(root):
         new = camel_gone(name)
         if "-" in new:
             parts = [p for p in new.split("-") if p]
-            joined = all(p in functions or not re.match(r"[a-z]", p) for p in parts)
+            joined = name not in fields and all(p in functions or not re.match(r"[a-z]", p) for p in parts)
             if not joined and re.match(r"[a-z]", new):
                 new = new.replace("-", "_")
         if new != name:

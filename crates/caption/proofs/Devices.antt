@@ -84,7 +84,7 @@ drive_refused k l (suc c) e n = rw e refl
 pub record Tested (k : ℕ) (x : Registers) : Type 0 where
   pub fits : registers_fit base x ≡ true
   pub there : k < base.panels
-  pub not-busy : busy x ≡ false
+  pub not_busy : busy x ≡ false
 
 pub tested : (k : ℕ) (x : Registers) {t : ℕ} → t ≡ refusal (driver_tests base k x) → t ≡ 0 → Tested k x
 unfolding refusal
@@ -92,7 +92,7 @@ tested k x e z =
     let q : refusal (driver_tests base k x) ≡ 0 = sym e ∙ z in
     by_test (registers_fit base x)
     (λ f. by_test (ltb k base.panels)
-    (λ h. by_test (busy x) (λ y. absurd (let w : 10 ≡ 0 = rw (f, h, y) at q in omega arith)) (λ y. record { fits = f; there = ltb-true k base.panels h; not-busy = y }))
+    (λ h. by_test (busy x) (λ y. absurd (let w : 10 ≡ 0 = rw (f, h, y) at q in omega arith)) (λ y. record { fits = f; there = ltb-true k base.panels h; not_busy = y }))
     (λ h. absurd (let w : 9 ≡ 0 = rw (f, h) at q in omega arith)))
     (λ f. absurd (let w : 2 ≡ 0 = rw f at q in omega arith))
 
@@ -149,4 +149,4 @@ module _ (r m b p i : List ℕ) (k : ℕ) {e : ℕ} {v : Glass} (c : Chosen (len
       pub drive_idle : t ≡ 0 → Idle base x p
       drive_idle y =
           let d = tested k x q y in
-          record { sound = record { registers = refl; panel = lengths_fit.2; passes = d.fits }; not-busy = d.not-busy }
+          record { sound = record { registers = refl; panel = lengths_fit.2; passes = d.fits }; not_busy = d.not_busy }

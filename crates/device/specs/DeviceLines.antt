@@ -125,7 +125,7 @@ line_goes g {m = m} (c ∷ cs) d k i h =
 -- .. and the last data write ends it: the device is not busy, and the interrupt bit is set where it was, or where it is enabled now
 pub record Finished (g : Geometry) (d d' : Device) : Type 0 where
   pub sound : Sound g d'
-  pub not-busy : busy (fields_of d') ≡ false
+  pub not_busy : busy (fields_of d') ≡ false
   pub count : (fields_of d').count ≡ 0
   pub interrupts : interrupt (fields_of d') ≡ (interrupt (fields_of d) || enabled (fields_of d))
 
@@ -139,7 +139,7 @@ line_ends g d i h v =
     let e = eq-eqb (r.count - 1) 0 last in
     rw (o, e) (record {
       sound = rw (o, e) at next;
-      not-busy = status_busy false (interrupt r || enabled r);
+      not_busy = status_busy false (interrupt r || enabled r);
       count = last;
       interrupts = status_interrupt false (interrupt r || enabled r);
     })
@@ -155,4 +155,4 @@ pub line-done : (g : Geometry) (d : Device) → Sound g d → takes_write g (fie
     → busy (fields_of (device_outcome g (write 4 v) (run_device g (write 0 2 ∷ cs) d)).left) ≡ false
 unfolding run_device
 line-done g d s t cs k h v =
-    (line_ends g (run_device g (write 0 2 ∷ cs) d) (line_goes g cs (device_outcome g (write 0 2) d).left k (starts g d s t) (omega arith)) (omega arith) v).not-busy
+    (line_ends g (run_device g (write 0 2 ∷ cs) d) (line_goes g cs (device_outcome g (write 0 2) d).left k (starts g d s t) (omega arith)) (omega arith) v).not_busy

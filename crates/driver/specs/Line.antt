@@ -21,7 +21,7 @@ use Rattle.device.specs.Device.{Sound, sound_call, write_outcome}
 -- a device that passes and is not busy
 pub record Idle (g : Geometry) (r : Registers) (p : List ℕ) : Type 0 where
   pub sound : Sound g (device (bytes_of_registers r) p)
-  pub not-busy : busy r ≡ false
+  pub not_busy : busy r ≡ false
 
 -- pixels of a line
 pub record OnGlass (g : Geometry) (y left right : ℕ) : Type 0 where
@@ -70,15 +70,15 @@ module _ (g : Geometry) (k v : ℕ) {r s : Registers} {p q : List ℕ} (t : Read
 module _ (g : Geometry) {r : Registers} {p : List ℕ} (i : Idle g r p) where
   -- a register that takes any byte then, and leaves status
   pub ready_field : (n : Register) (v : ℕ) → takes_write g r n v ≡ not (busy r) → Ready g r n v p
-  ready_field n v t = record { passes = i.sound.passes; taken = t ∙ rw i.not-busy refl; panel = i.sound.panel }
+  ready_field n v t = record { passes = i.sound.passes; taken = t ∙ rw i.not_busy refl; panel = i.sound.panel }
 
   pub after_field : (k v : ℕ) → takes_write g r (register_of k) v ≡ not (busy r) → (registers_after r (register_of k) v).status ≡ r.status
       → {s : Registers} {q : List ℕ} → Written g r (register_of k) v p s q → Idle g s q
-  after_field k v t e w = record { sound = next_sound g k v (ready_field (register_of k) v t) w; not-busy = rw (w.registers, e) i.not-busy }
+  after_field k v t e w = record { sound = next_sound g k v (ready_field (register_of k) v t) w; not_busy = rw (w.registers, e) i.not_busy }
 
   pub ready_command : LineIn g r.line r.first r.count → Ready g r Command 2 p
   unfolding takes_write
-  ready_command l = record { passes = i.sound.passes; taken = rw (i.not-busy, line-fits g r l) refl; panel = i.sound.panel }
+  ready_command l = record { passes = i.sound.passes; taken = rw (i.not_busy, line-fits g r l) refl; panel = i.sound.panel }
 
 module _ (g : Geometry) {r a b c : Registers} {p pa pb pc : List ℕ} {line first count : ℕ} (i : Idle g r p) (l : LineIn g line first count)
     (w₁ : Written g r Line line p a pa) (w₂ : Written g a First first pa b pb) (w₃ : Written g b Count count pb c pc) where

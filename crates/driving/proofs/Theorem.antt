@@ -64,5 +64,5 @@ just_the_bytes_or_nothing g z k l b a =
     rw a (record {
       nothing = λ e. rw e refl;
       writes = λ e. rw e refl;
-      bytes = λ e. let h = line_lies g k l t e in line_bytes g q.top q.left q.right _ l.device t.sound t.not-busy (omega arith) h.wide h.right_in (image_long g k l t);
+      bytes = λ e. let h = line_lies g k l t e in line_bytes g q.top q.left q.right _ l.device t.sound t.not_busy (omega arith) h.wide h.right_in (image_long g k l t);
     })

@@ -88,7 +88,7 @@ stored = encode base state
 -- registers of zeros pass STATE and are not busy
 pub free_device : (p : List ℕ) → Free base (device (zeros 8) p)
 unfolding zeros registers_fit line_fits
-free_device p = record { registers = refl; passes = refl; not-busy = refl }
+free_device p = record { registers = refl; passes = refl; not_busy = refl }
 
 -- a direct send to panel k from the record of a state s: the state whose record it leaves, and the panel
 abbrev sent_state : ℕ → State → State

@@ -31,7 +31,7 @@ use Rattle.driving.specs.Writes.{line-done, line_room}
 pub record Free (g : Geometry) (d : Device) : Type 0 where
   pub registers : length d.registers ≡ register_bytes
   pub passes : registers_fit g (fields_of d) ≡ true
-  pub not-busy : busy (fields_of d) ≡ false
+  pub not_busy : busy (fields_of d) ≡ false
 
 -- ---- what an accepted driver call has passed
 
@@ -39,7 +39,7 @@ pub record Drivable (g : Geometry) (k : ℕ) (l : Driven) : Type 0 where
   pub lendable : Lendable g (lent l.rec l.memory l.image)
   pub there : k < g.panels
   pub sound : Sound g l.device
-  pub not-busy : busy (fields_of l.device) ≡ false
+  pub not_busy : busy (fields_of l.device) ≡ false
 
 pub drivable : (g : Geometry) → IsGlass g → (k : ℕ) (l : Driven) → Bytes l.rec → refusal (drive_refusals g k l) ≡ 0 → Drivable g k l
 unfolding drive_refusals
@@ -57,7 +57,7 @@ drivable g glass k l bytes a =
       };
       there = ltb-true k g.panels t.1.1.1.0;
       sound = record { registers = eqb-true (length l.device.registers) register_bytes d.0; panel = eqb-true (length l.device.panel) (screen_bytes g) d.1; passes = t.1.1.0 };
-      not-busy = not-true (busy (fields_of l.device)) t.1.1.1.1.0;
+      not_busy = not-true (busy (fields_of l.device)) t.1.1.1.1.0;
     }
 
 -- the rectangle whose top line the call sends, and the image as it leaves it
@@ -99,7 +99,7 @@ module _ (g : Geometry) (glass : IsGlass g) (k : ℕ) (r m b p : List ℕ) (free
   same_refusal : refusal (refusals g (send k) (lent r m p)) ≡ refusal (drive_refusals g k l)
   unfolding drive_refusals refusals refusal
   same_refusal =
-      rw (eq-eqb (length b) register_bytes free.registers, free.passes, free.not-busy, twice (eqb (length p) (screen_bytes g))) refl
+      rw (eq-eqb (length b) register_bytes free.registers, free.passes, free.not_busy, twice (eqb (length p) (screen_bytes g))) refl
 
   module _ (t : Drivable g k l) where
     -- the device after the driver's writes
@@ -117,9 +117,9 @@ module _ (g : Geometry) (glass : IsGlass g) (k : ℕ) (r m b p : List ℕ) (free
         (λ e.
         let h = line_lies g k l t e in
         let room = line_room g q.top q.left q.right (omega arith) h.wide h.right_in in
-        let d = line-done g q.top q.left q.right (copy_line g.stride q screen p) (device b p) t.sound free.not-busy (omega arith) h.wide h.right_in (rw e at long) in
+        let d = line-done g q.top q.left q.right (copy_line g.stride q screen p) (device b p) t.sound free.not_busy (omega arith) h.wide h.right_in (rw e at long) in
         let c = copied_bytes g.stride q.top q.left q.right h.wide screen p (rw t.lendable.panel room) in
-        rw e (d.panel ∙ c, record { registers = d.sound.registers; passes = d.sound.passes; not-busy = d.not-busy }))
+        rw e (d.panel ∙ c, record { registers = d.sound.registers; passes = d.sound.passes; not_busy = d.not_busy }))
 
     same_done : Same g (drive_done g k l) (done g (send k) (lent r m p))
     unfolding drive_done answer done answered

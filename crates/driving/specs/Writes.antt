@@ -40,7 +40,7 @@ pub record LineDone (g : Geometry) (cs : List DeviceCall) (d : Device) (a : ℕ)
   pub bytes : stored_bytes g cs d ≡ listing (λ i. i) a (length bs)
   pub panel : (run_device g cs d).panel ≡ with_window a bs d.panel
   pub sound : Sound g (run_device g cs d)
-  pub not-busy : busy (fields_of (run_device g cs d)) ≡ false
+  pub not_busy : busy (fields_of (run_device g cs d)) ≡ false
 
 -- ---- one call in front of others
 
@@ -77,7 +77,7 @@ quiet_first g c cs d {a} {bs} s t n p k =
       bytes = bytes_first g c cs d s t ∙ ap (λ (x : List ℕ). x ++ stored_bytes g cs (device_done g c d).left) n ∙ k.bytes;
       panel = ap (λ (x : Device). x.panel) r ∙ k.panel ∙ ap (with_window a bs) p;
       sound = rw r k.sound;
-      not-busy = rw r k.not-busy;
+      not_busy = rw r k.not_busy;
     }
 
 -- ---- the data bytes
@@ -111,7 +111,7 @@ data_done g b [] d i h =
       bytes = bytes_first g (write 4 b) [] d i.sound i.busy ∙ ap (λ (a : ℕ). a ∷ []) (goes_to g d i);
       panel = ap (λ (x : Device). x.panel) r ∙ data_panel g d i b;
       sound = e.sound;
-      not-busy = e.not-busy;
+      not_busy = e.not_busy;
     }
 data_done g {l} {f} {n} {m} b (c ∷ bs) d i h =
     let a = g.stride * l + (f + m) in
@@ -129,7 +129,7 @@ data_done g {l} {f} {n} {m} b (c ∷ bs) d i h =
           ap (λ (x : Device). x.panel) r ∙ k.panel ∙ (λ j. with_window (up j) (c ∷ bs) (data_panel g d i b j))
           ∙ window_extend a 1 (b ∷ []) (c ∷ bs) d.panel refl (omega (arith, on_panel g d i));
       sound = rw r k.sound;
-      not-busy = rw r k.not-busy;
+      not_busy = rw r k.not_busy;
     }
 
 data_all : (g : Geometry) {l f n m : ℕ} (bs : List ℕ) (d : Device) → InLine g l f n m d → 1 ≤ length bs → m + length bs ≡ n → LineDone g (map (write 4) bs) d (g.stride * l + (f + m)) bs

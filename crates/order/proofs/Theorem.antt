@@ -27,7 +27,7 @@ calls_on_any_glass g z k there graphics text version keys edge t r m ps a n item
     let q = s.lendable in
     record {
       record_length = q.passing.sized;
-      memory-length = q.memory;
+      memory_length = q.memory;
       panel_length = q.panel;
       passes = q.passing.passes;
       sendable = sendable g k there b q;

@@ -46,7 +46,7 @@ module _ (graphics text version : ℕ) (keys : List ℕ) (edge : ℕ) (t : Typed
         let b = run base start (first ∷ here (send k) u ∷ []) in
         let l = lent b.rec b.memory [] in
         let clears : accepted base cls l =
-        own_decide base cls l (record { sized = sent.record_length; lengths = eq-eqb (length b.memory) 65536 sent.memory-length; state = (sent.passes, tt) }) in
+        own_decide base cls l (record { sized = sent.record_length; lengths = eq-eqb (length b.memory) 65536 sent.memory_length; state = (sent.passes, tt) }) in
         ap lines_left (promised (here (send k) u ∷ here cls tt ∷ [])).pending ∙ rw (a, (promised []).sendable, clears, eq-eqb k k refl) refl
 
     -- a reset keeps the edge flag
@@ -57,7 +57,7 @@ module _ (graphics text version : ℕ) (keys : List ℕ) (edge : ℕ) (t : Typed
         let b = run base start (first ∷ []) in
         let l = lent b.rec b.memory [] in
         let resets : accepted base reset l =
-        own_decide base reset l (record { sized = opened.record_length; lengths = eq-eqb (length b.memory) 65536 opened.memory-length; state = (opened.passes, tt) }) in
+        own_decide base reset l (record { sized = opened.record_length; lengths = eq-eqb (length b.memory) 65536 opened.memory_length; state = (opened.passes, tt) }) in
         let told : last_edge base 0 start (first ∷ here reset tt ∷ []) ≡ edge = rw (a, resets) refl in
         omega (arith, (promised (here reset tt ∷ [])).edge, told)
 

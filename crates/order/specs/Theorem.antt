@@ -30,7 +30,7 @@ screen_in g b = screen_of g (decode g b.rec).head.graphics b.memory
 pub record Promised (g : Geometry) (k : ℕ) (start : Buffers) (items : List (Item g)) (b : Buffers) : Type 0 where
   -- the bytes have the lengths that LENT asks for
   pub record_length : length b.rec ≡ record_bytes g
-  pub memory-length : length b.memory ≡ memory_bytes
+  pub memory_length : length b.memory ≡ memory_bytes
   pub panel_length : length (panel_buffer k b) ≡ screen_bytes g
   -- the record passes STATE
   pub passes : valid g b.rec ≡ true

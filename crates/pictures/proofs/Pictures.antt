@@ -3,7 +3,7 @@ use Rattle.std.specs.Prelude.{refl}
 use Rattle.model.specs.Codes.{in_row, index_in, emoji_index, gb_index}
 use Rattle.laws.specs.Glyphs.{empty_row}
 use Rattle.pictures.specs.Drawings.{clear_unmarked, clear_edge}
-use Rattle.pictures.proofs.Shapes.{point_off, point-unknown, line-clamped, line-beyond, line-cut, line-down, line-sloped, box_past_bottom, box-cut, outline-cut, disc_clamped, disc_beyond, circle-parts, circle-steps, circle-two, circle_one, bitmap_clipped, source_refused, source_accepted}
+use Rattle.pictures.proofs.Shapes.{point_off, point_unknown, line_clamped, line_beyond, line_cut, line_down, line_sloped, box_past_bottom, box_cut, outline_cut, disc_clamped, disc_beyond, circle_parts, circle_steps, circle-two, circle_one, bitmap_clipped, source_refused, source_accepted}
 use Rattle.pictures.proofs.BoxRows.{box_row}
 use Rattle.pictures.proofs.ScriptTexts.{point_send, send_point, send_points}
 use Rattle.pictures.proofs.EmptyRows.{one_pair, unassigned_codes, unassigned_glyph, codes_shown, glyph_shown}
@@ -15,31 +15,31 @@ known_pictures = record {
   start = clear_unmarked;
   start_edge = clear_edge;
   point_off = point_off;
-  point-unknown = point-unknown;
-  line-clamped = line-clamped;
-  line-sloped = line-sloped;
+  point_unknown = point_unknown;
+  line_clamped = line_clamped;
+  line_sloped = line_sloped;
   box_row_79 = box_row;
   box_row_78 = box_past_bottom;
-  circle-parts = circle-parts;
-  circle-steps = circle-steps;
-  circle-corners = circle-two;
+  circle_parts = circle_parts;
+  circle_steps = circle_steps;
+  circle_corners = circle-two;
   circle_one = circle_one;
   bitmap_clipped = bitmap_clipped;
   source_refused = source_refused;
   source_accepted = source_accepted;
-  codes-V1 = (refl, refl);
-  codes-V2 = (refl, refl);
+  codes_V1 = (refl, refl);
+  codes_V2 = (refl, refl);
   point_send = point_send;
   send_point = send_point;
-  line-down = line-down;
+  line_down = line_down;
   send_points = send_points;
-  line-beyond = line-beyond;
-  line-cut = line-cut;
-  box-cut = box-cut;
-  outline-cut = outline-cut;
+  line_beyond = line_beyond;
+  line_cut = line_cut;
+  box_cut = box_cut;
+  outline_cut = outline_cut;
   disc_beyond = disc_beyond;
   disc_clamped = disc_clamped;
-  codes-GB = (refl, refl, refl, refl);
+  codes_GB = (refl, refl, refl, refl);
   empty_rows = empty_row;
   one_pair = one_pair;
   unassigned_codes = unassigned_codes;

@@ -33,33 +33,33 @@ point_off mode h l u =
     done_on l u (draw (point 160 0 mode)) refl (le-leb mode 3 h, tt)
     ∙ (λ i. answered 0 [] (lent (unmarked base l.rec (passing l u) i) (window_back (graphics_in l) 1600 l.memory (screen_fits l u) i) l.panel))
 
-pub point-unknown : Picture (draw (point 5 5 3)) [] (rect 5 5 6 6) (first (rect 5 5 6 6))
+pub point_unknown : Picture (draw (point 5 5 3)) [] (rect 5 5 6 6) (first (rect 5 5 6 6))
 unfolding pointDrawing point_rect point_op on_screen seen owes within inside join_owed join is_empty cut pictured hits made alike all_of names
-point-unknown l u = drew l u (point 5 5 3) refl (refl, tt) (inr (omega arith)) refl refl refl
+point_unknown l u = drew l u (point 5 5 3) refl (refl, tt) (inr (omega arith)) refl refl refl
 
-pub line-clamped : EdgePicture 0 (draw (line 200 90 210 90 1)) (sets 159 79 ∷ []) (rect 200 90 211 91) (last (rect 159 79 160 80))
+pub line_clamped : EdgePicture 0 (draw (line 200 90 210 90 1)) (sets 159 79 ∷ []) (rect 200 90 211 91) (last (rect 159 79 160 80))
 unfolding lineDrawing edge_of horizontal_line horizontal clamped owed_by pixel_run run_op lowered on_screen seen owes within inside join_owed join is_empty cut pictured hits made alike all_of names
-line-clamped l u e = drew l u (line 200 90 210 90 1) e (refl, tt) (inr (omega arith)) refl refl refl
+line_clamped l u e = drew l u (line 200 90 210 90 1) e (refl, tt) (inr (omega arith)) refl refl refl
 
-pub line-beyond : EdgePicture 1 (draw (line 200 90 210 90 1)) [] (rect 200 90 211 91) nothing
+pub line_beyond : EdgePicture 1 (draw (line 200 90 210 90 1)) [] (rect 200 90 211 91) nothing
 unfolding lineDrawing edge_of horizontal_line horizontal stopped owed_by pixel_run run_op on_screen seen owes within inside join_owed join is_empty cut pictured hits made alike all_of names
-line-beyond l u e = drew l u (line 200 90 210 90 1) e (refl, tt) (inr (omega arith)) refl refl refl
+line_beyond l u e = drew l u (line 200 90 210 90 1) e (refl, tt) (inr (omega arith)) refl refl refl
 
-pub line-cut : EdgePicture 1 (draw (line 150 79 170 79 1))
+pub line_cut : EdgePicture 1 (draw (line 150 79 170 79 1))
     (sets 150 79 ∷ sets 151 79 ∷ sets 152 79 ∷ sets 153 79 ∷ sets 154 79 ∷ sets 155 79 ∷ sets 156 79 ∷ sets 157 79 ∷ sets 158 79 ∷ sets 159 79 ∷ [])
     (rect 150 79 171 80) (last (rect 150 79 160 80))
 unfolding lineDrawing edge_of horizontal_line horizontal stopped owed_by pixel_run run_op on_screen seen owes within inside join_owed join is_empty cut pictured hits made alike all_of names
 -- its left and right as numbers: in `line` they are a minimum and a maximum, worked out again for each pixel
-line-cut l u e = drew_as l u (line 150 79 170 79 1) (horizontal_line 20 80 Stop 150 170 79 Or) refl e (refl, tt) (inr (omega arith)) refl refl refl
+line_cut l u e = drew_as l u (line 150 79 170 79 1) (horizontal_line 20 80 Stop 150 170 79 Or) refl e (refl, tt) (inr (omega arith)) refl refl refl
 
 -- over a band's edge
-pub line-down : Picture (draw (line 3 14 3 17 1)) (sets 3 14 ∷ sets 3 15 ∷ sets 3 16 ∷ sets 3 17 ∷ []) (rect 3 14 4 18) (rect 3 14 4 16 ∷ rect 3 16 4 18 ∷ none ∷ none ∷ none ∷ [])
+pub line_down : Picture (draw (line 3 14 3 17 1)) (sets 3 14 ∷ sets 3 15 ∷ sets 3 16 ∷ sets 3 17 ∷ []) (rect 3 14 4 18) (rect 3 14 4 16 ∷ rect 3 16 4 18 ∷ none ∷ none ∷ none ∷ [])
 unfolding lineDrawing is_unknown vertical_line vertical pixel_column point_op on_screen seen owes within inside join_owed join is_empty cut pictured hits made alike all_of names
-line-down l u = drew l u (line 3 14 3 17 1) refl (refl, tt) (inr (omega arith)) refl refl refl
+line_down l u = drew l u (line 3 14 3 17 1) refl (refl, tt) (inr (omega arith)) refl refl refl
 
-pub line-sloped : Picture (draw (line 0 0 2 1 1)) (sets 0 0 ∷ sets 1 0 ∷ sets 2 1 ∷ []) (rect 0 0 3 2) (first (rect 0 0 3 2))
+pub line_sloped : Picture (draw (line 0 0 2 1 1)) (sets 0 0 ∷ sets 1 0 ∷ sets 2 1 ∷ []) (rect 0 0 3 2) (first (rect 0 0 3 2))
 unfolding lineDrawing is_unknown sloped_line sloped slope stepped next_error point_op on_screen seen owes within inside join_owed join is_empty cut pictured hits made alike all_of names
-line-sloped l u = drew l u (line 0 0 2 1 1) refl (refl, tt) (inr (omega arith)) refl refl refl
+line_sloped l u = drew l u (line 0 0 2 1 1) refl (refl, tt) (inr (omega arith)) refl refl refl
 
 -- ---- boxes
 
@@ -69,27 +69,27 @@ pub box_past_bottom : EdgePicture 0 (draw (box 0 78 7 80 1 2))
 unfolding boxDrawing box_of edge_of filled_box box_rows horizontal clamped owed_by pixel_run run_op lowered on_screen seen owes within inside join_owed join is_empty cut pictured hits made alike all_of names
 box_past_bottom l u e = drew l u (box 0 78 7 80 1 2) e (refl, tt) (inr (omega arith)) refl refl refl
 
-pub box-cut : EdgePicture 1 (draw (box 0 78 7 80 1 2))
+pub box_cut : EdgePicture 1 (draw (box 0 78 7 80 1 2))
     (inverts 0 78 ∷ inverts 1 78 ∷ inverts 2 78 ∷ inverts 3 78 ∷ inverts 4 78 ∷ inverts 5 78 ∷ inverts 6 78 ∷ inverts 7 78
     ∷ inverts 0 79 ∷ inverts 1 79 ∷ inverts 2 79 ∷ inverts 3 79 ∷ inverts 4 79 ∷ inverts 5 79 ∷ inverts 6 79 ∷ inverts 7 79 ∷ [])
     (rect 0 78 8 81) (last (rect 0 78 8 80))
 unfolding boxDrawing box_of edge_of filled_box box_rows horizontal stopped owed_by pixel_run run_op on_screen seen owes within inside join_owed join is_empty cut pictured hits made alike all_of names
-box-cut l u e = drew l u (box 0 78 7 80 1 2) e (refl, tt) (inr (omega arith)) refl refl refl
+box_cut l u e = drew l u (box 0 78 7 80 1 2) e (refl, tt) (inr (omega arith)) refl refl refl
 
 -- an outline past the right lower corner
-pub outline-cut : EdgePicture 1 (draw (box 158 78 161 81 0 1)) (sets 158 78 ∷ sets 159 78 ∷ sets 158 79 ∷ []) (rect 158 78 162 82) (last (rect 158 78 160 80))
+pub outline_cut : EdgePicture 1 (draw (box 158 78 161 81 0 1)) (sets 158 78 ∷ sets 159 78 ∷ sets 158 79 ∷ []) (rect 158 78 162 82) (last (rect 158 78 160 80))
 unfolding boxDrawing box_of edge_of outline is_unknown horizontal stopped vertical pixel_column point_op owed_by pixel_run run_op on_screen seen owes within inside join_owed join is_empty cut pictured hits made alike all_of names
-outline-cut l u e = drew l u (box 158 78 161 81 0 1) e (refl, tt) (inr (omega arith)) refl refl refl
+outline_cut l u e = drew l u (box 158 78 161 81 0 1) e (refl, tt) (inr (omega arith)) refl refl refl
 
 -- ---- circles
 
-pub circle-parts : parts 2 2 ≡ part 2 0 ∷ part 2 1 ∷ part 2 2 ∷ part 0 2 ∷ []
+pub circle_parts : parts 2 2 ≡ part 2 0 ∷ part 2 1 ∷ part 2 2 ∷ part 0 2 ∷ []
 unfolding parts parts_from start step step_parts x_step y_step x_parts y_parts advanced moves turns turned ended
-circle-parts = refl
+circle_parts = refl
 
-pub circle-steps : steps 2 2 ≡ 4
+pub circle_steps : steps 2 2 ≡ 4
 unfolding steps steps_from start step x_step y_step advanced moves turns turned ended
-circle-steps = refl
+circle_steps = refl
 
 -- its parts' corners
 pub circle-two : Picture (draw (circle 10 10 2 0 1))

@@ -67,11 +67,11 @@ pub record KnownPictures : Type 0 where
   -- Point (160, 0): nothing
   pub point_off : (mode : ℕ) → mode ≤ 3 → (l : Lent) → Unmarked l → outcome base (draw (point 160 0 mode)) l ≡ answered 0 [] l
   -- Point (5, 5) Unknown: only dirty and owed 5, 5, 6, 6
-  pub point-unknown : Picture (draw (point 5 5 unknown)) [] (rect 5 5 6 6) (first (rect 5 5 6 6))
+  pub point_unknown : Picture (draw (point 5 5 unknown)) [] (rect 5 5 6 6) (first (rect 5 5 6 6))
   -- Line (200, 90)-(210, 90) Or: pixel (159, 79); dirty 200, 90, 211, 91; owed 159, 79, 160, 80
-  pub line-clamped : EdgePicture clamp (draw (line 200 90 210 90 or)) (sets 159 79 ∷ []) (rect 200 90 211 91) (last (rect 159 79 160 80))
+  pub line_clamped : EdgePicture clamp (draw (line 200 90 210 90 or)) (sets 159 79 ∷ []) (rect 200 90 211 91) (last (rect 159 79 160 80))
   -- Line (0, 0)-(2, 1) Or: (0, 0), (1, 0), (2, 1)
-  pub line-sloped : Picture (draw (line 0 0 2 1 or)) (sets 0 0 ∷ sets 1 0 ∷ sets 2 1 ∷ []) (rect 0 0 3 2) (first (rect 0 0 3 2))
+  pub line_sloped : Picture (draw (line 0 0 2 1 or)) (sets 0 0 ∷ sets 1 0 ∷ sets 2 1 ∷ []) (rect 0 0 3 2) (first (rect 0 0 3 2))
   -- Filled box (0, 78)-(7, 80) Xor: row 79 unchanged; row 78 is inverted from 0 to 7
   pub box_row_79 : (l : Lent) → Unmarked l → edge_flag l ≡ clamp → (x : ℕ) → x < 160
       → bit 20 (screen_in (outcome base (draw (box 0 78 7 80 filled xor)) l).left) x 79 ≡ bit 20 (screen_in l) x 79
@@ -79,9 +79,9 @@ pub record KnownPictures : Type 0 where
       (inverts 0 78 ∷ inverts 1 78 ∷ inverts 2 78 ∷ inverts 3 78 ∷ inverts 4 78 ∷ inverts 5 78 ∷ inverts 6 78 ∷ inverts 7 78 ∷ [])
       (rect 0 78 8 81) (last (rect 0 78 8 80))
   -- Circle (10, 10) radius 2: parts (2, 0), (2, 1), (2, 2), (0, 2) in 4 steps; Or sets their corners
-  pub circle-parts : parts 2 2 ≡ part 2 0 ∷ part 2 1 ∷ part 2 2 ∷ part 0 2 ∷ []
-  pub circle-steps : steps 2 2 ≡ 4
-  pub circle-corners : Picture (draw (circle 10 10 2 outlined or))
+  pub circle_parts : parts 2 2 ≡ part 2 0 ∷ part 2 1 ∷ part 2 2 ∷ part 0 2 ∷ []
+  pub circle_steps : steps 2 2 ≡ 4
+  pub circle_corners : Picture (draw (circle 10 10 2 outlined or))
       (sets 8 10 ∷ sets 12 10 ∷ sets 8 9 ∷ sets 12 9 ∷ sets 8 11 ∷ sets 12 11 ∷ sets 8 8 ∷ sets 12 8 ∷ sets 8 12 ∷ sets 12 12 ∷ sets 10 8 ∷ sets 10 12 ∷ [])
       (rect 8 8 160 80) (down_from 8 8 160)
   -- Radius 1 Or: (9, 10), (11, 10) only
@@ -94,34 +94,34 @@ pub record KnownPictures : Type 0 where
   pub source_refused : (x y : ℤ) (mode : ℕ) → mode ≤ 4 → (l : Lent) → Unmarked l → outcome base (draw (bitmap 65535 x y 9 1 mode)) l ≡ answered SOURCE [] l
   pub source_accepted : (x y : ℤ) (mode : ℕ) → mode ≤ 4 → (l : Lent) → Unmarked l → (outcome base (draw (bitmap 65534 x y 9 1 mode)) l).code ≡ 0
   -- Codes 0xFA46 and 0xFD7D in V1: 0 and 526; so 0xF8A1 and 0xFDD9 in V2
-  pub codes-V1 : (emoji_of V1 0xFA46 ≡ At 0) × (emoji_of V1 0xFD7D ≡ At 526)
-  pub codes-V2 : (emoji_of V2 0xF8A1 ≡ At 0) × (emoji_of V2 0xFDD9 ≡ At 526)
+  pub codes_V1 : (emoji_of V1 0xFA46 ≡ At 0) × (emoji_of V1 0xFD7D ≡ At 526)
+  pub codes_V2 : (emoji_of V2 0xF8A1 ≡ At 0) × (emoji_of V2 0xFDD9 ≡ At 526)
   -- The point form, then a send, prints `(done)`, `(sent 0 0 160)`, `(end 0 79)`
   pub point_send : script_text (bytes_of "(point (3 0) or)\n(send)\n") ≡ bytes_of "(done)\n(sent 0 0 160)\n(end 0 79)\n"
   -- Send first gives `(sent 0 0 160)`, `(done)`, `(end 1 80)`
   pub send_point : script_text (bytes_of "(send)\n(point (3 0) or)\n") ≡ bytes_of "(sent 0 0 160)\n(done)\n(end 1 80)\n"
   -- Our own, of what is owed by bands. Line (3, 14)-(3, 17) Or: owed 3, 14, 4, 16 in the first band and 3, 16, 4, 18 in the second
-  pub line-down : Picture (draw (line 3 14 3 17 or)) (sets 3 14 ∷ sets 3 15 ∷ sets 3 16 ∷ sets 3 17 ∷ []) (rect 3 14 4 18) (rect 3 14 4 16 ∷ rect 3 16 4 18 ∷ none ∷ none ∷ none ∷ [])
+  pub line_down : Picture (draw (line 3 14 3 17 or)) (sets 3 14 ∷ sets 3 15 ∷ sets 3 16 ∷ sets 3 17 ∷ []) (rect 3 14 4 18) (rect 3 14 4 16 ∷ rect 3 16 4 18 ∷ none ∷ none ∷ none ∷ [])
   -- A send, then a point in the first line and one in the last: 15 lines in hand, 1 owed in the first band, the 64 of the others; as one rectangle 159 would be left
   pub send_points : script_text (bytes_of "(send)\n(point (3 0) or)\n(point (3 79) or)\n") ≡ bytes_of "(sent 0 0 160)\n(done)\n(done)\n(end 2 80)\n"
   -- Our own, of lines that stop at the edge. Line (200, 90)-(210, 90): nothing drawn, nothing owed; dirty 200, 90, 211, 91
-  pub line-beyond : EdgePicture stop (draw (line 200 90 210 90 or)) [] (rect 200 90 211 91) nothing
+  pub line_beyond : EdgePicture stop (draw (line 200 90 210 90 or)) [] (rect 200 90 211 91) nothing
   -- Line (150, 79)-(170, 79): ten pixels
-  pub line-cut : EdgePicture stop (draw (line 150 79 170 79 or))
+  pub line_cut : EdgePicture stop (draw (line 150 79 170 79 or))
       (sets 150 79 ∷ sets 151 79 ∷ sets 152 79 ∷ sets 153 79 ∷ sets 154 79 ∷ sets 155 79 ∷ sets 156 79 ∷ sets 157 79 ∷ sets 158 79 ∷ sets 159 79 ∷ [])
       (rect 150 79 171 80) (last (rect 150 79 160 80))
   -- Filled box (0, 78)-(7, 80) Xor: rows 78 and 79 inverted once
-  pub box-cut : EdgePicture stop (draw (box 0 78 7 80 filled xor))
+  pub box_cut : EdgePicture stop (draw (box 0 78 7 80 filled xor))
       (inverts 0 78 ∷ inverts 1 78 ∷ inverts 2 78 ∷ inverts 3 78 ∷ inverts 4 78 ∷ inverts 5 78 ∷ inverts 6 78 ∷ inverts 7 78
       ∷ inverts 0 79 ∷ inverts 1 79 ∷ inverts 2 79 ∷ inverts 3 79 ∷ inverts 4 79 ∷ inverts 5 79 ∷ inverts 6 79 ∷ inverts 7 79 ∷ [])
       (rect 0 78 8 81) (last (rect 0 78 8 80))
   -- Outlined box (158, 78)-(161, 81): its upper side and its left one, cut
-  pub outline-cut : EdgePicture stop (draw (box 158 78 161 81 outlined or)) (sets 158 78 ∷ sets 159 78 ∷ sets 158 79 ∷ []) (rect 158 78 162 82) (last (rect 158 78 160 80))
+  pub outline_cut : EdgePicture stop (draw (box 158 78 161 81 outlined or)) (sets 158 78 ∷ sets 159 78 ∷ sets 158 79 ∷ []) (rect 158 78 162 82) (last (rect 158 78 160 80))
   -- Filled circle (162, 10) radius 2: nothing drawn, nothing owed; clamped, it is five pixels of the last column
   pub disc_beyond : EdgePicture stop (draw (circle 162 10 2 filled or)) [] (rect 160 8 165 80) nothing
   pub disc_clamped : EdgePicture clamp (draw (circle 162 10 2 filled or)) (sets 159 8 ∷ sets 159 9 ∷ sets 159 10 ∷ sets 159 11 ∷ sets 159 12 ∷ []) (rect 160 8 165 80) (down_from 159 8 160)
   -- Our own, of GB 2312-80 and its empty rows, 10-15. Row 16 follows row 9 in the font
-  pub codes-GB : (gb_of 0xA1A1 ≡ At 0) × (gb_of 0xA9FE ≡ At 845) × (gb_of 0xB0A1 ≡ At 846) × (gb_of 0xF7FE ≡ At 7613)
+  pub codes_GB : (gb_of 0xA1A1 ≡ At 0) × (gb_of 0xA9FE ≡ At 845) × (gb_of 0xB0A1 ≡ At 846) × (gb_of 0xF7FE ≡ At 7613)
   -- A pair of leads 170-175 goes on to the extra list, then to hexadecimal codes
   pub empty_rows : (version : ℕ) (list : List ℕ) (lead trail : ℕ) → 170 ≤ lead → lead ≤ 175
       → glyph_of version list lead trail ≡ glyph_or (extra_offset list (256 * lead + trail)) Extra Hexadecimal
