@@ -53,7 +53,7 @@
 
    Threads. There is no global data, no heap, no lock and no system call: calls on different buffers may run at the same time. Calls that share a buffer may not,
    unless it is `const` in all of them; so sends to two panels of one screen, which share its record, may not either.
-   Stack. caption_paint_bitmap takes 8.5 KB, caption_paint_bitmap_by_bytes 10.3 KB, any other call less than 600 bytes (measured over random calls; docs/CALLS.md).
+   Stack. caption_paint_bitmap takes at most 8.5 KB, caption_paint_bitmap_by_bytes at most 10.3 KB, any other call less than 600 bytes (measured; docs/CALLS.md).
    No proof covers the stack.
    Target. x86-64 Linux, position independent; of the C library memcpy and memset. */
 #ifndef CAPTION_H
