@@ -2,3 +2,4 @@ pub mod Sending
 pub mod Opening
 pub mod Painting
 pub mod Poking
+pub mod Screens

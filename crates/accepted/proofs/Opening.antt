@@ -1,11 +1,8 @@
 -- Open and reset: the keys that memory is cleared with are the record's.
-use mathlib.Core.Path.{◌≡◌, sym, ap, ◌∙◌}
-use mathlib.Core.List.{List, []}
-use Prim.Native.Nat.{ℕ}
-use lib.ListN.{length}
+use Rattle.std.proofs.Common.{◌≡◌, sym, ap, ◌∙◌, List, [], ℕ, length}
 use Rattle.model.specs.Geometry.{Geometry}
 use Rattle.model.specs.Glass.{glass_of}
-use Rattle.model.specs.Record.{record_bytes, decode, encode}
+use Rattle.model.specs.Record.{decode, encode}
 use Rattle.model.specs.Open.{clear_memory, open_state, reset_state}
 use Rattle.model.specs.Calls.{opening, reset, lent, answered, done}
 use Rattle.laws.specs.Record.{length-encode, well_sized}
@@ -21,9 +18,6 @@ module _ {r m keys : List ℕ} (graphics text version edge : ℕ) (o : Opened r 
   -- the record is as long as it was
   long : length s ≡ length r
   long = ap length e ∙ length-encode g _ (well_sized g _ (open_formed g o.glass graphics text version keys edge o.told)) ∙ sym o.sized
-
-  pub opened_sized : length s ≡ record_bytes (glass_of (length s))
-  opened_sized = long ∙ o.sized ∙ ap (λ (n : ℕ). record_bytes (glass_of n)) (sym long)
 
   pub was_opened : {n : List ℕ} → n ≡ clear_memory (decode (glass_of (length s)) s).keys → answered 0 [] (lent s n []) ≡ done g (opening graphics text version keys edge) (lent r m [])
   unfolding done

@@ -1,25 +1,12 @@
 -- Bitmaps: the source that is kept before the first pixel is painted.
-use mathlib.Core.Path.{◌≡◌, refl, ap, ◌∙◌}
-use mathlib.Core.List.{List}
-use mathlib.Core.Bool.{true}
-use Prim.Native.Nat.{ℕ, zero, suc, ◌+◌, ◌-◌, ◌<◌, ◌≤◌}
-use native.Mathlib.Omega.{arith}
-use lib.ListN.{length, take, drop}
+use Rattle.std.proofs.Common.{◌≡◌, ap, ◌∙◌, List, true, ℕ, ◌+◌, ◌-◌, ◌<◌, ◌≤◌, arith, length, take, drop}
 use Rattle.model.specs.declared.glass.Glass.{Glass}
-use Rattle.model.specs.declared.PaintMode.TheVariants.{Xor}
 use Rattle.model.specs.Geometry.{base, screen_bytes}
-use Rattle.model.specs.Bitmaps.{paint_mode, source_bytes, source_fits}
+use Rattle.model.specs.Bitmaps.{source_bytes, source_fits}
 use Rattle.bitmap.proofs.Sources.{source_small, source_in}
 use Rattle.record.specs.Entry.{Chosen}
 use Rattle.record.specs.Given.{Given}
 use Rattle.laws.specs.Parts.{part_length}
-
-pub last_mode : (n : ℕ) → 4 ≤ n → Xor ≡ paint_mode n
-last_mode zero h = absurd (omega arith)
-last_mode (suc zero) h = absurd (omega arith)
-last_mode (suc (suc zero)) h = absurd (omega arith)
-last_mode (suc (suc (suc zero))) h = absurd (omega arith)
-last_mode (suc (suc (suc (suc n)))) h = refl
 
 -- c bytes from a on are a source in memory m, and find room in the array that keeps them
 pub record Source (m : List ℕ) (a c : ℕ) : Type 0 where

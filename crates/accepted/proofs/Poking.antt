@@ -1,22 +1,15 @@
 -- Pokes: ignored, on the screen, elsewhere.
-use mathlib.Core.Path.{◌≡◌, sym, ap, ◌∙◌}
-use mathlib.Core.List.{List, []}
-use mathlib.Core.Bool.{Bool, true, false, ◌||◌, ◌&&◌}
-use Prim.Native.Nat.{ℕ, ◌+◌, ◌-◌, ◌*◌, ◌/◌, ◌%◌, ◌^◌, ◌<◌, ◌≤◌}
-use native.Mathlib.Nat.{mod-lt, div-lt_iff_lt-mul, mul-le-mul_left, mul-le-mul_right}
-use native.Mathlib.Omega.{arith}
+use Rattle.std.proofs.Common.{◌≡◌, sym, ap, ◌∙◌, List, [], Bool, true, false, ℕ, ◌+◌, ◌-◌, ◌*◌, ◌/◌, ◌%◌, ◌<◌, ◌≤◌, arith, leb, ltb, length, set}
+use Rattle.std.proofs.Math.Nat.{mul-le-mul_left}
 use borrow.Author.Tests.{leb-true, ltb-true}
-use lib.Dec.{leb, ltb}
-use lib.ListN.{length, set}
 use Rattle.model.specs.declared.Rect.{Rect}
 use Rattle.model.specs.declared.Head.{Head}
 use Rattle.model.specs.declared.Marks.{Marks}
 use Rattle.model.specs.declared.glass.Glass.{Glass}
 use Rattle.model.specs.Geometry.{screen_bytes}
-use Rattle.model.specs.Glass.{geometry, glass_of, line_parts, Suits}
+use Rattle.model.specs.Glass.{geometry, glass_of, line_parts}
 use Rattle.model.specs.Record.{decode, encode}
 use Rattle.model.specs.Marks.{marked}
-use Rattle.model.specs.Open.{is_key}
 use Rattle.model.specs.Poke.{ignored, poked, byte_rect, in_screen, poke_mark}
 use Rattle.model.specs.Calls.{write_byte, lent, answered, done}
 use Rattle.laws.specs.Tests.{and-true}
@@ -29,63 +22,34 @@ use Rattle.record.specs.Entry.{Chosen}
 use Rattle.record.specs.Given.{Given}
 use Rattle.record.proofs.Lengths.{passes_for}
 use Rattle.updates.proofs.Drawing.{Loaded, lands}
-use Rattle.accepted.specs.ScreenByte.{ScreenByte}
-
-pub is_ignored : (keys : List ℕ) (a : ℕ) {k : Bool} → k ≡ is_key keys a → (leb 57344 a || k) ≡ ignored keys a
-unfolding ignored
-is_ignored keys a e = ap (λ (b : Bool). leb 57344 a || b) e
-
-pub in-screen : (v : Glass) (g a : ℕ) → Suits v → (leb g a && ltb a (g + v.screen)) ≡ in_screen (geometry v) g a
-unfolding in_screen
-in-screen v g a z = ap (λ (n : ℕ). leb g a && ltb a (g + n)) z.is_screen
 
 pub from_base : (v : Glass) (g a : ℕ) {b : Bool} → b ≡ in_screen (geometry v) g a → b ≡ true → g ≤ a
 unfolding in_screen
 from_base v g a e f = leb-true g a (and-true (leb g a) (ltb a (g + screen_bytes (geometry v))) (sym e ∙ f)).0
 
-pub on_screen : (v : Glass) (g a : ℕ) {b : Bool} → Suits v → b ≡ in_screen (geometry v) g a → b ≡ true → ScreenByte v (a - g)
+pub on_screen : (v : Glass) (g a : ℕ) {b : Bool} → b ≡ in_screen (geometry v) g a → b ≡ true → a - g < v.screen
 unfolding in_screen
-on_screen v g a z e f =
+on_screen v g a e f =
     let s = screen_bytes (geometry v) in
     let l : a < g + s = ltb-true a (g + s) (and-true (leb g a) (ltb a (g + s)) (sym e ∙ f)).1 in
-    record { suits = z; below = omega (arith, z.is_screen, from_base v g a e f) }
+    omega (arith, v.suits.is_screen, from_base v g a e f)
 
 -- ---- the line and the column of a screen byte
 
-module _ {v : Glass} {i : ℕ} (b : ScreenByte v i) where
+module _ (v : Glass) {i : ℕ} (b : i < v.screen) where
   -- a glass has up to 256 lines of up to 32 bytes
   lines : (0 < v.stride) × (v.stride ≤ 32) × (i < v.stride * 256)
   lines =
-      let z = b.suits in
-      omega (arith, b, z.is_screen, z.glass.columns, z.glass.cursor, mul-le-mul_left v.stride z.glass.high)
-
-  pub product_fits : i * v.reciprocal < 2 ^ 64
-  product_fits =
-      let m = v.reciprocal in
-      let l : i ≤ 65535 = omega (arith, b, b.suits.is_screen, b.suits.glass.screen) in
-      omega (arith, lines, b.suits.is_reciprocal, mul-le-mul_right m l, mul-le-mul_right m lines.0)
+      let z = v.suits in
+      omega (arith, z.is_screen, z.glass.columns, z.glass.cursor, mul-le-mul_left v.stride z.glass.high)
 
   pub line_found : i * v.reciprocal / line_parts ≡ i / v.stride
-  line_found = line_of_byte b.suits.is_reciprocal lines.1 i lines.2
+  line_found = line_of_byte v.suits.is_reciprocal lines.1 i lines.2
 
   -- x is the part of a line in l lines
   module _ {x l : ℕ} (e : l ≡ i * v.reciprocal) (f : x ≡ l % line_parts) where
-    pub part-fits : x * v.stride < 2 ^ 64
-    part-fits = omega (arith, mul-le-mul_left x lines.1)
-
     pub column_found : x * v.stride / line_parts ≡ i % v.stride
-    column_found = rw (f, e) (column_of_byte b.suits.is_reciprocal lines.1 i lines.2)
-
-  pub line-below : i / v.stride < 256
-  line-below = (div-lt_iff_lt-mul lines.0).1 (omega (arith, lines))
-
-  pub column_below : i % v.stride < 32
-  column_below = omega (arith, mod-lt i lines.0, lines)
-
--- its eight pixels, number by number
-pub eight_pixels : (st i : ℕ) {l t r b : ℕ} → l ≡ 8 * (i % st) → t ≡ i / st → r ≡ l + 8 → b ≡ t + 1
-    → record { left = l; top = t; right = r; bottom = b } ≡ byte_rect st i
-eight_pixels st i p q e f = λ j. record { left = p j; top = q j; right = (e ∙ (λ k. p k + 8)) j; bottom = (f ∙ (λ k. q k + 1)) j }
+    column_found = rw (f, e) (column_of_byte v.suits.is_reciprocal lines.1 i lines.2)
 
 -- ignored: nothing changes
 pub poke_ignored : {v : Glass} {r m : List ℕ} → Given r m → Chosen (length r) v → (a b : ℕ) {t : Bool} → t ≡ ignored (decode (geometry v) r).keys a → t ≡ true

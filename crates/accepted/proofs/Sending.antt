@@ -1,14 +1,9 @@
 -- A send: idle, or the line in hand copied and counted.
-use mathlib.Core.Path.{◌≡◌, refl, sym, ap, subst, ◌∙◌}
-use mathlib.Core.List.{List}
-use mathlib.Core.Bool.{Bool, true, false}
-use Prim.Native.Nat.{ℕ, ◌*◌, ◌<◌}
-use native.Mathlib.Omega.{arith}
-use lib.ListN.{length}
+use Rattle.std.proofs.Common.{◌≡◌, refl, sym, ap, subst, ◌∙◌, List, [], Bool, true, false, ℕ, ◌*◌, ◌<◌, arith, length, Option, Some, None}
 use Rattle.model.specs.declared.Canvas.{Canvas}
 use Rattle.model.specs.declared.Rect.{Rect}
 use Rattle.model.specs.declared.Head.{Head}
-use Rattle.model.specs.declared.Sent.{Sent}
+use Rattle.model.specs.declared.SentLine.{SentLine}
 use Rattle.model.specs.declared.glass.Glass.{Glass}
 use Rattle.model.specs.Geometry.{Geometry, screen_bytes}
 use Rattle.model.specs.Glass.{geometry, canvas, glass_of}
@@ -16,11 +11,10 @@ use Rattle.model.specs.Memory.{window}
 use Rattle.model.specs.Rects.{is_empty}
 use Rattle.model.specs.Record.{decode, panel_of}
 use Rattle.model.specs.Sends.{take_owed, line_numbers, send_numbers, copy_line, send_panel}
-use Rattle.model.specs.Calls.{send, lent, answered, sent_numbers, done}
+use Rattle.model.specs.Calls.{send, lent, answered, line_sent_numbers, done}
 use Rattle.laws.specs.Sending.{SentOn, sent_proper}
 use Rattle.send.specs.Line.{LineOn}
 use Rattle.record.specs.Entry.{Chosen}
-use Rattle.accepted.specs.NoLine.{no_line}
 use Rattle.accepted.specs.LineSent.{LineSent, numbers_of}
 use Rattle.updates.proofs.Drawing.{screen_part, Loaded, screen_is, screen-part}
 
@@ -47,8 +41,8 @@ module _ {v : Glass} {r : List ℕ} {h : Head} {m : List ℕ} (w : Loaded v r h 
   pub may_copy : {a : Canvas} {p : List ℕ} → t ≡ false → a ≡ canvas v → (length p ≡ screen_bytes (geometry v)) × (k < v.panels)
       → LineOn a.stride a.height (screen_part v h m) p q
   may_copy f c l =
-      let z = w.chosen.suits in
-      let n = sent_proper z w.passing l.1 i e f in
+      let z = v.suits in
+      let n = sent_proper w.passing l.1 i e f in
       rw c (record {
         screen = screen-part w {k = canvas v} refl;
         panel = l.0 ∙ ap (λ (x : ℕ). v.stride * x) (sym z.is_height);
@@ -70,16 +64,16 @@ module _ {v : Glass} {r : List ℕ} {h : Head} {m : List ℕ} (w : Loaded v r h 
       }
 
 -- the answer of a line that is sent
-pub answers_idle : (q : Rect) {t : Bool} {a : Sent} → t ≡ is_empty q → t ≡ true → a ≡ no_line 0 → (a.code ≡ 0) × (sent_numbers a ≡ numbers_of q)
+pub answers_idle : (q : Rect) {t : Bool} → t ≡ is_empty q → t ≡ true → line_sent_numbers None ≡ numbers_of q
 unfolding numbers_of
-answers_idle q e f o = rw (o, sym e ∙ f) (refl, refl)
+answers_idle q e f = rw (sym e ∙ f) refl
 
-pub answers_line : (q : Rect) {t : Bool} {a : Sent} → t ≡ is_empty q → t ≡ false → a.code ≡ 0 → sent_numbers a ≡ line_numbers q → (a.code ≡ 0) × (sent_numbers a ≡ numbers_of q)
+pub answers_line : (q : Rect) {t : Bool} {l : SentLine} → t ≡ is_empty q → t ≡ false → line_sent_numbers (Some l) ≡ line_numbers q → line_sent_numbers (Some l) ≡ numbers_of q
 unfolding numbers_of
-answers_line q e f o l = (o, rw (sym e ∙ f) l)
+answers_line q e f o = rw (sym e ∙ f) o
 
 -- and with it the whole of a send
-pub send_done : (g : Geometry) (k : ℕ) (r m p : List ℕ) {q : Rect} {r' p' : List ℕ} {a : Sent} → LineSent g k r m p q r' p' → (a.code ≡ 0) × (sent_numbers a ≡ numbers_of q)
-    → answered a.code (sent_numbers a) (lent r' m p') ≡ done g (send k) (lent r m p)
+pub send_done : (g : Geometry) (k : ℕ) (r m p : List ℕ) {q : Rect} {r' p' : List ℕ} (a : Option SentLine) → LineSent g k r m p q r' p' → line_sent_numbers a ≡ numbers_of q
+    → answered 0 (line_sent_numbers a) (lent r' m p') ≡ done g (send k) (lent r m p)
 unfolding done send_numbers numbers_of
-send_done g k r m p s n = λ j. answered (n.0 j) ((n.1 ∙ ap numbers_of s.line) j) (lent (s.left j) m (s.panel j))
+send_done g k r m p a s n = λ j. answered 0 ((n ∙ ap numbers_of s.line) j) (lent (s.left j) m (s.panel j))

@@ -1,4 +1,3 @@
 pub mod Opened
-pub mod NoLine
 pub mod LineSent
-pub mod ScreenByte
+pub mod OnScreen

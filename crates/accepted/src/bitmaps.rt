@@ -1,30 +1,18 @@
 // Bitmaps: `paint_bitmap`, and the same by bytes.
 ghost use Rattle.std.specs.Prelude.{true, ◌≡◌, [], length};
 ghost use Rattle.model.specs.Glass.{glass_of};
-ghost use Rattle.model.specs.Bitmaps.{paint_mode, source_fits};
+ghost use Rattle.model.specs.Bitmaps.{source_fits};
 ghost use Rattle.model.specs.Shapes.{bitmap};
 ghost use Rattle.model.specs.Calls.{draw, lent, answered, done};
 ghost use Rattle.record.specs.Given.{Given};
 
+use crate::screen::draw_on_screen;
 use bitmap::SOURCE_BYTES;
 pub use bitmap::source_fits;
 use model::PaintMode;
 use record::glass::{canvas_of, glass_of};
 use record::head::load_head;
 use updates::update;
-
-// The listed paint modes; what is not listed is refused before.
-fn paint_mode(mode: u8) -> PaintMode
-    ensures { result ≡ paint_mode mode }
-{
-    match mode {
-        0 => PaintMode::Copy,
-        1 => PaintMode::Or,
-        2 => PaintMode::Not,
-        3 => PaintMode::And,
-        _ => PaintMode::Xor,
-    }
-}
 
 // The source may share bytes with the screen: it is kept as it is before the first pixel is painted.
 pub fn paint_bitmap(
@@ -38,7 +26,7 @@ pub fn paint_bitmap(
     mode: u8,
 )
     requires given { Given rec.old memory.old }
-    requires height_value { source_fits address width height ≡ true }
+    requires source_fits { source_fits address width height ≡ true }
     ensures { answered 0 [] (lent rec.new memory.new []) ≡ done (glass_of (length rec.old)) (draw (bitmap address x y width height mode)) (lent rec.old memory.old []) }
 {
     let start = address as usize;
@@ -46,21 +34,10 @@ pub fn paint_bitmap(
     let end = start + count;
     let mut source = [0u8; SOURCE_BYTES];
     slices::put_bytes(&mut source, 0, &memory[start..end]);
-    let glass = glass_of(rec.len());
-    let from = load_head(rec).graphics as usize;
-    let to = from + glass.screen;
-    let d = paint_mode(mode);
-    let m = bitmap::paint_bitmap(
-        canvas_of(glass),
-        &mut memory[from..to],
-        &source[..count],
-        x,
-        y,
-        width,
-        height,
-        d,
-    );
-    update::mark(rec, m);
+    let mode = PaintMode::from(mode);
+    draw_on_screen(rec, memory, |canvas, screen, _| {
+        bitmap::paint_bitmap(canvas, screen, &source[..count], x, y, width, height, mode)
+    });
 }
 
 pub fn paint_bitmap_by_bytes(
@@ -74,13 +51,13 @@ pub fn paint_bitmap_by_bytes(
     mode: u8,
 )
     requires given { Given rec.old memory.old }
-    requires height_value { source_fits address width height ≡ true }
+    requires source_fits { source_fits address width height ≡ true }
     ensures { answered 0 [] (lent rec.new memory.new []) ≡ done (glass_of (length rec.old)) (draw (bitmap address x y width height mode)) (lent rec.old memory.old []) }
 {
     let glass = glass_of(rec.len());
     let start = address as usize;
     let from = load_head(rec).graphics as usize;
-    let d = paint_mode(mode);
+    let mode = PaintMode::from(mode);
     let m = bitmap_bytes::paint_bitmap_by_bytes(
         canvas_of(glass),
         memory,
@@ -90,7 +67,7 @@ pub fn paint_bitmap_by_bytes(
         y,
         width,
         height,
-        d,
+        mode,
     );
     update::mark(rec, m);
 }

@@ -7,16 +7,14 @@ ghost use Rattle.model.specs.Shapes.{ellipse, filled};
 ghost use Rattle.model.specs.Calls.{draw, lent, answered, done};
 ghost use Rattle.record.specs.Given.{Given};
 
-use crate::points::draw_mode;
-use record::glass::{canvas_of, edge_of, glass_of};
-use record::head::load_head;
-use updates::update;
+use crate::screen::draw_on_screen;
+use model::DrawMode;
 
 // What RADIUS tests.
 pub fn radii_fit(rx: u8, ry: u8, fill: u8, mode: u8) -> bool
     ensures { result ≡ radii_fit rx ry (filled fill) (draw_mode mode) }
 {
-    draw::radii_fit(rx, ry, fill == 1, draw_mode(mode))
+    draw::radii_fit(rx, ry, fill == 1, DrawMode::from(mode))
 }
 
 pub fn draw_ellipse(
@@ -30,24 +28,11 @@ pub fn draw_ellipse(
     mode: u8,
 )
     requires given { Given rec.old memory.old }
-    requires mode_value { radii_fit rx ry (filled fill) (draw_mode mode) ≡ true }
+    requires radii_fit { radii_fit rx ry (filled fill) (draw_mode mode) ≡ true }
     ensures { answered 0 [] (lent rec.new memory.new []) ≡ done (glass_of (length rec.old)) (draw (ellipse x y rx ry fill mode)) (lent rec.old memory.old []) }
 {
-    let glass = glass_of(rec.len());
-    let from = load_head(rec).graphics as usize;
-    let to = from + glass.screen;
-    let d = draw_mode(mode);
-    let edge = edge_of(rec);
-    let m = draw::draw_ellipse(
-        canvas_of(glass),
-        &mut memory[from..to],
-        edge,
-        x,
-        y,
-        rx,
-        ry,
-        fill == 1,
-        d,
-    );
-    update::mark(rec, m);
+    let mode = DrawMode::from(mode);
+    draw_on_screen(rec, memory, |canvas, screen, edge| {
+        draw::draw_ellipse(canvas, screen, edge, x, y, rx, ry, fill == 1, mode)
+    });
 }

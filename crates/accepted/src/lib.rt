@@ -7,4 +7,5 @@ pub mod lines;
 pub mod open;
 pub mod points;
 pub mod poke;
+mod screen;
 pub mod sends;

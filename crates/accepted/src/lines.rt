@@ -5,31 +5,17 @@ ghost use Rattle.model.specs.Shapes.{line, box, fill_fits};
 ghost use Rattle.model.specs.Calls.{draw, lent, answered, done};
 ghost use Rattle.record.specs.Given.{Given};
 
-use crate::points::draw_mode;
-use record::glass::{canvas_of, edge_of, glass_of};
-use record::head::load_head;
-use updates::update;
+use crate::screen::draw_on_screen;
+use model::DrawMode;
 
 pub fn draw_line(rec: &mut [u8], memory: &mut [u8], x1: u8, y1: u8, x2: u8, y2: u8, mode: u8)
     requires { Given rec.old memory.old }
     ensures { answered 0 [] (lent rec.new memory.new []) ≡ done (glass_of (length rec.old)) (draw (line x1 y1 x2 y2 mode)) (lent rec.old memory.old []) }
 {
-    let glass = glass_of(rec.len());
-    let from = load_head(rec).graphics as usize;
-    let to = from + glass.screen;
-    let d = draw_mode(mode);
-    let edge = edge_of(rec);
-    let m = draw::draw_line(
-        canvas_of(glass),
-        &mut memory[from..to],
-        edge,
-        x1,
-        y1,
-        x2,
-        y2,
-        d,
-    );
-    update::mark(rec, m);
+    let mode = DrawMode::from(mode);
+    draw_on_screen(rec, memory, |canvas, screen, edge| {
+        draw::draw_line(canvas, screen, edge, x1, y1, x2, y2, mode)
+    });
 }
 
 // Whether fill flag and mode are listed.
@@ -52,21 +38,8 @@ pub fn draw_box(
     requires { Given rec.old memory.old }
     ensures { answered 0 [] (lent rec.new memory.new []) ≡ done (glass_of (length rec.old)) (draw (box x1 y1 x2 y2 fill mode)) (lent rec.old memory.old []) }
 {
-    let glass = glass_of(rec.len());
-    let from = load_head(rec).graphics as usize;
-    let to = from + glass.screen;
-    let d = draw_mode(mode);
-    let edge = edge_of(rec);
-    let m = draw::draw_box(
-        canvas_of(glass),
-        &mut memory[from..to],
-        edge,
-        x1,
-        y1,
-        x2,
-        y2,
-        fill == 1,
-        d,
-    );
-    update::mark(rec, m);
+    let mode = DrawMode::from(mode);
+    draw_on_screen(rec, memory, |canvas, screen, edge| {
+        draw::draw_box(canvas, screen, edge, x1, y1, x2, y2, fill == 1, mode)
+    });
 }

@@ -1,11 +1,10 @@
 // A byte of memory set from outside: `write_byte`.
-ghost use Rattle.std.specs.Prelude.{◌≡◌, [], ◌*◌, ◌/◌, ◌%◌, length};
-ghost use Rattle.model.specs.Glass.{geometry, glass_of, line_parts, Suits};
+ghost use Rattle.std.specs.Prelude.{◌≡◌, [], ◌*◌, ◌/◌, ◌%◌, ◌<◌, length};
+ghost use Rattle.model.specs.Glass.{geometry, glass_of, line_parts};
 ghost use Rattle.model.specs.Record.{record_bytes, decode};
 ghost use Rattle.model.specs.Poke.{ignored, in_screen, byte_rect};
 ghost use Rattle.model.specs.Calls.{write_byte, lent, answered, done};
 ghost use Rattle.record.specs.Given.{Given};
-ghost use Rattle.accepted.specs.ScreenByte.{ScreenByte};
 
 use marks::span::owed_as_is;
 use model::Rect;
@@ -16,16 +15,16 @@ use record::keys;
 use updates::update;
 
 // Addresses from 0xe000 on and key addresses.
+#[tactic(auto, unfolding(model::specs::Poke::ignored))]
 fn is_ignored(rec: &[u8], glass: Glass, address: u16) -> bool
-    requires suits { Suits glass }
-    requires rec_len { length rec.now ≡ record_bytes (geometry glass) }
+    requires { length rec.now ≡ record_bytes (geometry glass) }
     ensures { result ≡ ignored (decode (geometry glass) rec.now).keys address }
 {
-    (address >= 57344) | keys::is_key(rec, glass, address as usize)
+    (address >= 0xe000) | keys::is_key(rec, glass, address as usize)
 }
 
+#[tactic(auto, unfolding(model::specs::Poke::in_screen))]
 fn in_screen(glass: Glass, graphics: u16, address: u16) -> bool
-    requires { Suits glass }
     ensures { result ≡ in_screen (geometry glass) graphics address }
 {
     let end = (graphics as usize) + glass.screen;
@@ -34,7 +33,7 @@ fn in_screen(glass: Glass, graphics: u16, address: u16) -> bool
 
 // Screen byte i counted in lines: whole ones in the bits from RECIPROCAL_BITS on, the part of one in those below.
 fn in_lines(glass: Glass, i: usize) -> usize
-    requires { ScreenByte glass i }
+    requires { i < glass.screen }
     ensures { result ≡ i * glass.reciprocal }
 {
     i * glass.reciprocal
@@ -48,16 +47,18 @@ fn part_of(lines: usize) -> usize
 }
 
 // The line of screen byte i: the whole lines before it.
+#[tactic(auto, using(crate::proofs::Poking::line_found))]
 fn line_of(glass: Glass, i: usize) -> usize
-    requires { ScreenByte glass i }
+    requires { i < glass.screen }
     ensures { result ≡ i / glass.stride }
 {
     in_lines(glass, i) >> RECIPROCAL_BITS
 }
 
 // Its column: the stride times the part of a line before it.
+#[tactic(auto, using(crate::proofs::Poking::column_found))]
 fn column_of(glass: Glass, i: usize) -> usize
-    requires { ScreenByte glass i }
+    requires { i < glass.screen }
     ensures { result ≡ i % glass.stride }
 {
     (part_of(in_lines(glass, i)) * glass.stride) >> RECIPROCAL_BITS
@@ -65,14 +66,14 @@ fn column_of(glass: Glass, i: usize) -> usize
 
 // The eight pixels of screen byte i.
 fn byte_rect(glass: Glass, i: usize) -> Rect
-    requires { ScreenByte glass i }
+    requires { i < glass.screen }
     ensures { result ≡ byte_rect glass.stride i }
 {
     let left = (8 * column_of(glass, i)) as u16;
     let top = line_of(glass, i) as u16;
     Rect {
-        left: left,
-        top: top,
+        left,
+        top,
         right: left + 8,
         bottom: top + 1,
     }

@@ -2,45 +2,29 @@
 ghost use Rattle.std.specs.Prelude.{◌≡◌, ◌<◌, length};
 ghost use Rattle.model.specs.Geometry.{screen_bytes};
 ghost use Rattle.model.specs.Glass.{glass_of};
-ghost use Rattle.model.specs.Calls.{sent_numbers};
+ghost use Rattle.model.specs.Calls.{line_sent_numbers};
 ghost use Rattle.record.specs.Given.{Given};
 ghost use Rattle.accepted.specs.LineSent.{LineSent, numbers_of};
-ghost use Rattle.accepted.specs.NoLine.{no_line};
 
 use marks::rect;
-use model::{Rect, Sent};
+use model::{Rect, SentLine};
 use record::glass::{canvas_of, glass_of};
 use record::head::load_head;
 use record::panels::panel_at;
 use send::{line, pending};
 
-// No line: idle, or a refusal.
-pub fn no_line(code: u32) -> Sent
-    ensures { result ≡ no_line code }
-{
-    Sent {
-        code: code,
-        sent: 0,
-        line: 0,
-        left: 0,
-        right: 0,
-    }
-}
-
-// The answer of a send whose line is the top line of q; empty: idle.
-pub fn answer(q: Rect) -> Sent
-    ensures { (result.code ≡ 0) × (sent_numbers result ≡ numbers_of q) }
+// The top line of q, as a line that was sent; none where q is empty.
+pub fn line_sent(q: Rect) -> Option<SentLine>
+    ensures { line_sent_numbers result ≡ numbers_of q }
 {
     if rect::is_empty(q) {
-        return no_line(0);
+        return None;
     }
-    Sent {
-        code: 0,
-        sent: 1,
-        line: q.top as u32,
-        left: q.left as u32,
-        right: q.right as u32,
-    }
+    Some(SentLine {
+        line: q.top,
+        left: q.left,
+        right: q.right,
+    })
 }
 
 // A line of panel k counts as sent and is copied to the panel: the rectangle whose top line it is, empty where there is none. It asks for the glass itself, whose

@@ -1,20 +1,13 @@
 -- The cursor: the byte under it, and what a blink leaves.
-use mathlib.Core.Path.{◌≡◌, sym, ap, ◌∙◌}
-use mathlib.Core.Bool.{Bool, true, false}
-use mathlib.Core.List.{List, []}
-use Prim.Native.Nat.{ℕ, ◌+◌, ◌-◌, ◌*◌, ◌<◌}
-use native.Mathlib.Omega.{arith}
-use borrow.Author.Tests.{eq-eqb, ne_eqb, le-leb}
+use Rattle.std.proofs.Common.{◌≡◌, sym, ap, ◌∙◌, Bool, true, false, List, [], ℕ, ◌+◌, ◌-◌, ◌*◌, ◌<◌, arith, eq-eqb, ne_eqb, le-leb, eqb, length, get_or}
 use borrow.Rule.Slice.PartMut.{put_mid}
-use lib.Dec.{eqb}
-use lib.ListN.{length, get_or}
 use Rattle.model.specs.declared.Canvas.{Canvas}
 use Rattle.model.specs.declared.Head.{Head}
 use Rattle.model.specs.declared.Edge.TheVariants.{Clamp}
 use Rattle.model.specs.declared.Marks.{Marks}
 use Rattle.model.specs.declared.glass.Glass.{Glass}
 use Rattle.model.specs.Geometry.{Geometry, height}
-use Rattle.model.specs.Glass.{geometry, glass_of, canvas, Suits}
+use Rattle.model.specs.Glass.{geometry, glass_of, canvas}
 use Rattle.model.specs.Record.{head_of, head_fits, decode, WellFormed}
 use Rattle.model.specs.Marks.{drawn, drawn_on, marked}
 use Rattle.model.specs.Text.{with_cursor}
@@ -31,12 +24,12 @@ use Rattle.updates.proofs.Drawing.{Loaded, screen_part, numbers, drew_with}
 
 -- ---- the cell under it
 
-module _ {v : Glass} {h : Head} (z : Suits v) (n : Numbers (geometry v) h) where
+module _ (v : Glass) {h : Head} (n : Numbers (geometry v) h) where
   pub cell_in : h.row * v.columns + h.column < v.cells
-  cell_in = rw (z.is_cells, z.is_columns) (cell_of n)
+  cell_in = rw (v.suits.is_cells, v.suits.is_columns) (cell_of n)
 
   pub byte_under : (m : List ℕ) → get_or m (h.text + (h.row * v.columns + h.column)) 0 ≡ under_cursor (geometry v) h m
-  byte_under m = ap (λ (k : ℕ). get_or m (h.text + (h.row * k + h.column)) 0) z.is_columns ∙ byte_of n m
+  byte_under m = ap (λ (k : ℕ). get_or m (h.text + (h.row * k + h.column)) 0) v.suits.is_columns ∙ byte_of n m
 
 -- ---- where nothing is drawn
 
@@ -95,7 +88,7 @@ module _ {v : Glass} {r : List ℕ} {h : Head} {m : List ℕ} (p : Passing (glas
   blink_drew c s {b} {k = i} {d = n} {a = a} z u k q e d f t =
       let g = glass_of (length r) in
       let edge = edge_in g (lent r m []) in
-      let l = w.chosen.suits in
+      let l = v.suits in
       let at = numbers w in
       let here = w.head ∙ ap (λ (y : Geometry). (decode y r).head) w.chosen.glass in
       let under : b ≡ under_cursor g (decode g r).head m = u ∙ (λ j. under_cursor (w.chosen.glass j) (here j) m) in

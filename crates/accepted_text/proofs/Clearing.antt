@@ -1,16 +1,11 @@
 -- Text and screen cleared in memory, and the record with them.
-use mathlib.Core.Logic.{inr}
-use mathlib.Core.Path.{◌≡◌, sym, ap, ◌∙◌}
-use mathlib.Core.List.{List, []}
-use Prim.Native.Nat.{ℕ, ◌+◌, ◌-◌, ◌≤◌}
-use native.Mathlib.Omega.{arith}
+use Rattle.std.proofs.Common.{inr, ◌≡◌, sym, ap, ◌∙◌, List, [], ℕ, ◌+◌, ◌-◌, ◌≤◌, arith, length, take, drop}
 use borrow.Rule.Slice.PartMut.{put_mid}
-use lib.ListN.{length, take, drop}
 use Rattle.model.specs.declared.Canvas.{Canvas}
 use Rattle.model.specs.declared.Head.{Head}
 use Rattle.model.specs.declared.Marks.{Marks}
 use Rattle.model.specs.declared.glass.Glass.{Glass}
-use Rattle.model.specs.Glass.{geometry, glass_of, canvas, Suits}
+use Rattle.model.specs.Glass.{geometry, glass_of, canvas}
 use Rattle.model.specs.Memory.{zeros, with_window}
 use Rattle.model.specs.Record.{head_of, decode, encode, WellFormed}
 use Rattle.model.specs.Marks.{whole, update_dirty, marked}
@@ -34,12 +29,13 @@ cleared-part a n m h e =
     let z = e ∙ ap zeros (part_length a n m h) in
     part_back a (a + n) m _ (omega arith) (ap length z ∙ length-zeros n ∙ omega arith) ∙ ap (λ (x : List ℕ). with_window a x m) z
 
-pub windows-cleared : (v : Glass) (h : Head) (m : List ℕ) {s t : List ℕ} → Suits v → h.text + v.cells ≤ length m → h.graphics + v.screen ≤ length m
+pub windows-cleared : (v : Glass) (h : Head) (m : List ℕ) {s t : List ℕ} → h.text + v.cells ≤ length m → h.graphics + v.screen ≤ length m
     → s ≡ zeros (length (take (h.text + v.cells - h.text) (drop h.text m)))
     → t ≡ zeros (length (take (h.graphics + v.screen - h.graphics) (drop h.graphics (put_mid h.text (h.text + v.cells - h.text) m s))))
     → put_mid h.graphics (h.graphics + v.screen - h.graphics) (put_mid h.text (h.text + v.cells - h.text) m s) t ≡ cleared_memory (geometry v) h m
 unfolding cleared_memory
-windows-cleared v h m {s} z p q e f =
+windows-cleared v h m {s} p q e f =
+    let z = v.suits in
     let a = cleared-part h.text v.cells m p e in
     let l : length (put_mid h.text (h.text + v.cells - h.text) m s) ≡ length m =
     ap length a ∙ length-with_window h.text (zeros v.cells) m (rw (length-zeros v.cells) p) in

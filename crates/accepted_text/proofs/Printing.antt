@@ -1,13 +1,6 @@
 -- `print` and `newline`: the page lent in two parts, written, and the screen and the record that follow it.
-use mathlib.Core.Path.{◌≡◌, refl, sym, ap, subst, ◌∙◌}
-use mathlib.Core.Bool.{not}
-use mathlib.Core.List.{List, []}
-use Prim.Native.Nat.{ℕ, ◌+◌, ◌-◌, ◌*◌, ◌^◌, ◌<◌, ◌≤◌}
-use native.Mathlib.Omega.{arith}
-use borrow.Author.Tests.{lt-ltb}
+use Rattle.std.proofs.Common.{◌≡◌, refl, sym, ap, subst, ◌∙◌, not, List, [], ℕ, ◌+◌, ◌-◌, ◌*◌, ◌^◌, ◌<◌, ◌≤◌, arith, lt-ltb, eqb, length}
 use borrow.Rule.Slice.PartMut.{put_mid}
-use lib.Dec.{eqb}
-use lib.ListN.{length}
 use Rattle.model.specs.declared.Canvas.{Canvas}
 use Rattle.model.specs.declared.Head.{Head}
 use Rattle.model.specs.declared.Marks.{Marks}
@@ -49,7 +42,7 @@ module _ {v : Glass} {r : List ℕ} {h : Head} {m : List ℕ} (w : Loaded v r h 
 
   pub rows-lent : (length (screen_part v h m) ≡ v.rows * row_bytes (geometry v)) × (0 < v.rows)
   rows-lent =
-      let z = w.chosen.suits in
+      let z = v.suits in
       let n = screen_length w ∙ z.is_screen ∙ screen_rows (geometry v) z.glass in
       (n ∙ ap (λ (k : ℕ). k * row_bytes (geometry v)) (sym z.is_rows), omega (arith, z.is_rows, z.glass.row))
 
@@ -65,7 +58,7 @@ module _ {v : Glass} {r : List ℕ} {h : Head} {m : List ℕ} (w : Loaded v r h 
         subst (λ (y : Geometry). PageStored y r m p s m) w.chosen.glass
         (record {
           rec = rw none_left (updated_for r (on_head (at_place p.row p.column)) w.chosen e ∙ ap (encode g) (sym (unmarked_state g (on_head (at_place p.row p.column) g x))));
-          memory = rw none_left (sym (window_back x.head.graphics (screen_bytes g) m (omega (arith, screen_room w, w.chosen.suits.is_screen))));
+          memory = rw none_left (sym (window_back x.head.graphics (screen_bytes g) m (omega (arith, screen_room w, v.suits.is_screen))));
         })
 
     module _ (l : (p.row < rows (glass_of (length r))) × (p.column < columns (glass_of (length r)))) where
@@ -87,7 +80,7 @@ module _ {v : Glass} {r : List ℕ} {h : Head} {m : List ℕ} (w : Loaded v r h 
       unfolding scrolled_memory
       page_follows {n} c {t} {u} a f k d o j q =
           let g = geometry v in
-          let z = w.chosen.suits in
+          let z = v.suits in
           let at = h.graphics in
           let set = on_head (at_place p.row p.column) in
           let size : length t ≡ at + v.screen - at =
@@ -105,21 +98,21 @@ module _ {v : Glass} {r : List ℕ} {h : Head} {m : List ℕ} (w : Loaded v r h 
   -- ---- the page, lent in two parts
 
   pub flags_end : v.others ≤ length r
-  flags_end = rw w.passing.sized (flags_room v w.chosen.suits).1
+  flags_end = rw w.passing.sized (flags_room v).1
 
   all-cells : v.cells ≡ v.rows * v.columns
-  all-cells = let z = w.chosen.suits in z.is_cells ∙ (λ i. sym z.is_rows i * sym z.is_columns i)
+  all-cells = let z = v.suits in z.is_cells ∙ (λ i. sym z.is_rows i * sym z.is_columns i)
 
   flags_lent : HasFlags (length (text_part v h m)) (flags_part v r)
   unfolding part_fits
   flags_lent =
       let g = geometry v in
-      let z = w.chosen.suits in
+      let z = v.suits in
       let p = w.passing in
       let n = text-length w ∙ z.is_cells in
       record {
         sized = flags_length w ∙ sym (ap flag_bytes n);
-        fit = (λ i. flags_fit (n i) (flags-part v r z i)) ∙ part_passes g r p flags (has_flags g);
+        fit = (λ i. flags_fit (n i) (flags-part v r i)) ∙ part_passes g r p flags (has_flags g);
       }
 
   module _ {o : Place} (e : o ≡ place_of h) where
@@ -127,10 +120,10 @@ module _ {v : Glass} {r : List ℕ} {h : Head} {m : List ℕ} (w : Loaded v r h 
     page_is : page (text_part v h m) (flags_part v r) o ≡ page_of (geometry v) (decode (geometry v) r) m
     unfolding page_of decode
     page_is =
-        let z = w.chosen.suits in
+        let z = v.suits in
         λ i. record {
           text = (text_is w ∙ ap (λ (x : Head). window x.text (cells (geometry v)) m) w.head) i;
-          flags = flags_in ((text-length w ∙ z.is_cells) i) (flags-part v r z i);
+          flags = flags_in ((text-length w ∙ z.is_cells) i) (flags-part v r i);
           row = (ap (λ (p : Place). p.row) e ∙ ap (λ (x : Head). x.row) w.head) i;
           column = (ap (λ (p : Place). p.column) e ∙ ap (λ (x : Head). x.column) w.head) i;
           scrolls = (e i).scrolls;
@@ -139,7 +132,7 @@ module _ {v : Glass} {r : List ℕ} {h : Head} {m : List ℕ} (w : Loaded v r h 
     first_sheet : (n : ℕ) → n ≤ 1 → Sheet v.rows v.columns n (page (text_part v h m) (flags_part v r) o)
     first_sheet n c =
         let g = geometry v in
-        let z = w.chosen.suits in
+        let z = v.suits in
         let room = text_room w in
         let text : h.text ≡ (decode g r).head.text = ap (λ (x : Head). x.text) w.head in
         rw (page_is, z.is_rows, z.is_columns) (page_sheet g z.glass (decode g r) m (well_formed g r w.passing) (omega (arith, z.is_cells)) n c)
@@ -161,7 +154,7 @@ module _ {v : Glass} {r : List ℕ} {h : Head} {m : List ℕ} (w : Loaded v r h 
       last_sheet = rw u.page (keeps (page (text_part v h m) (flags_part v r) o) (first_sheet 1 (omega arith)))
 
       flags_long : length (flags_in (length t) c) ≡ cells (geometry v)
-      flags_long = last_sheet.flags ∙ sym all-cells ∙ w.chosen.suits.is_cells
+      flags_long = last_sheet.flags ∙ sym all-cells ∙ v.suits.is_cells
 
       as_bytes : c ≡ bytes_of_flags (flags_in (length t) c)
       as_bytes = sym (flags_read (length t) c u.flags.sized u.flags.fit)
@@ -176,12 +169,12 @@ module _ {v : Glass} {r : List ℕ} {h : Head} {m : List ℕ} (w : Loaded v r h 
       after =
           let n : length t ≡ v.cells = last_sheet.text ∙ sym all-cells in
           let room = text_room w in
-          let z = w.chosen.suits in
-          let k = flags_pass z w.passing (flags_in (length t) c) flags_long as_bytes in
+          let z = v.suits in
+          let k = flags_pass v w.passing (flags_in (length t) c) flags_long as_bytes in
           record {
             chosen = chosen_as (k.sized ∙ sym w.passing.sized) w.chosen;
             passing = k;
-            head = w.head ∙ ap (λ (s : State). s.head) (sym (flags_state z w.passing (flags_in (length t) c) flags_long as_bytes));
+            head = w.head ∙ ap (λ (s : State). s.head) (sym (flags_state v w.passing (flags_in (length t) c) flags_long as_bytes));
             memory = ap length text_back ∙ length-with_window h.text t m (omega arith) ∙ w.memory;
           }
 
@@ -191,7 +184,7 @@ module _ {v : Glass} {r : List ℕ} {h : Head} {m : List ℕ} (w : Loaded v r h 
           let k = after.chosen in
           let s = last_sheet in (
             record { passing = passes_as _ k refl after.passing; memory = after.memory },
-            (omega (arith, s.row, k.suits.is_rows ∙ ap rows k.glass), omega (arith, s.room, k.suits.is_columns ∙ ap columns k.glass)),
+            (omega (arith, s.row, v.suits.is_rows ∙ ap rows k.glass), omega (arith, s.room, v.suits.is_columns ∙ ap columns k.glass)),
           )
 
       pub page-stored : {s n : List ℕ} → let r' = put_mid v.flags (v.others - v.flags) r c in
@@ -201,7 +194,7 @@ module _ {v : Glass} {r : List ℕ} {h : Head} {m : List ℕ} (w : Loaded v r h 
       page-stored {s} {n} k =
           let g = geometry v in
           let l = subst (λ (y : Geometry). PageStored y (put_mid v.flags (v.others - v.flags) r c) (put_mid h.text (h.text + v.cells - h.text) m t) p s n) (sym after.chosen.glass) k in
-          let state = flags_state w.chosen.suits w.passing (flags_in (length t) c) flags_long as_bytes in
+          let state = flags_state v w.passing (flags_in (length t) c) flags_long as_bytes in
           let rec = l.rec ∙ ap (λ (x : State). encode g (marked g none (scroll_mark v.stride (height g) (screen_scrolls x.head.screen p.scrolls)) (on_head (at_place p.row p.column) g x))) state in
           let memory = l.memory ∙ (λ i. scrolled_memory g (state i).head.graphics (screen_scrolls (state i).head.screen p.scrolls) ((text_back ∙ ap (λ (x : Head). with_window x.text t m) w.head) i)) in
           (λ i. lent (rec i) (memory i) []) ∙ ap (λ (x : Page). with_page g x (lent r m [])) (u.page ∙ ap f page_is)
@@ -216,7 +209,7 @@ module _ {v : Glass} {r : List ℕ} {h : Head} {m : List ℕ} (w : Loaded v r h 
   unfolding done
   newline_left e =
       let g = geometry v in
-      let z = w.chosen.suits in
+      let z = v.suits in
       lands newline (lent r m []) w.chosen (ap (answered 0 []) (e ∙ (λ i. with_page g (newline_on (z.is_rows i) (z.is_columns i) (page_of g (decode g r) m)) (lent r m []))))
 
   pub print_left : (bs : List ℕ) {s n : List ℕ} → lent s n [] ≡ with_page (geometry v) (print_on v.rows v.columns (not (eqb h.print 0)) bs (page_of (geometry v) (decode (geometry v) r) m)) (lent r m [])
@@ -224,5 +217,5 @@ module _ {v : Glass} {r : List ℕ} {h : Head} {m : List ℕ} (w : Loaded v r h 
   unfolding done is_inverse
   print_left bs e =
       let g = geometry v in
-      let z = w.chosen.suits in
+      let z = v.suits in
       lands (print bs) (lent r m []) w.chosen (ap (answered 0 []) (e ∙ (λ i. with_page g (print_on (z.is_rows i) (z.is_columns i) (not (eqb (w.head i).print 0)) bs (page_of g (decode g r) m)) (lent r m []))))

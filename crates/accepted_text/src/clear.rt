@@ -1,10 +1,11 @@
 // `cls` and `set_screen_mode`.
 ghost use Rattle.std.specs.Prelude.{◌≡◌, [], ◌+◌, ◌≤◌, length};
-ghost use Rattle.model.specs.Glass.{geometry, glass_of, Suits};
+ghost use Rattle.model.specs.Glass.{geometry, glass_of};
 ghost use Rattle.model.specs.Text.{cleared_memory};
 ghost use Rattle.model.specs.Calls.{cls, set_screen_mode, lent, answered, done};
 ghost use Rattle.record.specs.Given.{Given};
 
+use crate::window::window;
 use marks::mark;
 use model::Head;
 use model::glass::Glass;
@@ -14,16 +15,11 @@ use updates::{head, update};
 
 // Text and screen.
 fn clear_windows(memory: &mut [u8], glass: Glass, h: Head)
-    requires suits { Suits glass }
-    requires cells_in_bounds { (h.text + glass.cells ≤ length memory.old) × (h.graphics + glass.screen ≤ length memory.old) }
+    requires { (h.text + glass.cells ≤ length memory.old) × (h.graphics + glass.screen ≤ length memory.old) }
     ensures { memory.new ≡ cleared_memory (geometry glass) h memory.old }
 {
-    let text = h.text as usize;
-    let end = text + glass.cells;
-    slices::clear(&mut memory[text..end]);
-    let from = h.graphics as usize;
-    let to = from + glass.screen;
-    slices::clear(&mut memory[from..to]);
+    slices::clear(&mut memory[window(h.text, glass.cells)]);
+    slices::clear(&mut memory[window(h.graphics, glass.screen)]);
 }
 
 pub fn set_screen_mode(rec: &mut [u8], memory: &mut [u8], mode: u8)

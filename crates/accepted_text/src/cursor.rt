@@ -2,7 +2,7 @@
 ghost use Rattle.std.specs.Prelude.{◌≡◌, [], ◌+◌, ◌*◌, ◌≤◌, length};
 ghost use Rattle.model.specs.declared.Edge.TheVariants.{Clamp};
 ghost use Rattle.model.specs.Geometry.{glyph_height};
-ghost use Rattle.model.specs.Glass.{geometry, glass_of, Suits};
+ghost use Rattle.model.specs.Glass.{geometry, glass_of};
 ghost use Rattle.model.specs.Pixels.{Screen};
 ghost use Rattle.model.specs.Marks.{drawn, drawn_on};
 ghost use Rattle.model.specs.Cursor.{cursor_for, blink_of, blink_next, cursor_box, under_cursor};
@@ -10,6 +10,7 @@ ghost use Rattle.model.specs.Calls.{blink_cursor, clear_cursor, lent, answered, 
 ghost use Rattle.laws.specs.Record.{Numbers};
 ghost use Rattle.record.specs.Given.{Given};
 
+use crate::window::window;
 use model::glass::{GLYPH_HEIGHT, Glass};
 use model::{Canvas, DrawMode, Edge, Head, Marks};
 use record::glass::{canvas_of, glass_of};
@@ -17,6 +18,7 @@ use record::head::load_head;
 use updates::{head, update};
 
 // Half or full, by the byte under it.
+#[tactic(auto, unfolding(model::specs::Cursor::cursor_for))]
 fn cursor_for(b: u8) -> u8
     ensures { result ≡ cursor_for b }
 {
@@ -24,6 +26,7 @@ fn cursor_for(b: u8) -> u8
 }
 
 // The one that a blink inverts: the one that is shown, or the one that comes.
+#[tactic(auto, unfolding(model::specs::Cursor::blink_of))]
 fn blink_of(cursor: u8, b: u8) -> u8
     ensures { result ≡ blink_of cursor b }
 {
@@ -31,6 +34,7 @@ fn blink_of(cursor: u8, b: u8) -> u8
 }
 
 // The one that is shown afterwards.
+#[tactic(auto, unfolding(model::specs::Cursor::blink_next))]
 fn blink_next(cursor: u8, b: u8) -> u8
     ensures { result ≡ blink_next cursor b }
 {
@@ -38,9 +42,8 @@ fn blink_next(cursor: u8, b: u8) -> u8
 }
 
 fn under_cursor(memory: &[u8], glass: Glass, h: Head) -> u8
-    requires suits { Suits glass }
     requires numbers { Numbers (geometry glass) h }
-    requires cells_in_bounds { h.text + glass.cells ≤ length memory.now }
+    requires text_in_memory { h.text + glass.cells ≤ length memory.now }
     ensures { result ≡ under_cursor (geometry glass) h memory.now }
 {
     let text = h.text as usize;
@@ -52,7 +55,7 @@ fn under_cursor(memory: &[u8], glass: Glass, h: Head) -> u8
 // so the edge flag is not asked for.
 fn invert_cursor(canvas: Canvas, screen: &mut [u8], row: u8, column: u8, cursor: u8) -> Marks
     requires screen { Screen canvas.stride canvas.height screen.old }
-    requires glyph_height_bound { (glyph_height * row + glyph_height ≤ 256) × (8 * column + 16 ≤ 256) × (1 ≤ cursor) × (cursor ≤ 2) }
+    requires box_fits { (glyph_height * row + glyph_height ≤ 256) × (8 * column + 16 ≤ 256) × (1 ≤ cursor) × (cursor ≤ 2) }
     ensures { drawn result screen.new ≡ drawn_on canvas.stride canvas.height (cursor_box canvas.stride canvas.height Clamp row column cursor) screen.old }
 {
     let left = 8 * column;
@@ -76,12 +79,10 @@ pub fn blink_cursor(rec: &mut [u8], memory: &mut [u8])
         return;
     }
     let b = under_cursor(memory, glass, h);
-    let from = h.graphics as usize;
-    let to = from + glass.screen;
     let cursor = blink_of(h.cursor, b);
     let m = invert_cursor(
         canvas_of(glass),
-        &mut memory[from..to],
+        &mut memory[window(h.graphics, glass.screen)],
         h.row,
         h.column,
         cursor,

@@ -1,12 +1,15 @@
 // `flush`: the test that every byte it would paint is in its font, and the painting.
 ghost use Rattle.std.specs.Prelude.{true, [], ◌≡◌, length};
 ghost use Rattle.model.specs.Glass.{glass_of};
-ghost use Rattle.model.specs.Glyphs.{fonts};
 ghost use Rattle.model.specs.Calls as calls;
 ghost use Rattle.model.specs.Calls.{lent, answered, done};
+ghost use Rattle.flush.specs.Lent.{fonts_of};
 ghost use Rattle.record.specs.Given.{Given};
 ghost use Rattle.accepted_text.specs.Texts.{glyphs_fit};
 
+use crate::window::window;
+use flush::fonts::Fonts;
+use flush::style::Style;
 use flush::{fit, screen};
 use marks::mark;
 use model::glass::TEXT_BYTES;
@@ -15,80 +18,42 @@ use record::head::load_head;
 use updates::update;
 
 // GLYPH: every byte that the flush would paint is in its font.
-pub fn glyphs_fit(
-    rec: &[u8],
-    memory: &[u8],
-    ascii8: &[u8],
-    ascii16: &[u8],
-    gb: &[u8],
-    emoji: &[u8],
-    list: &[u8],
-    extra: &[u8],
-) -> bool
+pub fn glyphs_fit(rec: &[u8], memory: &[u8], fonts: Fonts<'_>) -> bool
     requires { Given rec.now memory.now }
-    ensures { result ≡ glyphs_fit rec.now memory.now (fonts ascii8.now ascii16.now gb.now emoji.now list.now extra.now) }
+    ensures { result ≡ glyphs_fit rec.now memory.now (fonts_of fonts.entry) }
 {
     let glass = glass_of(rec.len());
     let h = load_head(rec);
-    let from = h.text as usize;
-    let to = from + glass.cells;
-    let text = &memory[from..to];
-    let version = h.version;
-    fit::text_fits(
-        glass.columns,
-        glass.rows,
-        text,
-        version,
-        ascii8,
-        ascii16,
-        gb,
-        emoji,
-        list,
-        extra,
-    )
+    let style = Style {
+        columns: glass.columns,
+        rows: glass.rows,
+        cells: glass.cells,
+        flags: &rec[glass.flags..glass.others],
+        version: h.version,
+        fonts,
+    };
+    fit::text_fits(style, &memory[window(h.text, glass.cells)])
 }
 
 // The text is in the memory that the screen is lent from: it is kept as it is before the first byte is painted.
-pub fn flush<'a>(
-    rec: &mut [u8],
-    memory: &mut [u8],
-    ascii8: &[u8],
-    ascii16: &[u8],
-    gb: &'a [u8],
-    emoji: &'a [u8],
-    list: &[u8],
-    extra: &'a [u8],
-)
+pub fn flush(rec: &mut [u8], memory: &mut [u8], fonts: Fonts<'_>)
     requires given { Given rec.old memory.old }
-    requires extra_value { glyphs_fit rec.old memory.old (fonts ascii8.now ascii16.now gb.now emoji.now list.now extra.now) ≡ true }
-    ensures { answered 0 [] (lent rec.new memory.new []) ≡ done (glass_of (length rec.old)) (calls.flush (fonts ascii8.now ascii16.now gb.now emoji.now list.now extra.now)) (lent rec.old memory.old []) }
+    requires glyphs_are_there { glyphs_fit rec.old memory.old (fonts_of fonts) ≡ true }
+    ensures { answered 0 [] (lent rec.new memory.new []) ≡ done (glass_of (length rec.old)) (calls.flush (fonts_of fonts.entry)) (lent rec.old memory.old []) }
 {
     let glass = glass_of(rec.len());
     let h = load_head(rec);
-    let at = h.text as usize;
-    let end = at + glass.cells;
     let mut text = [0u8; TEXT_BYTES];
-    slices::put_bytes(&mut text, 0, &memory[at..end]);
-    let from = h.graphics as usize;
-    let to = from + glass.screen;
-    let start = glass.flags;
-    let stop = glass.others;
-    let cells = glass.cells;
-    let version = h.version;
-    screen::flush_screen(
-        glass.columns,
-        glass.rows,
-        &mut memory[from..to],
-        &text[..cells],
-        &rec[start..stop],
-        h.screen,
-        version,
-        ascii8,
-        ascii16,
-        gb,
-        emoji,
-        list,
-        extra,
-    );
+    slices::put_bytes(&mut text, 0, &memory[window(h.text, glass.cells)]);
+    let style = Style {
+        columns: glass.columns,
+        rows: glass.rows,
+        cells: glass.cells,
+        flags: &rec[glass.flags..glass.others],
+        version: h.version,
+        fonts,
+    };
+    let screen = &mut memory[window(h.graphics, glass.screen)];
+    screen::flush_screen(style, &text[..glass.cells], screen, h.screen);
     update::mark(rec, mark::whole_marks(canvas_of(glass)));
 }

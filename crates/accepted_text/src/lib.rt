@@ -5,3 +5,4 @@ pub mod clear;
 pub mod cursor;
 pub mod flushes;
 pub mod print;
+mod window;

@@ -6,6 +6,7 @@ ghost use Rattle.model.specs.Calls.{print, newline, lent, answered, done};
 ghost use Rattle.record.specs.Given.{Given};
 ghost use Rattle.accepted_text.specs.Pages.{place_of, PageStored};
 
+use crate::window::window;
 use marks::mark;
 use model::Head;
 use model::glass::GLYPH_HEIGHT;
@@ -28,7 +29,7 @@ fn place_of(h: Head) -> Place
 // The text and its flags have been written up to p: the screen and the record follow. Where the screen does not scroll, nothing is marked.
 fn store_page(rec: &mut [u8], memory: &mut [u8], p: Place)
     requires given { Given rec.old memory.old }
-    requires row_bound { (p.row < rows (glass_of (length rec.old))) × (p.column < columns (glass_of (length rec.old))) }
+    requires place_on_page { (p.row < rows (glass_of (length rec.old))) × (p.column < columns (glass_of (length rec.old))) }
     ensures { PageStored (glass_of (length rec.old)) rec.old memory.old p rec.new memory.new }
 {
     let glass = glass_of(rec.len());
@@ -38,10 +39,9 @@ fn store_page(rec: &mut [u8], memory: &mut [u8], p: Place)
     if n == 0 {
         return;
     }
-    let from = h.graphics as usize;
-    let to = from + glass.screen;
     let row_bytes = (GLYPH_HEIGHT as usize) * glass.stride;
-    scroll::scroll_screen(glass.rows, row_bytes, &mut memory[from..to], n);
+    let screen = &mut memory[window(h.graphics, glass.screen)];
+    scroll::scroll_screen(glass.rows, row_bytes, screen, n);
     let m = mark::scroll_marks(canvas_of(glass), n);
     update::mark(rec, m);
 }
@@ -52,16 +52,12 @@ pub fn newline(rec: &mut [u8], memory: &mut [u8])
 {
     let glass = glass_of(rec.len());
     let h = load_head(rec);
-    let text = h.text as usize;
-    let end = text + glass.cells;
-    let from = glass.flags;
-    let to = glass.others;
     let start = place_of(h);
     let p = page::newline(
         glass.rows,
         glass.columns,
-        &mut memory[text..end],
-        &mut rec[from..to],
+        &mut memory[window(h.text, glass.cells)],
+        &mut rec[glass.flags..glass.others],
         start,
     );
     store_page(rec, memory, p);
@@ -73,17 +69,13 @@ pub fn print(rec: &mut [u8], memory: &mut [u8], bytes: &[u8])
 {
     let glass = glass_of(rec.len());
     let h = load_head(rec);
-    let text = h.text as usize;
-    let end = text + glass.cells;
-    let from = glass.flags;
-    let to = glass.others;
     let start = place_of(h);
     let inverse = h.print != 0;
     let p = text::print::print(
         glass.rows,
         glass.columns,
-        &mut memory[text..end],
-        &mut rec[from..to],
+        &mut memory[window(h.text, glass.cells)],
+        &mut rec[glass.flags..glass.others],
         start,
         bytes,
         inverse,

@@ -41,20 +41,14 @@ fn mix(mask: u8, from: u8, onto: u8) -> u8
 fn byte_at(memory: &[u8], i: usize) -> u8
     ensures { result ≡ get_or memory.now i 0 }
 {
-    if i < memory.len() {
-        return memory[i];
-    }
-    0
+    memory.get(i).copied().unwrap_or(0)
 }
 
 // The byte before byte i, or 0 before the first one.
 fn byte_before(memory: &[u8], i: usize) -> u8
     ensures { result ≡ get_or (0 ∷ memory.now) i 0 }
 {
-    if i == 0 {
-        return 0;
-    }
-    byte_at(memory, i - 1)
+    if i == 0 { 0 } else { byte_at(memory, i - 1) }
 }
 
 // The eight bits from bit i - 8 on. At the edge of a run some of them lie outside the source, or outside memory, where they are 0: a mask leaves them out.
@@ -74,23 +68,18 @@ fn paint_masked(memory: &mut [u8], at: usize, mask: u8, i: usize, mode: PaintMod
 {
     let s = source_byte(memory, i);
     let v = memory[at];
-    let b = mix(mask, paint_byte(mode, s, v), v);
-    memory[at] = b;
+    memory[at] = mix(mask, paint_byte(mode, s, v), v);
 }
 
 // The bytes from `from` up to `to`, by the bytes from `source` on.
 fn paint_aligned(memory: &mut [u8], from: usize, to: usize, source: usize, mode: PaintMode)
-    requires from_le_to { (from ≤ to) × (to ≤ length memory.old) × (source + (to - from) ≤ length memory.old) }
+    requires in_memory { (from ≤ to) × (to ≤ length memory.old) × (source + (to - from) ≤ length memory.old) }
     requires apart { Apart (8 * from) (8 * source) (8 * (to - from)) }
     ensures { memory.new ≡ painted_bits mode (8 * source) (8 * from) (8 * (to - from)) memory.old }
 {
-    let mut at = from;
-    let mut i = source;
-    while at < to {
-        let b = paint_byte(mode, memory[i], memory[at]);
-        memory[at] = b;
-        at += 1;
-        i += 1;
+    for at in from..to {
+        let i = source + (at - from);
+        memory[at] = paint_byte(mode, memory[i], memory[at]);
     }
 }
 
@@ -103,24 +92,20 @@ fn paint_shifted(
     shift: u8,
     mode: PaintMode,
 )
-    requires from_le_to { (from ≤ to) × (to ≤ length memory.old) × (source + (to - from) < length memory.old) × (shift < 8) }
+    requires in_memory { (from ≤ to) × (to ≤ length memory.old) × (source + (to - from) < length memory.old) × (shift < 8) }
     requires apart { Apart (8 * from) (8 * source + shift) (8 * (to - from)) }
     ensures { memory.new ≡ painted_bits mode (8 * source + shift) (8 * from) (8 * (to - from)) memory.old }
 {
-    let mut at = from;
-    let mut i = source;
-    while at < to {
+    for at in from..to {
+        let i = source + (at - from);
         let s = shifted(memory[i], memory[i + 1], shift);
-        let b = paint_byte(mode, s, memory[at]);
-        memory[at] = b;
-        at += 1;
-        i += 1;
+        memory[at] = paint_byte(mode, s, memory[at]);
     }
 }
 
 // The bytes from `from` up to `to`, by the bits from bit i on. One more bit of the source follows them.
 fn paint_bytes(memory: &mut [u8], from: usize, to: usize, i: usize, mode: PaintMode)
-    requires from_le_to { (from ≤ to) × (to ≤ length memory.old) × (i + 8 * (to - from) < 8 * length memory.old) }
+    requires in_memory { (from ≤ to) × (to ≤ length memory.old) × (i + 8 * (to - from) < 8 * length memory.old) }
     requires apart { Apart (8 * from) i (8 * (to - from)) }
     ensures { memory.new ≡ painted_bits mode i (8 * from) (8 * (to - from)) memory.old }
 {
@@ -135,9 +120,9 @@ fn paint_bytes(memory: &mut [u8], from: usize, to: usize, i: usize, mode: PaintM
 
 // `count` bits from bit `to` on, by those from bit `from` on: a mask for the first byte, a mask for the last, whole bytes between them.
 pub fn paint_bits(memory: &mut [u8], to: usize, from: usize, count: usize, mode: PaintMode)
-    requires count_nonzero { (0 < count) × (to + count ≤ 8 * length memory.old) × (from + count ≤ 8 * length memory.old) }
+    requires in_memory { (0 < count) × (to + count ≤ 8 * length memory.old) × (from + count ≤ 8 * length memory.old) }
     requires apart { Apart to from count }
-    requires memory_len_bound { length memory.old ≤ 65536 }
+    requires small { length memory.old ≤ 65536 }
     ensures { memory.new ≡ painted_bits mode from to count memory.old }
 {
     let end = to + count - 1;

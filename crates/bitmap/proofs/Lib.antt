@@ -1,2 +1,2 @@
-pub mod Signed
 pub mod Sources
+pub mod Clipped

@@ -1,30 +1,23 @@
--- Screen and source copied to an array, one after the other: they find room there, and can be painted there.
-use mathlib.Core.Path.{◌≡◌}
-use mathlib.Core.List.{List}
-use mathlib.Core.Logic.{inl}
-use Prim.Native.Nat.{ℕ, ◌+◌, ◌≤◌, ◌<◌}
-use native.Mathlib.Omega.{arith}
-use lib.ListN.{length, replicate, length-replicate}
-use Rattle.model.specs.declared.Canvas.{Canvas}
-use Rattle.model.specs.Geometry.{base, screen_bytes}
-use Rattle.model.specs.Bitmaps.{source_bytes}
-use Rattle.laws.specs.PaintedMemory.{Placed, Copied}
-use Rattle.bitmap_bytes.specs.InMemory.{size, Holds}
-use Rattle.bitmap.proofs.Sources.{source_small}
+-- A screen and a picture copied to an array, one after the other: the copy of the screen is painted there and put back.
+use Rattle.std.proofs.Common.{◌≡◌, List, ℕ, ◌+◌, ◌-◌, ◌≤◌, ◌∙◌, ap, arith, length}
+use Rattle.model.specs.declared.PaintMode.{PaintMode}
+use Rattle.model.specs.Memory.{window, with_window}
+use Rattle.model.specs.Pixels.{draw}
+use Rattle.model.specs.Bitmaps.{painted_lines}
+use Rattle.laws.specs.Memory.{length-window, window_same}
+use Rattle.laws.specs.Pixels.{length-draw}
+use Rattle.laws.specs.PaintedMemory.{Copied}
+use Rattle.bitmap.specs.declared.clip.Clip.{Clip}
+use Rattle.bitmap_bytes.specs.InMemory.{size, clip_painted}
 
--- the array, and that it has room for them
-abbrev both : List ℕ
-both = replicate {A = ℕ} 9760 0
-
-long : length both ≡ 9760
-long = length-replicate {A = ℕ} 9760 0
-
-pub both_room : (canvas : Canvas) (w n : ℕ) → size canvas ≤ screen_bytes base → w < 256 → n < 256 → size canvas + source_bytes w n ≤ length both
-both_room canvas w n small hw hn = omega (arith, source_small w n hw hn, long)
-
-pub copies_hold : (canvas : Canvas) (a b w n : ℕ) (m e : List ℕ) → Holds canvas a b w n m → Copied a (size canvas) b (source_bytes w n) m both e → size canvas + source_bytes w n ≤ length both
-    → Holds canvas 0 (size canvas) w n e × Placed 0 (size canvas) (size canvas) (source_bytes w n) e
-copies_hold canvas a b w n m e l o room = (
-  record { glass = rw o.screen_is l.glass; screen-in = omega (arith, o.long); source_in = omega (arith, o.long); small = omega (arith, o.long, long) },
-  record { screen = omega (arith, o.long); source = omega (arith, o.long); apart = inl (omega arith) },
-)
+-- of memory m, the first bytes of z are the copy: e, painted: f, and g is memory with its screen
+pub put_back : (clip : Clip) (screen source : ℕ) (mode : PaintMode) (m z e f g : List ℕ) → screen + size clip.canvas ≤ length m → size clip.canvas ≤ length z
+    → Copied screen (size clip.canvas) source (size clip.picture) m z e → f ≡ clip_painted clip 0 (size clip.canvas) mode e → g ≡ with_window screen (window 0 (size clip.canvas) f) m
+    → g ≡ clip_painted clip screen source mode m
+put_back clip screen source mode m z e f g l r o p w =
+    let n = size clip.canvas in
+    let ws = painted_lines clip.picture.stride (window source (size clip.picture) m) mode clip.across clip.down.skip clip.down.from (clip.down.to - clip.down.from) in
+    let s = draw clip.canvas.stride ws (window screen n m) in
+    let sized : length s ≡ n = length-draw clip.canvas.stride ws (window screen n m) ∙ length-window screen n m l in
+    let painted : f ≡ with_window 0 s e = cc (o.screen_is, o.source_is) in
+    w ∙ ap (λ (t : List ℕ). with_window screen t m) (ap (window 0 n) painted ∙ window_same 0 n s e sized (omega (arith, o.long)))

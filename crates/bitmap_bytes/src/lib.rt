@@ -5,13 +5,13 @@ ghost use Rattle.std.specs.Prelude.{◌||◌, ◌≡◌, ◌+◌, ◌-◌, ◌*�
 ghost use Rattle.model.specs.Geometry.{base, screen_bytes};
 ghost use Rattle.model.specs.Bitmaps.{source_bytes};
 ghost use Rattle.laws.specs.PaintedMemory.{pixel_at, Placed, line_in, Copied};
-ghost use Rattle.bitmap_bytes.specs.InMemory.{size, InMemory, HasLines, lines_painted, Holds, BitmapDrawn};
+ghost use Rattle.bitmap_bytes.specs.InMemory.{size, InMemory, clip_painted, Holds, BitmapDrawn};
 
 use bit_runs::paint_bits;
-use bitmap::{SOURCE_BYTES, source_bytes, visible, visible_marks};
+use bitmap::{Clip, SOURCE_BYTES, source_bytes};
 use marks::span::no_marks;
 use model::glass::SCREEN_BYTES;
-use model::{Canvas, Marks, PaintMode, Visible};
+use model::{Canvas, Marks, PaintMode};
 
 // The largest screen, and the longest source after it.
 const BOTH_BYTES: usize = SCREEN_BYTES + SOURCE_BYTES;
@@ -26,115 +26,52 @@ fn bit_of(at: usize, stride: usize, x: usize, y: usize) -> usize
 
 // Line y of the screen by line j of the source.
 fn paint_line(
-    canvas: Canvas,
+    clip: Clip,
     memory: &mut [u8],
     screen: usize,
-    picture: Canvas,
     source: usize,
-    across: Visible,
     j: usize,
     y: usize,
     mode: PaintMode,
 )
-    requires in_memory { InMemory canvas screen picture source across memory.old }
-    requires j_lt_height { (j < picture.height) × (y < canvas.height) }
-    ensures { memory.new ≡ line_in screen source canvas.stride picture.stride mode across j y memory.old }
+    requires in_memory { InMemory clip screen source memory.old }
+    requires inside { (j < clip.picture.height) × (y < clip.canvas.height) }
+    ensures { memory.new ≡ line_in screen source clip.canvas.stride clip.picture.stride mode clip.across j y memory.old }
 {
-    let left = across.from;
-    let to = bit_of(screen, canvas.stride, left, y);
-    let from = bit_of(source, picture.stride, across.skip, j);
-    paint_bits(memory, to, from, across.to - left, mode);
+    let across = clip.across;
+    let to = bit_of(screen, clip.canvas.stride, across.from, y);
+    let from = bit_of(source, clip.picture.stride, across.skip, j);
+    paint_bits(memory, to, from, across.to - across.from, mode);
 }
 
-fn paint_lines(
-    canvas: Canvas,
-    memory: &mut [u8],
-    screen: usize,
-    picture: Canvas,
-    source: usize,
-    across: Visible,
-    down: Visible,
-    mode: PaintMode,
-)
-    requires in_memory { InMemory canvas screen picture source across memory.old }
-    requires has_lines { HasLines canvas picture down }
-    ensures { memory.new ≡ lines_painted canvas screen picture source across down mode memory.old }
+fn paint_lines(clip: Clip, memory: &mut [u8], screen: usize, source: usize, mode: PaintMode)
+    requires { InMemory clip screen source memory.old }
+    ensures { memory.new ≡ clip_painted clip screen source mode memory.old }
 {
-    let to = down.to;
-    let mut j = down.skip;
-    let mut y = down.from;
-    while y < to {
-        paint_line(canvas, memory, screen, picture, source, across, j, y, mode);
-        j += 1;
-        y += 1;
+    let down = clip.down;
+    for y in down.from..down.to {
+        let j = down.skip + (y - down.from);
+        paint_line(clip, memory, screen, source, j, y, mode);
     }
 }
 
 // Whole lines follow one another on the screen and in the source, so they are one run of bits.
-fn paint_visible(
-    canvas: Canvas,
-    memory: &mut [u8],
-    screen: usize,
-    picture: Canvas,
-    source: usize,
-    across: Visible,
-    down: Visible,
-    mode: PaintMode,
-)
-    requires in_memory { InMemory canvas screen picture source across memory.old }
-    requires has_lines { HasLines canvas picture down }
-    ensures { memory.new ≡ lines_painted canvas screen picture source across down mode memory.old }
+fn paint_clip(clip: Clip, memory: &mut [u8], screen: usize, source: usize, mode: PaintMode)
+    requires { InMemory clip screen source memory.old }
+    ensures { memory.new ≡ clip_painted clip screen source mode memory.old }
 {
-    let stride = canvas.stride;
-    let bytes = picture.stride;
-    let left = across.from;
-    let skip = across.skip;
-    let count = across.to - left;
-    let top = down.from;
-    let first = down.skip;
-    let lines = down.to - top;
+    let stride = clip.canvas.stride;
+    let bytes = clip.picture.stride;
+    let across = clip.across;
+    let down = clip.down;
+    let count = across.to - across.from;
     if count == 8 * stride && bytes == stride {
-        let to = bit_of(screen, stride, left, top);
-        let from = bit_of(source, bytes, skip, first);
-        paint_bits(memory, to, from, count * lines, mode);
+        let to = bit_of(screen, stride, across.from, down.from);
+        let from = bit_of(source, bytes, across.skip, down.skip);
+        paint_bits(memory, to, from, count * (down.to - down.from), mode);
         return;
     }
-    paint_lines(canvas, memory, screen, picture, source, across, down, mode);
-}
-
-// A bitmap whose source shares no byte with the screen: it is read where it lies.
-fn paint_apart(
-    canvas: Canvas,
-    memory: &mut [u8],
-    screen: usize,
-    source: usize,
-    x: i32,
-    y: i32,
-    width: u8,
-    lines: u8,
-    mode: PaintMode,
-) -> Marks
-    requires holds { Holds canvas screen source width lines memory.old }
-    requires placed { Placed screen (size canvas) source (source_bytes width lines) memory.old }
-    ensures { BitmapDrawn canvas screen source x y width lines mode result memory.old memory.new }
-{
-    let stride = canvas.stride;
-    let height = canvas.height;
-    let across = visible(x, width as usize, 8 * stride);
-    let down = visible(y, lines as usize, height);
-    if across.to <= across.from {
-        return no_marks();
-    }
-    if down.to <= down.from {
-        return no_marks();
-    }
-    let bytes = ((width as usize) + 7) / 8;
-    let picture = Canvas {
-        stride: bytes,
-        height: lines as usize,
-    };
-    paint_visible(canvas, memory, screen, picture, source, across, down, mode);
-    visible_marks(across, down)
+    paint_lines(clip, memory, screen, source, mode);
 }
 
 // Screen and source to `both`, one after the other.
@@ -155,29 +92,25 @@ fn copy_both(
     slices::put_bytes(both, size, &memory[source..end]);
 }
 
-// A bitmap whose source may share bytes with the screen: both are copied, the copy of the screen is painted and put back.
-fn paint_copied(
-    canvas: Canvas,
-    memory: &mut [u8],
-    screen: usize,
-    source: usize,
-    x: i32,
-    y: i32,
-    width: u8,
-    lines: u8,
-    mode: PaintMode,
-) -> Marks
-    requires holds { Holds canvas screen source width lines memory.old }
-    requires canvas_bound { size canvas ≤ screen_bytes base }
-    ensures { BitmapDrawn canvas screen source x y width lines mode result memory.old memory.new }
+// The bytes of a canvas.
+fn size(canvas: Canvas) -> usize
+    ensures { result ≡ size canvas }
 {
-    let size = canvas.stride * canvas.height;
-    let count = source_bytes(width, lines);
+    canvas.stride * canvas.height
+}
+
+// A picture that may share bytes with the screen: both are copied, the copy of the screen is painted and put back.
+fn paint_copied(clip: Clip, memory: &mut [u8], screen: usize, source: usize, mode: PaintMode)
+    requires in_memory { (screen + size clip.canvas ≤ length memory.old) × (source + size clip.picture ≤ length memory.old) × (length memory.old ≤ 65536) }
+    requires room { size clip.canvas ≤ screen_bytes base }
+    ensures { memory.new ≡ clip_painted clip screen source mode memory.old }
+{
+    let room = size(clip.canvas);
+    let count = size(clip.picture);
     let mut both = [0u8; BOTH_BYTES];
-    copy_both(memory, &mut both, screen, size, source, count);
-    let m = paint_apart(canvas, &mut both, 0, size, x, y, width, lines, mode);
-    slices::put_bytes(memory, screen, &both[..size]);
-    m
+    copy_both(memory, &mut both, screen, room, source, count);
+    paint_clip(clip, &mut both, 0, room, mode);
+    slices::put_bytes(memory, screen, &both[..room]);
 }
 
 // Whether the source has no byte in common with the screen.
@@ -201,13 +134,17 @@ pub fn paint_bitmap_by_bytes(
     mode: PaintMode,
 ) -> Marks
     requires holds { Holds canvas screen source width lines memory.old }
-    requires canvas_bound { size canvas ≤ screen_bytes base }
+    requires room { size canvas ≤ screen_bytes base }
     ensures { BitmapDrawn canvas screen source x y width lines mode result memory.old memory.new }
 {
-    let size = canvas.stride * canvas.height;
+    let Some(clip) = Clip::new(canvas, x, y, width, lines) else {
+        return no_marks();
+    };
     let count = source_bytes(width, lines);
-    if is_apart(screen, size, source, count) {
-        return paint_apart(canvas, memory, screen, source, x, y, width, lines, mode);
+    if is_apart(screen, size(canvas), source, count) {
+        paint_clip(clip, memory, screen, source, mode);
+    } else {
+        paint_copied(clip, memory, screen, source, mode);
     }
-    paint_copied(canvas, memory, screen, source, x, y, width, lines, mode)
+    clip.marks()
 }

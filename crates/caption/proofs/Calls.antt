@@ -1,19 +1,15 @@
 -- The ends of a call, once for all calls: refused at the entry, refused by a test of its own, done. All over the glass that the record's length tells.
-use mathlib.Core.Path.{◌≡◌, refl, sym, ap, subst, ◌∙◌}
-use mathlib.Core.Logic.{◌≢◌}
-use mathlib.Core.List.{List, [], ◌∷◌}
-use mathlib.Core.Bool.{Bool, true, false, not, ◌&&◌}
-use Prim.Native.Nat.{ℕ, zero, suc, ◌%◌, ◌<◌, ◌≤◌}
-use native.Mathlib.Omega.{arith}
-use borrow.Author.Tests.{eqb-true, not-true, not-false, lt-ltb, le-ltb}
-use lib.Dec.{eqb, ltb}
-use lib.ListN.{length}
+use Rattle.std.proofs.Common.{◌≡◌, ◌≢◌, refl, sym, ap, subst, ◌∙◌, List, [], ◌∷◌, Bool, true, false, not, ◌&&◌, ℕ, zero, suc, ◌%◌, ◌<◌, ◌≤◌, arith, eqb-true, lt-ltb, le-ltb, eqb, ltb, length, Result, Ok, Err, IsErrAnd}
+use Rattle.std.proofs.lemmas.Bool.{not-true, not-false}
+use Rattle.std.proofs.lemmas.Result.{err_from_is_err_and}
+use Rattle.model.specs.declared.refusal.Refusal.{Refusal}
+use Rattle.model.specs.declared.refusal.Refusal.TheVariants as refusals
 use Rattle.model.specs.declared.glass.Glass.{Glass}
 use Rattle.model.specs.Geometry.{Geometry, screen_bytes}
 use Rattle.model.specs.Glass.{geometry, glass_of}
 use Rattle.model.specs.Record.{record_bytes}
-use Rattle.model.specs.Refusals.{Test, test, refusal, ruled}
-use Rattle.model.specs.Calls.{Call, Lent, Outcome, answered, takes, lengths_fit, lent_test, state_test, entry_tests, own_tests, refusals, numbers, nought, refused, done, outcome}
+use Rattle.model.specs.Refusals.{Test, test, code_of, number_of, refusal, ruled}
+use Rattle.model.specs.Calls.{Call, Lent, Outcome, answered, takes, lengths_fit, lent_test, state_test, entry_tests, own_tests, refusals, numbers, nought, numbers_beside, refused, done, outcome}
 use Rattle.laws.specs.Tests.{and-true}
 use Rattle.laws.specs.Calls.{AllPass, refusal-first, refusal-append, accepted_pass}
 use Rattle.record.specs.Entry.{Chosen, Entered}
@@ -43,14 +39,28 @@ passed {t = t} e f = sym e ∙ not-false t f
 
 -- ---- outcomes by the refusal's number
 
--- a code and numbers that are equal to those
-pub as_answered : {j k : ℕ} {ms ns : List ℕ} (l : Lent) {o : Outcome} → j ≡ k → ms ≡ ns → answered k ns l ≡ o → answered j ms l ≡ o
-as_answered l e f d = (λ i. answered (e i) (f i) l) ∙ d
-
-pub is_refused : (g : Geometry) (c : Call) (l : Lent) (k : ℕ) → refusal (refusals g c l) ≡ k → k ≢ 0 → answered k (nought (numbers c)) l ≡ outcome g c l
+pub is_refused : (g : Geometry) (c : Call) (l : Lent) (x : Refusal) → refusal (refusals g c l) ≡ number_of x → answered (number_of x) (nought (numbers c)) l ≡ outcome g c l
 unfolding outcome ruled refused
-is_refused g c l zero e n = absurd (n refl)
-is_refused g c l (suc k) e n = rw e
+is_refused g c l refusals.Lent e = rw e
+is_refused g c l refusals.State e = rw e
+is_refused g c l refusals.Window e = rw e
+is_refused g c l refusals.Value e = rw e
+is_refused g c l refusals.Source e = rw e
+is_refused g c l refusals.Radius e = rw e
+is_refused g c l refusals.Glyph e = rw e
+is_refused g c l refusals.Panel e = rw e
+is_refused g c l refusals.Register e = rw e
+
+pub is_number : (x : Refusal) → number_of x ≢ 0
+is_number refusals.Lent e = absurd (omega arith)
+is_number refusals.State e = absurd (omega arith)
+is_number refusals.Window e = absurd (omega arith)
+is_number refusals.Value e = absurd (omega arith)
+is_number refusals.Source e = absurd (omega arith)
+is_number refusals.Radius e = absurd (omega arith)
+is_number refusals.Glyph e = absurd (omega arith)
+is_number refusals.Panel e = absurd (omega arith)
+is_number refusals.Register e = absurd (omega arith)
 
 pub is_done : (g : Geometry) (c : Call) (l : Lent) → refusal (refusals g c l) ≡ 0 → done g c l ≡ outcome g c l
 unfolding outcome ruled
@@ -62,43 +72,55 @@ is_done g c l e = rw e
 abbrev pub entered : List ℕ → Bool → List Test
 entered r others = let g = glass_of (length r) in lent_test g r others ∷ state_test g r ∷ []
 
--- they pass where its answer is 0
-pub enters : {others : Bool} {r : List ℕ} {n : ℕ} → Entered others r n → n ≡ 0 → AllPass (entered r others)
-enters {others} {r} e z = accepted_pass (entered r others) (omega arith, (omega arith, tt)) (sym e.code ∙ z)
+-- of a record that passes
+pub enters : {others : Bool} {r : List ℕ} {u : Unit {0}} → Entered others r (Ok u) → AllPass (entered r others)
+enters {others} {r} e = accepted_pass (entered r others) (omega arith, (omega arith, tt)) (sym e.code)
 
 -- what is lent beside the record has its length
-pub beside : {others : Bool} {r : List ℕ} {n : ℕ} → Entered others r n → n ≡ 0 → others ≡ true
-beside {others} {r} e z = (and-true (eqb (length r) (record_bytes (glass_of (length r)))) others (enters e z).0).1
+pub beside : {others : Bool} {r : List ℕ} {u : Unit {0}} → Entered others r (Ok u) → others ≡ true
+beside {others} {r} e = (and-true (eqb (length r) (record_bytes (glass_of (length r)))) others (enters e).0).1
 
 -- and a memory beside it makes what an accepted call is given
-pub given : {r : List ℕ} (m : List ℕ) {n : ℕ} → Entered (eqb (length m) 65536) r n → n ≡ 0 → Given r m
-given m e z = record { passing = e.passing z; memory = eqb-true (length m) 65536 (beside e z) }
+pub given : {r : List ℕ} (m : List ℕ) {u : Unit {0}} → Entered (eqb (length m) 65536) r (Ok u) → Given r m
+given m e = record { passing = e.passing; memory = eqb-true (length m) 65536 (beside e) }
 
 -- as a memory and an extra list of whole entries do
-pub given_list : {r : List ℕ} (m list : List ℕ) {n : ℕ} → Entered (eqb (length m) 65536 && eqb (length list % 6) 0) r n → n ≡ 0 → Given r m
-given_list m list e z = record { passing = e.passing z; memory = eqb-true (length m) 65536 (and-true (eqb (length m) 65536) (eqb (length list % 6) 0) (beside e z)).0 }
+pub given_list : {r : List ℕ} (m list : List ℕ) {u : Unit {0}} → Entered (eqb (length m) 65536 && eqb (length list % 6) 0) r (Ok u) → Given r m
+given_list m list e = record { passing = e.passing; memory = eqb-true (length m) 65536 (and-true (eqb (length m) 65536) (eqb (length list % 6) 0) (beside e)).0 }
 
 -- the entry makes the tests that stand first in a call's list
 abbrev pub Reads : Call → Lent → Type 0
 Reads c l = let g = glass_of (length l.rec) in entry_tests g (takes c) l ≡ entered l.rec (lengths_fit g (takes c) l)
 
-module _ (c : Call) (l : Lent) (s : Reads c l) {n : ℕ} (e : Entered (lengths_fit (glass_of (length l.rec)) (takes c) l) l.rec n) where
+module _ (c : Call) (l : Lent) (s : Reads c l) where
   abbrev g : Geometry
   g = glass_of (length l.rec)
 
-  -- refused at the entry
-  pub stops : n ≢ 0 → answered n (nought (numbers c)) l ≡ outcome g c l
-  unfolding refusals
-  stops h = is_refused g c l n (refusal-first (entry_tests g (takes c) l) (own_tests g c l) n (ap refusal s ∙ sym e.code) h) h
+  abbrev At : Result (Unit {0}) Refusal → Type 0
+  At answer = Entered (lengths_fit (glass_of (length l.rec)) (takes c) l) l.rec answer
 
-  module _ (z : n ≡ 0) where
+  refused_first : {x : Refusal} → At (Err x) → answered (number_of x) (nought (numbers c)) l ≡ outcome g c l
+  unfolding refusals
+  refused_first {x} e =
+      is_refused g c l x (refusal-first (entry_tests g (takes c) l) (own_tests g c l) (number_of x) (ap refusal s ∙ sym e.code) (is_number x))
+
+  -- refused at the entry: what `?` hands on
+  pub stops : {x : Refusal} {A : Type 0} (r : Result A Refusal) → IsErrAnd r (λ y. y ≡ x) → At (Err x) → answered (code_of r) (nought (numbers c)) l ≡ outcome g c l
+  stops r h e = let p = err_from_is_err_and r h in rw (p.1, p.2) (refused_first e)
+
+  -- the same with the numbers beside the code
+  pub stops_beside : {x : Refusal} {A : Type 0} (f : A → List ℕ) (r : Result A Refusal) → IsErrAnd r (λ y. y ≡ x) → At (Err x)
+      → answered (code_of r) (numbers_beside (numbers c) f r) l ≡ outcome g c l
+  stops_beside f r h e = let p = err_from_is_err_and r h in rw (p.1, p.2) (refused_first e)
+
+  module _ {u : Unit {0}} (e : At (Ok u)) where
     own : refusal (refusals g c l) ≡ refusal (own_tests g c l)
     unfolding refusals
-    own = refusal-append (entry_tests g (takes c) l) (own_tests g c l) (subst AllPass (sym s) (enters e z))
+    own = refusal-append (entry_tests g (takes c) l) (own_tests g c l) (subst AllPass (sym s) (enters e))
 
     -- refused by a test of its own
-    pub stops_later : (k : ℕ) → refusal (own_tests g c l) ≡ k → k ≢ 0 → answered k (nought (numbers c)) l ≡ outcome g c l
-    stops_later k t h = is_refused g c l k (own ∙ t) h
+    pub stops_later : (x : Refusal) → refusal (own_tests g c l) ≡ number_of x → answered (number_of x) (nought (numbers c)) l ≡ outcome g c l
+    stops_later x t = is_refused g c l x (own ∙ t)
 
     pub finishes : {o : Outcome} → refusal (own_tests g c l) ≡ 0 → o ≡ done g c l → o ≡ outcome g c l
     finishes t d = d ∙ is_done g c l (own ∙ t)
@@ -117,11 +139,12 @@ module _ {n : ℕ} {v : Glass} (k : Chosen n v) (f : Geometry → ℕ) {limit : 
 
 -- ---- a send: the panel's length is the glass's
 
-module _ {r : List ℕ} (m p : List ℕ) {n : ℕ} {v : Glass} (k : Chosen (length r) v) (e : Entered (eqb (length m) 65536 && eqb (length p) v.screen) r n) where
-  pub entered_panel : Entered (eqb (length m) 65536 && eqb (length p) (screen_bytes (glass_of (length r)))) r n
+module _ {r : List ℕ} (m p : List ℕ) {answer : Result (Unit {0}) Refusal} {v : Glass} (k : Chosen (length r) v) (e : Entered (eqb (length m) 65536 && eqb (length p) v.screen) r answer) where
+  pub entered_panel : Entered (eqb (length m) 65536 && eqb (length p) (screen_bytes (glass_of (length r)))) r answer
   entered_panel = rw (k.suits.is_screen ∙ ap screen_bytes k.glass) at e
 
-  pub given_panel : n ≡ 0 → Given r m × (length p ≡ screen_bytes (glass_of (length r)))
-  given_panel z =
-      let l = and-true (eqb (length m) 65536) (eqb (length p) (screen_bytes (glass_of (length r)))) (beside entered_panel z) in
-      (record { passing = e.passing z; memory = eqb-true (length m) 65536 l.0 }, eqb-true (length p) (screen_bytes (glass_of (length r))) l.1)
+pub given_panel : {r : List ℕ} (m p : List ℕ) {u : Unit {0}} → Entered (eqb (length m) 65536 && eqb (length p) (screen_bytes (glass_of (length r)))) r (Ok u)
+    → Given r m × (length p ≡ screen_bytes (glass_of (length r)))
+given_panel {r} m p e =
+    let l = and-true (eqb (length m) 65536) (eqb (length p) (screen_bytes (glass_of (length r)))) (beside e) in
+    (record { passing = e.passing; memory = eqb-true (length m) 65536 l.0 }, eqb-true (length p) (screen_bytes (glass_of (length r))) l.1)

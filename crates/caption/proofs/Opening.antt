@@ -1,12 +1,6 @@
 -- The ends of an open, which doesn't read the old record: LENT, WINDOW, VALUE, done.
-use mathlib.Core.Path.{◌≡◌, sym, ap, ◌∙◌}
-use mathlib.Core.List.{List, []}
-use mathlib.Core.Bool.{Bool, true, false, ◌&&◌}
-use Prim.Native.Nat.{ℕ}
-use native.Mathlib.Omega.{arith}
-use borrow.Author.Tests.{eqb-true}
-use lib.Dec.{eqb, leb}
-use lib.ListN.{length}
+use Rattle.std.proofs.Common.{◌≡◌, sym, ap, ◌∙◌, List, [], Bool, true, false, ◌&&◌, ℕ, eqb-true, eqb, leb, length}
+use Rattle.model.specs.declared.refusal.Refusal.TheVariants as refusals
 use Rattle.model.specs.declared.glass.Glass.{Glass}
 use Rattle.model.specs.Geometry.{Geometry}
 use Rattle.model.specs.Bytes.{Words}
@@ -29,18 +23,18 @@ module _ {v : Glass} (r m : List ℕ) (graphics text version : ℕ) (keys : List
 
   pub open_lent : (eqb (length r) v.bytes && eqb (length m) 65536) ≡ false → answered LENT [] (lent r m []) ≡ outcome g (opening graphics text version keys edge) (lent r m [])
   unfolding refusals
-  open_lent e = is_refused g (opening graphics text version keys edge) (lent r m []) LENT (fails _ (lent_as (eqb (length m) 65536) r k e)) (λ z. omega arith)
+  open_lent e = is_refused g (opening graphics text version keys edge) (lent r m []) refusals.Lent (fails _ (lent_as (eqb (length m) 65536) r k e))
 
   module _ (e : (eqb (length r) v.bytes && eqb (length m) 65536) ≡ true) {t : Bool} (w : t ≡ windows (geometry v) graphics text) where
     pub open_window : t ≡ false → answered WINDOW [] (lent r m []) ≡ outcome g (opening graphics text version keys edge) (lent r m [])
     unfolding refusals
-    open_window f = is_refused g (opening graphics text version keys edge) (lent r m []) WINDOW (passes LENT _ (lent_as (eqb (length m) 65536) r k e) (fails _ (windows_as w f))) (λ z. omega arith)
+    open_window f = is_refused g (opening graphics text version keys edge) (lent r m []) refusals.Window (passes LENT _ (lent_as (eqb (length m) 65536) r k e) (fails _ (windows_as w f)))
 
     pub open_value : {x : Bool} → t ≡ true → x ≡ edge_fits edge → (leb version 1 && x) ≡ false → answered VALUE [] (lent r m []) ≡ outcome g (opening graphics text version keys edge) (lent r m [])
     unfolding refusals
     open_value f i h =
-        is_refused g (opening graphics text version keys edge) (lent r m []) VALUE
-        (passes LENT _ (lent_as (eqb (length m) 65536) r k e) (passes WINDOW _ (windows_as w f) (fails [] (ap (λ (y : Bool). leb version 1 && y) (sym i) ∙ h)))) (λ z. omega arith)
+        is_refused g (opening graphics text version keys edge) (lent r m []) refusals.Value
+        (passes LENT _ (lent_as (eqb (length m) 65536) r k e) (passes WINDOW _ (windows_as w f) (fails [] (ap (λ (y : Bool). leb version 1 && y) (sym i) ∙ h))))
 
     pub open_ends : {o : Outcome} {x : Bool} → t ≡ true → x ≡ edge_fits edge → (leb version 1 && x) ≡ true → o ≡ done g (opening graphics text version keys edge) (lent r m [])
         → o ≡ outcome g (opening graphics text version keys edge) (lent r m [])

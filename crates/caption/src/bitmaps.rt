@@ -2,11 +2,12 @@
 ghost use Rattle.std.specs.Prelude.{◌≡◌, [], length};
 ghost use Rattle.model.specs.Glass.{glass_of};
 ghost use Rattle.model.specs.Shapes.{bitmap};
+ghost use Rattle.model.specs.Refusals.{code_of};
 ghost use Rattle.model.specs.Calls.{draw, lent, answered, outcome};
 
 use accepted::bitmaps;
 use model::glass::MEMORY_BYTES;
-use model::refusal;
+use model::refusal::Refusal;
 use record::entry;
 
 pub fn caption_paint_bitmap(
@@ -18,21 +19,18 @@ pub fn caption_paint_bitmap(
     width: u8,
     height: u8,
     mode: u8,
-) -> u32
-    ensures { answered result [] (lent rec.new memory.new []) ≡ outcome (glass_of (length rec.old)) (draw (bitmap address x y width height mode)) (lent rec.old memory.old []) }
+) -> Result<(), Refusal>
+    ensures { answered (code_of result) [] (lent rec.new memory.new []) ≡ outcome (glass_of (length rec.old)) (draw (bitmap address x y width height mode)) (lent rec.old memory.old []) }
 {
-    let code = entry::enter(rec, memory.len() == MEMORY_BYTES);
-    if code != 0 {
-        return code;
-    }
+    entry::enter(rec, memory.len() == MEMORY_BYTES)?;
     if mode > 4 {
-        return refusal::VALUE;
+        return Err(Refusal::Value);
     }
     if !bitmaps::source_fits(memory.len(), address, width, height) {
-        return refusal::SOURCE;
+        return Err(Refusal::Source);
     }
     bitmaps::paint_bitmap(rec, memory, address, x, y, width, height, mode);
-    0
+    Ok(())
 }
 
 // The same outcome, a byte of the screen at a time.
@@ -45,19 +43,16 @@ pub fn caption_paint_bitmap_by_bytes(
     width: u8,
     height: u8,
     mode: u8,
-) -> u32
-    ensures { answered result [] (lent rec.new memory.new []) ≡ outcome (glass_of (length rec.old)) (draw (bitmap address x y width height mode)) (lent rec.old memory.old []) }
+) -> Result<(), Refusal>
+    ensures { answered (code_of result) [] (lent rec.new memory.new []) ≡ outcome (glass_of (length rec.old)) (draw (bitmap address x y width height mode)) (lent rec.old memory.old []) }
 {
-    let code = entry::enter(rec, memory.len() == MEMORY_BYTES);
-    if code != 0 {
-        return code;
-    }
+    entry::enter(rec, memory.len() == MEMORY_BYTES)?;
     if mode > 4 {
-        return refusal::VALUE;
+        return Err(Refusal::Value);
     }
     if !bitmaps::source_fits(memory.len(), address, width, height) {
-        return refusal::SOURCE;
+        return Err(Refusal::Source);
     }
     bitmaps::paint_bitmap_by_bytes(rec, memory, address, x, y, width, height, mode);
-    0
+    Ok(())
 }

@@ -1,15 +1,16 @@
 // `caption_drive_line`: a send through the glass controller.
 ghost use Rattle.std.specs.Prelude.{◌≡◌, length};
 ghost use Rattle.model.specs.Glass.{glass_of};
-ghost use Rattle.model.specs.Calls.{sent_numbers};
+ghost use Rattle.model.specs.Refusals.{code_of};
+ghost use Rattle.model.specs.Calls.{numbers_beside, line_sent_numbers};
 ghost use Rattle.model.specs.Controller.{device, answer};
 ghost use Rattle.model.specs.Driver.{driven, drive_outcome};
 
-use accepted::sends::no_line;
 use device::registers::load_registers;
 use driver::drive;
-use model::Sent;
+use model::SentLine;
 use model::glass::{MEMORY_BYTES, REGISTER_BYTES};
+use model::refusal::Refusal;
 use record::entry;
 use record::glass::glass_of;
 
@@ -21,23 +22,17 @@ pub fn caption_drive_line(
     panel: &mut [u8],
     image: &mut [u8],
     number: u8,
-) -> Sent
-    ensures { answer result.code (sent_numbers result) (driven rec.new memory.now (device registers.new panel.new) image.new) ≡ drive_outcome (glass_of (length rec.old)) number (driven rec.old memory.now (device registers.old panel.old) image.old) }
+) -> Result<Option<SentLine>, Refusal>
+    ensures { answer (code_of result) (numbers_beside 4 line_sent_numbers result) (driven rec.new memory.now (device registers.new panel.new) image.new) ≡ drive_outcome (glass_of (length rec.old)) number (driven rec.old memory.now (device registers.old panel.old) image.old) }
 {
     let glass = glass_of(rec.len());
     let device = (registers.len() == REGISTER_BYTES) & (panel.len() == glass.screen);
-    let code = entry::enter(
+    entry::enter(
         rec,
         (memory.len() == MEMORY_BYTES) & (device & (image.len() == glass.screen)),
-    );
-    if code != 0 {
-        return no_line(code);
-    }
+    )?;
     let r = load_registers(registers);
     let k = number as usize;
-    let refused = drive::test_device(r, k);
-    if refused != 0 {
-        return no_line(refused);
-    }
-    drive::drive(rec, memory, registers, panel, image, r, k)
+    drive::test_device(r, k)?;
+    Ok(drive::drive(rec, memory, registers, panel, image, r, k))
 }

@@ -2,12 +2,13 @@
 ghost use Rattle.std.specs.Prelude.{◌≡◌, [], length};
 ghost use Rattle.model.specs.Glass.{glass_of};
 ghost use Rattle.model.specs.Shapes.{circle, ellipse};
+ghost use Rattle.model.specs.Refusals.{code_of};
 ghost use Rattle.model.specs.Calls.{draw, lent, answered, outcome};
 
 use accepted::ellipses;
 use accepted::lines::fill_fits;
 use model::glass::MEMORY_BYTES;
-use model::refusal;
+use model::refusal::Refusal;
 use record::entry;
 
 // No ellipse that RADIUS lets pass is ENDLESS: there is no code for that test.
@@ -20,21 +21,18 @@ pub fn caption_draw_ellipse(
     ry: u8,
     fill: u8,
     mode: u8,
-) -> u32
-    ensures { answered result [] (lent rec.new memory.new []) ≡ outcome (glass_of (length rec.old)) (draw (ellipse x y rx ry fill mode)) (lent rec.old memory.old []) }
+) -> Result<(), Refusal>
+    ensures { answered (code_of result) [] (lent rec.new memory.new []) ≡ outcome (glass_of (length rec.old)) (draw (ellipse x y rx ry fill mode)) (lent rec.old memory.old []) }
 {
-    let code = entry::enter(rec, memory.len() == MEMORY_BYTES);
-    if code != 0 {
-        return code;
-    }
+    entry::enter(rec, memory.len() == MEMORY_BYTES)?;
     if !fill_fits(fill, mode) {
-        return refusal::VALUE;
+        return Err(Refusal::Value);
     }
     if !ellipses::radii_fit(rx, ry, fill, mode) {
-        return refusal::RADIUS;
+        return Err(Refusal::Radius);
     }
     ellipses::draw_ellipse(rec, memory, x, y, rx, ry, fill, mode);
-    0
+    Ok(())
 }
 
 // The ellipse of one radius.
@@ -46,8 +44,8 @@ pub fn caption_draw_circle(
     r: u8,
     fill: u8,
     mode: u8,
-) -> u32
-    ensures { answered result [] (lent rec.new memory.new []) ≡ outcome (glass_of (length rec.old)) (draw (circle x y r fill mode)) (lent rec.old memory.old []) }
+) -> Result<(), Refusal>
+    ensures { answered (code_of result) [] (lent rec.new memory.new []) ≡ outcome (glass_of (length rec.old)) (draw (circle x y r fill mode)) (lent rec.old memory.old []) }
 {
     caption_draw_ellipse(rec, memory, x, y, r, r, fill, mode)
 }

@@ -1,6 +1,7 @@
 // The exported calls: each tests all that it is given, and lends what it was lent on to what an accepted call does.
 #![tactic(auto)]
 
+pub mod answer;
 pub mod bitmaps;
 pub mod clear;
 pub mod controller;

@@ -2,11 +2,12 @@
 ghost use Rattle.std.specs.Prelude.{◌≡◌, [], length};
 ghost use Rattle.model.specs.Glass.{glass_of};
 ghost use Rattle.model.specs.Shapes.{line, box};
+ghost use Rattle.model.specs.Refusals.{code_of};
 ghost use Rattle.model.specs.Calls.{draw, lent, answered, outcome};
 
 use accepted::lines;
 use model::glass::MEMORY_BYTES;
-use model::refusal;
+use model::refusal::Refusal;
 use record::entry;
 
 pub fn caption_draw_line(
@@ -17,18 +18,15 @@ pub fn caption_draw_line(
     x2: u8,
     y2: u8,
     mode: u8,
-) -> u32
-    ensures { answered result [] (lent rec.new memory.new []) ≡ outcome (glass_of (length rec.old)) (draw (line x1 y1 x2 y2 mode)) (lent rec.old memory.old []) }
+) -> Result<(), Refusal>
+    ensures { answered (code_of result) [] (lent rec.new memory.new []) ≡ outcome (glass_of (length rec.old)) (draw (line x1 y1 x2 y2 mode)) (lent rec.old memory.old []) }
 {
-    let code = entry::enter(rec, memory.len() == MEMORY_BYTES);
-    if code != 0 {
-        return code;
-    }
+    entry::enter(rec, memory.len() == MEMORY_BYTES)?;
     if mode > 3 {
-        return refusal::VALUE;
+        return Err(Refusal::Value);
     }
     lines::draw_line(rec, memory, x1, y1, x2, y2, mode);
-    0
+    Ok(())
 }
 
 pub fn caption_draw_box(
@@ -40,16 +38,13 @@ pub fn caption_draw_box(
     y2: u8,
     fill: u8,
     mode: u8,
-) -> u32
-    ensures { answered result [] (lent rec.new memory.new []) ≡ outcome (glass_of (length rec.old)) (draw (box x1 y1 x2 y2 fill mode)) (lent rec.old memory.old []) }
+) -> Result<(), Refusal>
+    ensures { answered (code_of result) [] (lent rec.new memory.new []) ≡ outcome (glass_of (length rec.old)) (draw (box x1 y1 x2 y2 fill mode)) (lent rec.old memory.old []) }
 {
-    let code = entry::enter(rec, memory.len() == MEMORY_BYTES);
-    if code != 0 {
-        return code;
-    }
+    entry::enter(rec, memory.len() == MEMORY_BYTES)?;
     if !lines::fill_fits(fill, mode) {
-        return refusal::VALUE;
+        return Err(Refusal::Value);
     }
     lines::draw_box(rec, memory, x1, y1, x2, y2, fill, mode);
-    0
+    Ok(())
 }

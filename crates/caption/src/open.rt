@@ -1,11 +1,12 @@
 // `caption_open` and `caption_reset`.
 ghost use Rattle.std.specs.Prelude.{◌≡◌, [], ◌∷◌, length};
 ghost use Rattle.model.specs.Glass.{glass_of};
+ghost use Rattle.model.specs.Refusals.{code_of};
 ghost use Rattle.model.specs.Calls.{opening, reset, lent, answered, outcome};
 
 use accepted::open;
 use model::glass::MEMORY_BYTES;
-use model::refusal;
+use model::refusal::Refusal;
 use record::glass::glass_of;
 use record::{entry, state};
 
@@ -24,31 +25,30 @@ pub fn caption_open(
     keys6: u32,
     keys7: u32,
     edge: u8,
-) -> u32
-    ensures { answered result [] (lent rec.new memory.new []) ≡ outcome (glass_of (length rec.old)) (opening graphics text version (keys0 ∷ keys1 ∷ keys2 ∷ keys3 ∷ keys4 ∷ keys5 ∷ keys6 ∷ keys7 ∷ []) edge) (lent rec.old memory.old []) }
+) -> Result<(), Refusal>
+    ensures { answered (code_of result) [] (lent rec.new memory.new []) ≡ outcome (glass_of (length rec.old)) (opening graphics text version (keys0 ∷ keys1 ∷ keys2 ∷ keys3 ∷ keys4 ∷ keys5 ∷ keys6 ∷ keys7 ∷ []) edge) (lent rec.old memory.old []) }
 {
     let glass = glass_of(rec.len());
-    if (rec.len() == glass.bytes) & (memory.len() == MEMORY_BYTES) {
-        if state::windows_fit(glass, graphics, text) {
-            if (version <= 1) & state::edge_fits(edge) {
-                let keys = [keys0, keys1, keys2, keys3, keys4, keys5, keys6, keys7];
-                open::open(rec, memory, graphics, text, version, keys, edge);
-                return 0;
-            }
-            return refusal::VALUE;
-        }
-        return refusal::WINDOW;
+    let lent = (rec.len() == glass.bytes) & (memory.len() == MEMORY_BYTES);
+    if !lent {
+        return Err(Refusal::Lent);
     }
-    refusal::LENT
+    if !state::windows_fit(glass, graphics, text) {
+        return Err(Refusal::Window);
+    }
+    let listed = (version <= 1) & state::edge_fits(edge);
+    if !listed {
+        return Err(Refusal::Value);
+    }
+    let keys = [keys0, keys1, keys2, keys3, keys4, keys5, keys6, keys7];
+    open::open(rec, memory, graphics, text, version, keys, edge);
+    Ok(())
 }
 
-pub fn caption_reset(rec: &mut [u8], memory: &mut [u8]) -> u32
-    ensures { answered result [] (lent rec.new memory.new []) ≡ outcome (glass_of (length rec.old)) reset (lent rec.old memory.old []) }
+pub fn caption_reset(rec: &mut [u8], memory: &mut [u8]) -> Result<(), Refusal>
+    ensures { answered (code_of result) [] (lent rec.new memory.new []) ≡ outcome (glass_of (length rec.old)) reset (lent rec.old memory.old []) }
 {
-    let code = entry::enter(rec, memory.len() == MEMORY_BYTES);
-    if code != 0 {
-        return code;
-    }
+    entry::enter(rec, memory.len() == MEMORY_BYTES)?;
     open::reset(rec, memory);
-    0
+    Ok(())
 }

@@ -4,6 +4,8 @@ ghost use Rattle.model.specs.Glass.{glass_of};
 ghost use Rattle.model.specs.Shapes.{bitmap};
 ghost use Rattle.model.specs.Calls.{draw, lent, answered, outcome};
 
+use caption::answer;
+
 #[unsafe(no_mangle)]
 pub extern "C" fn caption_paint_bitmap(
     rec: &mut [u8],
@@ -17,7 +19,9 @@ pub extern "C" fn caption_paint_bitmap(
 ) -> u32
     ensures { answered result [] (lent rec.new memory.new []) ≡ outcome (glass_of (length rec.old)) (draw (bitmap address x y width height mode)) (lent rec.old memory.old []) }
 {
-    caption::bitmaps::caption_paint_bitmap(rec, memory, address, x, y, width, height, mode)
+    answer::code(caption::bitmaps::caption_paint_bitmap(
+        rec, memory, address, x, y, width, height, mode,
+    ))
 }
 
 // The same outcome, a byte of the screen at a time.
@@ -34,5 +38,7 @@ pub extern "C" fn caption_paint_bitmap_by_bytes(
 ) -> u32
     ensures { answered result [] (lent rec.new memory.new []) ≡ outcome (glass_of (length rec.old)) (draw (bitmap address x y width height mode)) (lent rec.old memory.old []) }
 {
-    caption::bitmaps::caption_paint_bitmap_by_bytes(rec, memory, address, x, y, width, height, mode)
+    answer::code(caption::bitmaps::caption_paint_bitmap_by_bytes(
+        rec, memory, address, x, y, width, height, mode,
+    ))
 }

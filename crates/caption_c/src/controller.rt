@@ -5,6 +5,7 @@ ghost use Rattle.model.specs.Calls.{value_numbers};
 ghost use Rattle.model.specs.Controller.{device, answer, device_outcome};
 ghost use Rattle.model.specs.Controller as controller;
 
+use caption::answer;
 use model::Value;
 
 #[unsafe(no_mangle)]
@@ -16,12 +17,12 @@ pub extern "C" fn caption_controller_write(
 ) -> u32
     ensures { answer result [] (device registers.new panel.new) ≡ device_outcome base (controller.write register value) (device registers.old panel.old) }
 {
-    caption::controller::caption_controller_write(registers, panel, register, value)
+    answer::code(caption::controller::caption_controller_write(registers, panel, register, value))
 }
 
 #[unsafe(no_mangle)]
 pub extern "C" fn caption_controller_read(registers: &mut [u8], panel: &[u8], register: u8) -> Value
     ensures { answer result.code (value_numbers result) (device registers.new panel.now) ≡ device_outcome base (controller.read register) (device registers.old panel.now) }
 {
-    caption::controller::caption_controller_read(registers, panel, register)
+    answer::value(caption::controller::caption_controller_read(registers, panel, register))
 }

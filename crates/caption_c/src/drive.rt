@@ -5,6 +5,7 @@ ghost use Rattle.model.specs.Calls.{sent_numbers};
 ghost use Rattle.model.specs.Controller.{device, answer};
 ghost use Rattle.model.specs.Driver.{driven, drive_outcome};
 
+use caption::answer;
 use model::Sent;
 
 // To the panel of that number: `panel` is the device's, and `image` the driver's own copy of it.
@@ -19,5 +20,5 @@ pub extern "C" fn caption_drive_line(
 ) -> Sent
     ensures { answer result.code (sent_numbers result) (driven rec.new memory.now (device registers.new panel.new) image.new) ≡ drive_outcome (glass_of (length rec.old)) number (driven rec.old memory.now (device registers.old panel.old) image.old) }
 {
-    caption::drive::caption_drive_line(rec, memory, registers, panel, image, number)
+    answer::sent(caption::drive::caption_drive_line(rec, memory, registers, panel, image, number))
 }

@@ -4,6 +4,8 @@ ghost use Rattle.model.specs.Glass.{glass_of};
 ghost use Rattle.model.specs.Shapes.{circle, ellipse};
 ghost use Rattle.model.specs.Calls.{draw, lent, answered, outcome};
 
+use caption::answer;
+
 // No ellipse that RADIUS lets pass is ENDLESS: there is no code for that test.
 #[unsafe(no_mangle)]
 pub extern "C" fn caption_draw_ellipse(
@@ -18,7 +20,7 @@ pub extern "C" fn caption_draw_ellipse(
 ) -> u32
     ensures { answered result [] (lent rec.new memory.new []) ≡ outcome (glass_of (length rec.old)) (draw (ellipse x y rx ry fill mode)) (lent rec.old memory.old []) }
 {
-    caption::ellipses::caption_draw_ellipse(rec, memory, x, y, rx, ry, fill, mode)
+    answer::code(caption::ellipses::caption_draw_ellipse(rec, memory, x, y, rx, ry, fill, mode))
 }
 
 // The ellipse of one radius.
@@ -34,5 +36,5 @@ pub extern "C" fn caption_draw_circle(
 ) -> u32
     ensures { answered result [] (lent rec.new memory.new []) ≡ outcome (glass_of (length rec.old)) (draw (circle x y r fill mode)) (lent rec.old memory.old []) }
 {
-    caption::ellipses::caption_draw_circle(rec, memory, x, y, r, fill, mode)
+    answer::code(caption::ellipses::caption_draw_circle(rec, memory, x, y, r, fill, mode))
 }

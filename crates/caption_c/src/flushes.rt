@@ -4,6 +4,8 @@ ghost use Rattle.model.specs.Glass.{glass_of};
 ghost use Rattle.model.specs.Glyphs.{fonts};
 ghost use Rattle.model.specs.Calls.{flush, lent, answered, outcome};
 
+use caption::answer;
+
 // The extra list is lent as `list`, its font as `extra`.
 #[unsafe(no_mangle)]
 pub extern "C" fn caption_flush<'a>(
@@ -18,5 +20,7 @@ pub extern "C" fn caption_flush<'a>(
 ) -> u32
     ensures { answered result [] (lent rec.new memory.new []) ≡ outcome (glass_of (length rec.old)) (flush (fonts ascii8.now ascii16.now gb.now emoji.now list.now extra.now)) (lent rec.old memory.old []) }
 {
-    caption::flushes::caption_flush(rec, memory, ascii8, ascii16, gb, emoji, list, extra)
+    answer::code(caption::flushes::caption_flush(
+        rec, memory, ascii8, ascii16, gb, emoji, list, extra,
+    ))
 }

@@ -4,6 +4,8 @@ ghost use Rattle.model.specs.Glass.{glass_of};
 ghost use Rattle.model.specs.Shapes.{line, box};
 ghost use Rattle.model.specs.Calls.{draw, lent, answered, outcome};
 
+use caption::answer;
+
 #[unsafe(no_mangle)]
 pub extern "C" fn caption_draw_line(
     rec: &mut [u8],
@@ -16,7 +18,7 @@ pub extern "C" fn caption_draw_line(
 ) -> u32
     ensures { answered result [] (lent rec.new memory.new []) ≡ outcome (glass_of (length rec.old)) (draw (line x1 y1 x2 y2 mode)) (lent rec.old memory.old []) }
 {
-    caption::lines::caption_draw_line(rec, memory, x1, y1, x2, y2, mode)
+    answer::code(caption::lines::caption_draw_line(rec, memory, x1, y1, x2, y2, mode))
 }
 
 #[unsafe(no_mangle)]
@@ -32,5 +34,5 @@ pub extern "C" fn caption_draw_box(
 ) -> u32
     ensures { answered result [] (lent rec.new memory.new []) ≡ outcome (glass_of (length rec.old)) (draw (box x1 y1 x2 y2 fill mode)) (lent rec.old memory.old []) }
 {
-    caption::lines::caption_draw_box(rec, memory, x1, y1, x2, y2, fill, mode)
+    answer::code(caption::lines::caption_draw_box(rec, memory, x1, y1, x2, y2, fill, mode))
 }

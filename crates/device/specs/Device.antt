@@ -1,12 +1,10 @@
 -- Lists of device calls: the registers pass STATE after every list, a line of n bytes is done after n data writes, and a write to register 7 clears the registers and
 -- leaves the panel.
-use Rattle.std.specs.Prelude.{◌≡◌, true, false, cond, List, [], ◌∷◌, ℕ, eqb, length}
-use Rattle.std.proofs.Math.Path.{refl}
-use Rattle.std.proofs.Common.{sym, ◌∙◌, length-set}
-use borrow.Author.Tests.{eq-eqb}
+use Rattle.std.specs.Prelude.{◌≡◌, refl, true, false, cond, List, [], ◌∷◌, ℕ, eqb, length, Option, Some, None}
+use Rattle.std.proofs.Common.{sym, ◌∙◌, length-set, eq-eqb}
 use Rattle.model.specs.declared.Registers.{Registers}
 use Rattle.model.specs.declared.Register.{Register}
-use Rattle.model.specs.declared.Register.TheVariants.{Command, Line, First, Count, Data, Status, Enable, Reset, Beyond}
+use Rattle.model.specs.declared.Register.TheVariants.{Command, Line, First, Count, Data, Status, Enable, Reset}
 use Rattle.model.specs.Geometry.{Geometry, screen_bytes}
 use Rattle.model.specs.Refusals.{refusal, ruled}
 use Rattle.model.specs.Controller.{register_bytes, register_of, registers_of, bytes_of_registers, registers_fit, takes_write, registers_after, panel_after, registers_read, DeviceCall, write, read, Device, device, Answer, answer, takes_call, device_refusals, device_numbers, device_done, device_outcome, run_device}
@@ -57,17 +55,17 @@ left_passes : (g : Geometry) (c : DeviceCall) (r : Registers) → Passes g r →
 left_passes g (write n v) r p t = write_passes g r (register_of n) v p t
 left_passes g (read n) r p t = read_passes g r n p
 
-panel_long : (g : Geometry) (r : Registers) (n : Register) (v : ℕ) (p : List ℕ) → length p ≡ screen_bytes g → length (panel_after g r n v p) ≡ screen_bytes g
+panel_long : (g : Geometry) (r : Registers) (n : Option Register) (v : ℕ) (p : List ℕ) → length p ≡ screen_bytes g → length (panel_after g r n v p) ≡ screen_bytes g
 unfolding panel_after
-panel_long g r Command v p l = if_cases (λ (q : List ℕ). length q ≡ screen_bytes g) (eqb v 1) (λ e. length-zeros (screen_bytes g)) (λ e. l)
-panel_long g r Line v p l = l
-panel_long g r First v p l = l
-panel_long g r Count v p l = l
-panel_long g r Data v p l = length-set p _ v ∙ l
-panel_long g r Status v p l = l
-panel_long g r Enable v p l = l
-panel_long g r Reset v p l = l
-panel_long g r Beyond v p l = l
+panel_long g r (Some Command) v p l = if_cases (λ (q : List ℕ). length q ≡ screen_bytes g) (eqb v 1) (λ e. length-zeros (screen_bytes g)) (λ e. l)
+panel_long g r (Some Line) v p l = l
+panel_long g r (Some First) v p l = l
+panel_long g r (Some Count) v p l = l
+panel_long g r (Some Data) v p l = length-set p _ v ∙ l
+panel_long g r (Some Status) v p l = l
+panel_long g r (Some Enable) v p l = l
+panel_long g r (Some Reset) v p l = l
+panel_long g r None v p l = l
 
 left_long : (g : Geometry) (c : DeviceCall) (r : Registers) (p : List ℕ) → length p ≡ screen_bytes g → length (panel_left g c r p) ≡ screen_bytes g
 left_long g (write n v) r p l = panel_long g r (register_of n) v p l

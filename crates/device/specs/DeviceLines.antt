@@ -1,11 +1,7 @@
 -- A line that command 2 starts: it is done after as many data writes as it has bytes, whatever other calls stand between them, and not before. And what a row of data
 -- writes leaves.
-use Rattle.std.specs.Prelude.{◌≡◌, ◌≢◌, true, cond, not, ◌||◌, List, [], ◌∷◌, leb, ltb, eqb}
-use Rattle.std.proofs.Math.Path.{refl}
-use Rattle.std.proofs.Common.{◌∙◌, arith}
-use Rattle.std.proofs.Math.Bool.{false}
-use Prim.Native.Nat.{ℕ, zero, suc, ◌+◌, ◌-◌, ◌<◌}
-use borrow.Author.Tests.{eq-eqb, ne_eqb}
+use Rattle.std.specs.Prelude.{◌≡◌, ◌≢◌, refl, true, false, cond, not, ◌||◌, List, [], ◌∷◌, ℕ, zero, suc, ◌+◌, ◌-◌, ◌<◌, leb, ltb, eqb, Some}
+use Rattle.std.proofs.Common.{◌∙◌, arith, eq-eqb, ne_eqb}
 use Rattle.model.specs.declared.Register.TheVariants.{Command}
 use Rattle.model.specs.Geometry.{Geometry}
 use Rattle.model.specs.Controller.{busy, interrupt, enabled, takes_write, registers_after, panel_after, registers_read, DeviceCall, write, read, Device, takes_call, device_done, answer, device_outcome, run_device}
@@ -40,7 +36,7 @@ pub record InLine (g : Geometry) (l f n m : ℕ) (d : Device) : Type 0 where
   pub count : (fields_of d).count + m ≡ n
 
 -- command 2 starts it
-pub starts : (g : Geometry) (d : Device) → Sound g d → takes_write g (fields_of d) Command 2 ≡ true
+pub starts : (g : Geometry) (d : Device) → Sound g d → takes_write g (fields_of d) (Some Command) 2 ≡ true
     → InLine g (fields_of d).line (fields_of d).first (fields_of d).count 0 (device_outcome g (write 0 2) d).left
 unfolding device_done answer registers_after panel_after
 starts g d s t =
@@ -146,12 +142,12 @@ line_ends g d i h v =
 
 -- The whole of it: a line of n bytes, started by an accepted command 2, is busy while fewer than n data writes have followed, and done with the n-th, whatever other
 -- calls stand between them but a reset.
-pub line-busy : (g : Geometry) (d : Device) → Sound g d → takes_write g (fields_of d) Command 2 ≡ true → (cs : List DeviceCall) → AllKeep cs → data_writes cs < (fields_of d).count
+pub line-busy : (g : Geometry) (d : Device) → Sound g d → takes_write g (fields_of d) (Some Command) 2 ≡ true → (cs : List DeviceCall) → AllKeep cs → data_writes cs < (fields_of d).count
     → busy (fields_of (run_device g (write 0 2 ∷ cs) d)) ≡ true
 unfolding run_device
 line-busy g d s t cs k h = (line_goes g cs (device_outcome g (write 0 2) d).left k (starts g d s t) (omega arith)).busy
 
-pub line-done : (g : Geometry) (d : Device) → Sound g d → takes_write g (fields_of d) Command 2 ≡ true → (cs : List DeviceCall) → AllKeep cs → data_writes cs + 1 ≡ (fields_of d).count → (v : ℕ)
+pub line-done : (g : Geometry) (d : Device) → Sound g d → takes_write g (fields_of d) (Some Command) 2 ≡ true → (cs : List DeviceCall) → AllKeep cs → data_writes cs + 1 ≡ (fields_of d).count → (v : ℕ)
     → busy (fields_of (device_outcome g (write 4 v) (run_device g (write 0 2 ∷ cs) d)).left) ≡ false
 unfolding run_device
 line-done g d s t cs k h v =

@@ -1,24 +1,28 @@
--- What the entry of a device call tells: the refusal's number, or 0 and the registers of a device that passes.
-use Rattle.std.specs.Prelude.{◌≡◌, refl, List, [], ◌∷◌, Bool, true, false, ◌&&◌, ℕ, eqb, length}
-use Rattle.std.proofs.Math.Path.{sym}
-use Rattle.std.proofs.Common.{ap, ◌∙◌, arith, eqb-true}
+-- What the entry of a device call tells: a refusal, or the registers of a device that passes.
+use Rattle.std.specs.Prelude.{◌≡◌, refl, List, [], ◌∷◌, Bool, true, false, ◌&&◌, ℕ, eqb, length, Result, Ok, Err, IfOk}
+use Rattle.std.proofs.Common.{sym, ap, ◌∙◌, eqb-true}
 use Rattle.model.specs.Geometry.{base, screen_bytes}
-use Rattle.model.specs.Refusals.{LENT, STATE, test, refusal}
+use Rattle.model.specs.Refusals.{LENT, STATE, code_of, test, refusal}
 use Rattle.model.specs.Controller.{register_bytes, registers_of, registers_fit}
 use Rattle.model.specs.declared.Registers.{Registers}
+use Rattle.model.specs.declared.refusal.Refusal.{Refusal}
+use Rattle.model.specs.declared.refusal.Refusal.TheVariants.{Lent, State}
 use Rattle.laws.specs.Tests.{and-true}
-use Rattle.device.specs.declared.entry.DeviceEntry.{DeviceEntry}
 
 abbrev pub lengths : List ℕ → ℕ → Bool
 lengths b n = eqb (length b) register_bytes && eqb n (screen_bytes base)
 
+-- the registers r of a device that passes, with its bytes b and a panel of n bytes
+pub record DevicePasses (b : List ℕ) (n : ℕ) (r : Registers) : Type 0 where
+  pub bytes : length b ≡ register_bytes
+  pub panel : n ≡ screen_bytes base
+  pub registers : r ≡ registers_of b
+  pub fits : registers_fit base (registers_of b) ≡ true
+
 -- a panel of n bytes is lent beside the registers b
-pub record DeviceEntered (b : List ℕ) (n : ℕ) (e : DeviceEntry) : Type 0 where
-  pub code : e.code ≡ refusal (test LENT (lengths b n) ∷ test STATE (registers_fit base (registers_of b)) ∷ [])
-  pub bytes : e.code ≡ 0 → length b ≡ register_bytes
-  pub panel : e.code ≡ 0 → n ≡ screen_bytes base
-  pub registers : e.code ≡ 0 → e.registers ≡ registers_of b
-  pub fits : e.code ≡ 0 → registers_fit base (registers_of b) ≡ true
+pub record DeviceEntered (b : List ℕ) (n : ℕ) (answer : Result Registers Refusal) : Type 0 where
+  pub code : code_of answer ≡ refusal (test LENT (lengths b n) ∷ test STATE (registers_fit base (registers_of b)) ∷ [])
+  pub passes : IfOk answer (DevicePasses b n)
 
 -- ---- as the code goes
 
@@ -28,34 +32,23 @@ module _ (b : List ℕ) (n : ℕ) where
       let t = and-true (eqb (length b) register_bytes) (eqb n (screen_bytes base)) l in
       (eqb-true (length b) register_bytes t.0, eqb-true n (screen_bytes base) t.1)
 
-  pub wrong_length : {e : DeviceEntry} → lengths b n ≡ false → e.code ≡ LENT → DeviceEntered b n e
+  pub wrong_length : lengths b n ≡ false → DeviceEntered b n (Err Lent)
   unfolding refusal
-  wrong_length l e =
-      record {
-        code = rw l e;
-        bytes = λ z. absurd (omega arith);
-        panel = λ z. absurd (omega arith);
-        registers = λ z. absurd (omega arith);
-        fits = λ z. absurd (omega arith);
-      }
+  wrong_length l = record { code = rw l refl; passes = tt }
 
   module _ (l : lengths b n ≡ true) {r : Registers} (k : r ≡ registers_of b) {t : Bool} (f : t ≡ registers_fit base r) where
     here : t ≡ registers_fit base (registers_of b)
     here = f ∙ ap (registers_fit base) k
 
-    pub damaged : {e : DeviceEntry} → t ≡ false → e.code ≡ STATE → DeviceEntered b n e
+    pub damaged : t ≡ false → DeviceEntered b n (Err State)
     unfolding refusal
-    damaged z e =
-        record {
-          code = rw (l, sym here ∙ z) e;
-          bytes = λ z. absurd (omega arith);
-          panel = λ z. absurd (omega arith);
-          registers = λ z. absurd (omega arith);
-          fits = λ z. absurd (omega arith);
-        }
+    damaged z = record { code = rw (l, sym here ∙ z) refl; passes = tt }
 
-    pub entered : t ≡ true → DeviceEntered b n (record { code = 0; registers = r })
+    pub entered : t ≡ true → DeviceEntered b n (Ok r)
     unfolding refusal
     entered z =
         let s = sized l in
-        record { code = rw (l, sym here ∙ z) refl; bytes = λ o. s.0; panel = λ o. s.1; registers = λ o. k; fits = λ o. sym here ∙ z }
+        record {
+          code = rw (l, sym here ∙ z) refl;
+          passes = record { bytes = s.0; panel = s.1; registers = k; fits = sym here ∙ z };
+        }

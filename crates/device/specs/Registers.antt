@@ -1,10 +1,10 @@
 -- What registers that pass STATE are, and that an accepted write or read leaves registers that pass.
-use Rattle.std.specs.Prelude.{◌≡◌, refl, List, [], ◌∷◌, Bool, true, false, not, ◌&&◌, ◌||◌, ℕ, ◌+◌, ◌-◌, ◌/◌, ◌%◌, ◌≤◌, ◌<◌, leb, eqb, length}
+use Rattle.std.specs.Prelude.{◌≡◌, refl, List, [], ◌∷◌, Bool, true, false, not, ◌&&◌, ◌||◌, ℕ, ◌+◌, ◌-◌, ◌/◌, ◌%◌, ◌≤◌, ◌<◌, leb, eqb, length, Option, Some, None}
 use Rattle.std.proofs.Common.{sym, ◌∙◌, arith, lt-ltb, le-leb, leb-true, eq-eqb, ne_eqb, eqb-true}
 use Rattle.std.proofs.lemmas.Bool.{not-true}
 use Rattle.model.specs.declared.Registers.{Registers}
 use Rattle.model.specs.declared.Register.{Register}
-use Rattle.model.specs.declared.Register.TheVariants.{Command, Line, First, Count, Data, Status, Enable, Reset, Beyond}
+use Rattle.model.specs.declared.Register.TheVariants.{Command, Line, First, Count, Data, Status, Enable, Reset}
 use Rattle.model.specs.Geometry.{Geometry, height}
 use Rattle.model.specs.Controller.{register_bytes, registers_of, bytes_of_registers, busy, interrupt, enabled, status_of, line_tests, line_fits, register_tests, registers_fit, takes_write, registers_after, registers_read}
 use Rattle.laws.specs.Tests.{if_cases, by_test, by_eq, either, clash, tests, all_true, true_all, and-true, or_cases, or_left, or_right}
@@ -83,7 +83,7 @@ status_small false false = omega arith
 -- ---- what is left passes
 
 -- an accepted command
-command_passes : (g : Geometry) (r : Registers) (v : ℕ) → Passes g r → takes_write g r Command v ≡ true → Passes g (registers_after r Command v)
+command_passes : (g : Geometry) (r : Registers) (v : ℕ) → Passes g r → takes_write g r (Some Command) v ≡ true → Passes g (registers_after r (Some Command) v)
 unfolding takes_write registers_after
 command_passes g r v p t =
     let k = and-true (not (busy r)) (leb v 1 || (eqb v 2 && line_fits g r)) t in
@@ -106,7 +106,7 @@ command_passes g r v p t =
     }))
 
 -- a data byte
-data_passes : (g : Geometry) (r : Registers) (v : ℕ) → Passes g r → busy r ≡ true → Passes g (registers_after r Data v)
+data_passes : (g : Geometry) (r : Registers) (v : ℕ) → Passes g r → busy r ≡ true → Passes g (registers_after r (Some Data) v)
 unfolding registers_after
 data_passes g r v p t =
     let l = p.line t in
@@ -127,17 +127,17 @@ data_passes g r v p t =
     }))
 
 -- a write of the host
-pub write_passes : (g : Geometry) (r : Registers) (n : Register) (v : ℕ) → Passes g r → takes_write g r n v ≡ true → Passes g (registers_after r n v)
+pub write_passes : (g : Geometry) (r : Registers) (n : Option Register) (v : ℕ) → Passes g r → takes_write g r n v ≡ true → Passes g (registers_after r n v)
 unfolding takes_write registers_after
-write_passes g r Command v p t = command_passes g r v p t
-write_passes g r Line v p t = let i = not-true (busy r) t in record { command = p.command; status = p.status; enable = p.enable; reset = p.reset; line = λ b. clash (busy r) b i }
-write_passes g r First v p t = let i = not-true (busy r) t in record { command = p.command; status = p.status; enable = p.enable; reset = p.reset; line = λ b. clash (busy r) b i }
-write_passes g r Count v p t = let i = not-true (busy r) t in record { command = p.command; status = p.status; enable = p.enable; reset = p.reset; line = λ b. clash (busy r) b i }
-write_passes g r Data v p t = data_passes g r v p t
-write_passes g r Status v p t = p
-write_passes g r Enable v p t = record { command = p.command; status = p.status; enable = leb-true v 1 t; reset = p.reset; line = p.line }
-write_passes g r Reset v p t = record { command = omega arith; status = omega arith; enable = omega arith; reset = refl; line = λ b. clash false b refl }
-write_passes g r Beyond v p t = p
+write_passes g r (Some Command) v p t = command_passes g r v p t
+write_passes g r (Some Line) v p t = let i = not-true (busy r) t in record { command = p.command; status = p.status; enable = p.enable; reset = p.reset; line = λ b. clash (busy r) b i }
+write_passes g r (Some First) v p t = let i = not-true (busy r) t in record { command = p.command; status = p.status; enable = p.enable; reset = p.reset; line = λ b. clash (busy r) b i }
+write_passes g r (Some Count) v p t = let i = not-true (busy r) t in record { command = p.command; status = p.status; enable = p.enable; reset = p.reset; line = λ b. clash (busy r) b i }
+write_passes g r (Some Data) v p t = data_passes g r v p t
+write_passes g r (Some Status) v p t = p
+write_passes g r (Some Enable) v p t = record { command = p.command; status = p.status; enable = leb-true v 1 t; reset = p.reset; line = p.line }
+write_passes g r (Some Reset) v p t = record { command = omega arith; status = omega arith; enable = omega arith; reset = refl; line = λ b. clash false b refl }
+write_passes g r None v p t = p
 
 -- and a read
 pub read_passes : (g : Geometry) (r : Registers) (n : ℕ) → Passes g r → Passes g (registers_read r n)

@@ -26,40 +26,30 @@ pub fn store_registers(bytes: &mut [u8], r: Registers)
     requires { length bytes.old ≡ register_bytes }
     ensures { bytes.new ≡ bytes_of_registers r }
 {
-    let stored = [
-        r.command, r.line, r.first, r.count, r.byte, r.status, r.enable, r.reset,
-    ];
-    slices::copy_bytes(&stored, bytes);
+    bytes[0] = r.command;
+    bytes[1] = r.line;
+    bytes[2] = r.first;
+    bytes[3] = r.count;
+    bytes[4] = r.byte;
+    bytes[5] = r.status;
+    bytes[6] = r.enable;
+    bytes[7] = r.reset;
 }
 
-pub fn clear_registers() -> Registers
-    ensures { result ≡ registers 0 0 0 0 0 0 0 0 }
-{
-    Registers {
-        command: 0,
-        line: 0,
-        first: 0,
-        count: 0,
-        byte: 0,
-        status: 0,
-        enable: 0,
-        reset: 0,
-    }
-}
-
-pub fn register_of(n: u8) -> Register
+// A number above 7 names none.
+pub fn register_of(n: u8) -> Option<Register>
     ensures { result ≡ register_of n }
 {
     match n {
-        0 => Register::Command,
-        1 => Register::Line,
-        2 => Register::First,
-        3 => Register::Count,
-        4 => Register::Data,
-        5 => Register::Status,
-        6 => Register::Enable,
-        7 => Register::Reset,
-        _ => Register::Beyond,
+        0 => Some(Register::Command),
+        1 => Some(Register::Line),
+        2 => Some(Register::First),
+        3 => Some(Register::Count),
+        4 => Some(Register::Data),
+        5 => Some(Register::Status),
+        6 => Some(Register::Enable),
+        7 => Some(Register::Reset),
+        _ => None,
     }
 }
 
@@ -86,21 +76,22 @@ pub fn status_of(busy: bool, interrupt: bool) -> u8
 // ---- STATE
 
 // What command 2 needs; first byte plus count is an exact sum.
+#[tactic(auto, unfolding(model::specs::Controller::line_fits))]
 pub fn line_fits(r: Registers) -> bool
     ensures { result ≡ line_fits base r }
 {
-    let glass = SMALL;
-    ((r.line as u16) < glass.height)
-        & ((r.first as usize) + (r.count as usize) <= glass.stride)
-        & (1 <= r.count)
+    (r.line as u16) < SMALL.height
+        && (r.first as usize) + (r.count as usize) <= SMALL.stride
+        && r.count >= 1
 }
 
+#[tactic(auto, unfolding(model::specs::Controller::registers_fit))]
 pub fn registers_fit(r: Registers) -> bool
     ensures { result ≡ registers_fit base r }
 {
-    (r.command <= 2)
-        & (r.status <= 3)
-        & (r.enable <= 1)
-        & (r.reset == 0)
-        & (!is_busy(r) | line_fits(r))
+    r.command <= 2
+        && r.status <= 3
+        && r.enable <= 1
+        && r.reset == 0
+        && (!is_busy(r) || line_fits(r))
 }

@@ -1,39 +1,37 @@
 // `draw_ellipse`: one walk along a quarter of the outline, each part drawn as it comes.
-ghost use Rattle.std.specs.Prelude.{◌≡◌, ◌+◌, ◌<◌, ◌≤◌, max, true, if◌then◌else◌, nat_lt};
+ghost use Rattle.std.specs.Prelude.{◌≡◌, ◌+◌, max, true, if◌then◌else◌, nat_lt};
 ghost use Rattle.model.specs.Pixels.{Screen, draw, seen};
 ghost use Rattle.model.specs.Marks.{drawn, drawn_on};
 ghost use Rattle.model.specs.Ellipses.{part, parts, up, down, corners, chords, part_writes, wraps, ellipse_mark, is_point, is_nothing, ellipse, radii_fit};
 ghost use Rattle.laws.specs.Ellipses.{Round};
 ghost use Rattle.laws.specs.EllipseWalks.{painted};
-ghost use Rattle.pixels.specs.Raster.{mode_of, IsOp};
+ghost use Rattle.pixels.specs.Raster.{mode_of};
 ghost use Rattle.ellipse_walk.specs.Walk.{parts_of};
 
-use draw_lines::ends::greatest;
 use draw_lines::line::{draw_clamped, draw_hor_line, is_unknown};
 use ellipse_walk::{EllipsePart, ended, next_step, start};
 use marks::mark::whole_screen;
 use marks::span::{no_marks, owed_as_is, owed_by_edge};
 use model::{Canvas, DrawMode, Edge, Marks, Rect};
 use pixels::point::{draw_point, plot_pair, point_mask};
-use pixels::raster::{RasterOp, raster_op};
-use std::num::{wrapping_add_u8, wrapping_sub_u8};
+use pixels::raster::RasterOp;
 
 fn up(z: u8, d: u8) -> u8
     ensures { result ≡ up z d }
 {
-    wrapping_add_u8(z, d)
+    z.wrapping_add(d)
 }
 
 fn down(z: u8, d: u8) -> u8
     ensures { result ≡ down z d }
 {
-    wrapping_sub_u8(z, d)
+    z.wrapping_sub(d)
 }
 
 // The four corners of a part; off the screen they draw nothing.
+#[tactic(auto, using(crate::proofs::Rules::parts))]
 fn draw_corners(canvas: Canvas, screen: &mut [u8], x: u8, y: u8, a: u8, b: u8, op: RasterOp)
     requires screen { Screen canvas.stride canvas.height screen.old }
-    requires op { IsOp op }
     ensures { screen.new ≡ draw canvas.stride (seen canvas.stride canvas.height (corners x y (mode_of op) (part a b))) screen.old }
 {
     let left = down(x, a) as usize;
@@ -53,6 +51,7 @@ fn chord_left(left: u8, right: u8) -> u8
 }
 
 // Two horizontals from corner to corner; where the left one wrapped, from 0. Where they are clamped none is left out, so the flag is asked for once.
+#[tactic(auto, using(crate::proofs::Rules::chords))]
 fn draw_chords(
     canvas: Canvas,
     screen: &mut [u8],
@@ -64,7 +63,6 @@ fn draw_chords(
     op: RasterOp,
 )
     requires screen { Screen canvas.stride canvas.height screen.old }
-    requires op { IsOp op }
     ensures { screen.new ≡ draw canvas.stride (seen canvas.stride canvas.height (chords canvas.stride canvas.height edge x y (mode_of op) (part a b))) screen.old }
 {
     let right = up(x, a);
@@ -83,6 +81,7 @@ fn draw_chords(
     }
 }
 
+#[tactic(auto, using(crate::proofs::Rules::parts))]
 fn draw_part(
     canvas: Canvas,
     screen: &mut [u8],
@@ -95,7 +94,6 @@ fn draw_part(
     op: RasterOp,
 )
     requires screen { Screen canvas.stride canvas.height screen.old }
-    requires op { IsOp op }
     ensures { screen.new ≡ draw canvas.stride (seen canvas.stride canvas.height (part_writes canvas.stride canvas.height edge x y fill (mode_of op) (part a b))) screen.old }
 {
     if fill {
@@ -117,12 +115,10 @@ fn draw_step(
     op: RasterOp,
 )
     requires screen { Screen canvas.stride canvas.height screen.old }
-    requires op { IsOp op }
     ensures { screen.new ≡ painted canvas.stride canvas.height edge x y fill (mode_of op) (parts_of part) screen.old }
 {
-    match part {
-        EllipsePart::At(a, b) => draw_part(canvas, screen, edge, x, y, a, b, fill, op),
-        EllipsePart::Nothing => {}
+    if let EllipsePart::At(a, b) = part {
+        draw_part(canvas, screen, edge, x, y, a, b, fill, op);
     }
 }
 
@@ -139,10 +135,9 @@ fn draw_walk(
 )
     requires screen { Screen canvas.stride canvas.height screen.old }
     requires round { Round rx ry }
-    requires op { IsOp op }
     ensures { screen.new ≡ painted canvas.stride canvas.height edge x y fill (mode_of op) (parts rx ry) screen.old }
 {
-    let r = greatest(rx, ry);
+    let r = rx.max(ry);
     let mut w = start(r, rx);
     let mut part = EllipsePart::At(rx, 0);
     let mut last = false;
@@ -160,6 +155,7 @@ fn draw_walk(
 
 // ---- marks
 
+#[tactic(auto, unfolding(model::specs::Ellipses::wraps))]
 fn wraps(x: u8, y: u8, rx: u8, ry: u8) -> bool
     ensures { result ≡ wraps x y rx ry }
 {
@@ -172,12 +168,11 @@ fn wraps(x: u8, y: u8, rx: u8, ry: u8) -> bool
 fn reach(z: u8, radius: u8, edge: u16) -> u16
     ensures { result ≡ max (z + radius + 1) edge }
 {
-    let end = (z as u16) + (radius as u16) + 1;
-    if end < edge { edge } else { end }
+    ((z as u16) + (radius as u16) + 1).max(edge)
 }
 
+#[tactic(auto, using(crate::proofs::Rules::marks))]
 fn ellipse_mark(canvas: Canvas, x: u8, y: u8, rx: u8, ry: u8) -> Rect
-    requires { (0 < canvas.stride) × (canvas.stride ≤ 32) × (0 < canvas.height) × (canvas.height ≤ 256) }
     ensures { result ≡ ellipse_mark canvas.stride canvas.height x y rx ry }
 {
     let screen = whole_screen(canvas);
@@ -196,12 +191,14 @@ fn ellipse_mark(canvas: Canvas, x: u8, y: u8, rx: u8, ry: u8) -> Rect
 
 // ---- the whole
 
+#[tactic(auto, unfolding(model::specs::Ellipses::is_point))]
 fn is_point(rx: u8, ry: u8) -> bool
     ensures { result ≡ is_point rx ry }
 {
     (rx == 0) & (ry == 0)
 }
 
+#[tactic(auto, unfolding(model::specs::Ellipses::is_nothing))]
 fn is_nothing(fill: bool, mode: DrawMode) -> bool
     ensures { result ≡ is_nothing fill mode }
 {
@@ -209,12 +206,14 @@ fn is_nothing(fill: bool, mode: DrawMode) -> bool
 }
 
 // What RADIUS tests, after the two early returns.
+#[tactic(auto, unfolding(model::specs::Ellipses::radii_fit))]
 pub fn radii_fit(rx: u8, ry: u8, fill: bool, mode: DrawMode) -> bool
     ensures { result ≡ radii_fit rx ry fill mode }
 {
     (is_point(rx, ry) | is_nothing(fill, mode)) | ((rx <= 127) & (ry <= 127))
 }
 
+#[tactic(auto, using(crate::proofs::Rules::ellipses))]
 pub fn draw_ellipse(
     canvas: Canvas,
     screen: &mut [u8],
@@ -236,7 +235,7 @@ pub fn draw_ellipse(
     if is_nothing(fill, mode) {
         return no_marks();
     }
-    let op = raster_op(mode);
+    let op = RasterOp::from(mode);
     draw_walk(canvas, screen, edge, x, y, rx, ry, fill, op);
     if fill {
         return owed_by_edge(canvas, edge, ellipse_mark(canvas, x, y, rx, ry));

@@ -2,6 +2,7 @@
 #![tactic(auto)]
 
 mod boxes;
+mod corners;
 mod ellipse;
 
 pub use boxes::{draw_box, draw_filled_box};

@@ -1,6 +1,5 @@
 // Lines over the lent screen part of memory: horizontal, vertical and sloped ones.
 #![tactic(auto)]
 
-pub mod ends;
 pub mod line;
 mod slope;

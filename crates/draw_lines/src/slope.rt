@@ -1,5 +1,5 @@
 // Lines that are neither horizontal nor vertical: the error sums are bytes, and wrap.
-ghost use Rattle.std.specs.Prelude.{◌≡◌, ◌+◌, ◌-◌, ◌%◌, ◌<◌, ◌≤◌, min, max, if◌then◌else◌, nat_le, nat_lt};
+ghost use Rattle.std.specs.Prelude.{◌≡◌, ◌+◌, ◌%◌, ◌<◌, ◌≤◌, if◌then◌else◌, nat_le, nat_lt};
 ghost use Rattle.model.specs.Pixels.{Screen, draw, seen};
 ghost use Rattle.model.specs.Lines.{error_sum, stepped, next_error, slope, sloped};
 ghost use Rattle.laws.specs.Slopes.{slope_by};
@@ -11,21 +11,23 @@ use pixels::point::plot_seen;
 fn reaches(error: u8, dist: u8, longer: u8) -> bool
     ensures { result ≡ nat_le longer (error_sum error dist) }
 {
-    std::num::wrapping_add_u8(error, dist) >= longer
+    error.wrapping_add(dist) >= longer
 }
 
 // The error sum after its turn.
+#[tactic(auto, using(laws::specs::Slopes::error_left))]
 fn next_error(error: u8, dist: u8, longer: u8) -> u8
     ensures { result ≡ next_error longer error dist }
 {
-    let sum = std::num::wrapping_add_u8(error, dist);
+    let sum = error.wrapping_add(dist);
     if reaches(error, dist, longer) {
-        std::num::wrapping_sub_u8(sum, longer)
+        sum.wrapping_sub(longer)
     } else {
         sum
     }
 }
 
+#[tactic(auto, using(laws::specs::Slopes::step_taken, laws::specs::Slopes::step_left))]
 fn step_x(x: usize, error: u8, dist: u8, longer: u8) -> usize
     requires { x < 65536 }
     ensures { result ≡ stepped longer error dist (x + 1) x }
@@ -37,20 +39,15 @@ fn step_x(x: usize, error: u8, dist: u8, longer: u8) -> usize
     }
 }
 
+#[tactic(auto, using(laws::specs::Slopes::step_taken, laws::specs::Slopes::step_left))]
 fn step_y(y: u8, inc: u8, error: u8, dist: u8, longer: u8) -> u8
     ensures { result ≡ stepped longer error dist ((y + inc) % 256) y }
 {
     if reaches(error, dist, longer) {
-        std::num::wrapping_add_u8(y, inc)
+        y.wrapping_add(inc)
     } else {
         y
     }
-}
-
-fn abs_diff(a: u8, b: u8) -> u8
-    ensures { result ≡ max a b - min a b }
-{
-    if a < b { b - a } else { a - b }
 }
 
 // The step of y: 1, or 255 for one line up.
@@ -60,7 +57,7 @@ fn inc_of(y1: u8, y2: u8) -> u8
     if y1 < y2 { 1 } else { 255 }
 }
 
-// More across than down: x steps in every turn. It is no byte, since it may step past 255 after the last point.
+// More across than down: x steps in every turn. It is no byte, since it may pass 255.
 fn draw_flat(
     canvas: Canvas,
     screen: &mut [u8],
@@ -74,16 +71,14 @@ fn draw_flat(
     requires { Screen canvas.stride canvas.height screen.old }
     ensures { screen.new ≡ draw canvas.stride (seen canvas.stride canvas.height (slope (slope_by across down across inc) (across + 1) x1 y1 0 0 mode)) screen.old }
 {
-    let mut x = x1 as usize;
+    let first = x1 as usize;
+    let end = first + (across as usize) + 1;
     let mut y = y1;
-    let mut error_y = 0u8;
-    let mut points = (across as usize) + 1;
-    while 0 < points {
+    let mut error = 0u8;
+    for x in first..end {
         plot_seen(canvas, screen, x, y as usize, mode);
-        x += 1;
-        y = step_y(y, inc, error_y, down, across);
-        error_y = next_error(error_y, down, across);
-        points -= 1;
+        y = step_y(y, inc, error, down, across);
+        error = next_error(error, down, across);
     }
 }
 
@@ -103,25 +98,24 @@ fn draw_steep(
 {
     let mut x = x1 as usize;
     let mut y = y1;
-    let mut error_x = 0u8;
-    let mut points = (down as usize) + 1;
-    while 0 < points {
+    let mut error = 0u8;
+    for _ in 0..(down as usize) + 1 {
         plot_seen(canvas, screen, x, y as usize, mode);
-        x = step_x(x, error_x, across, down);
-        y = std::num::wrapping_add_u8(y, inc);
-        error_x = next_error(error_x, across, down);
-        points -= 1;
+        x = step_x(x, error, across, down);
+        y = y.wrapping_add(inc);
+        error = next_error(error, across, down);
     }
 }
 
 // From (x1, y1), the left end, to (x2, y2). The sum of the longer distance is 0 after each turn, so only the other one is kept.
+#[tactic(auto, using(crate::proofs::Rules::slopes))]
 pub fn draw_slope(canvas: Canvas, screen: &mut [u8], x1: u8, y1: u8, x2: u8, y2: u8, mode: DrawMode)
     requires screen { Screen canvas.stride canvas.height screen.old }
     requires x1_le_x2 { x1 ≤ x2 }
     ensures { screen.new ≡ draw canvas.stride (seen canvas.stride canvas.height (sloped x1 y1 x2 y2 mode)) screen.old }
 {
     let dist_x = x2 - x1;
-    let dist_y = abs_diff(y1, y2);
+    let dist_y = y1.abs_diff(y2);
     let inc_y = inc_of(y1, y2);
     if dist_y <= dist_x {
         draw_flat(canvas, screen, x1, y1, dist_x, dist_y, inc_y, mode);

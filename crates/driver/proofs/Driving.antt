@@ -1,20 +1,15 @@
 -- The accepted driver call: the send's answer and record, and the image as the send leaves it; then nothing, where the send is idle, or the writes of its line.
-use mathlib.Core.Path.{◌≡◌, refl, sym, ap, ◌∙◌}
-use mathlib.Core.Bool.{Bool, true, false, not}
-use mathlib.Core.List.{List}
-use Prim.Native.Nat.{ℕ, ◌≤◌, ◌<◌}
-use native.Mathlib.Omega.{arith}
-use lib.ListN.{length}
-use borrow.Author.Tests.{not-true, not-false, lt-ltb, le-ltb}
+use Rattle.std.proofs.Common.{◌≡◌, refl, sym, ap, ◌∙◌, Bool, true, false, not, List, ℕ, ◌≤◌, ◌<◌, arith, length, lt-ltb, le-ltb, Option}
+use Rattle.std.proofs.lemmas.Bool.{not-true, not-false}
 use Rattle.model.specs.declared.Rect.{Rect}
-use Rattle.model.specs.declared.Sent.{Sent}
+use Rattle.model.specs.declared.SentLine.{SentLine}
 use Rattle.model.specs.declared.Registers.{Registers}
 use Rattle.model.specs.Geometry.{base}
 use Rattle.model.specs.Rects.{is_empty}
 use Rattle.model.specs.Record.{Pending, panel_of, decode}
 use Rattle.model.specs.Refusals.{STATE, PANEL, REGISTER, refusal}
 use Rattle.model.specs.Sends.{take_owed}
-use Rattle.model.specs.Calls.{answered, sent_numbers, Outcome}
+use Rattle.model.specs.Calls.{answered, line_sent_numbers, Outcome}
 use Rattle.model.specs.Controller.{register_bytes, Device, device, registers_of, bytes_of_registers, registers_fit, busy, answer, run_device}
 use Rattle.model.specs.Driver.{driven, driver_tests, line_writes, driver_writes, drive_done}
 use Rattle.laws.specs.Record.{Passing}
@@ -38,22 +33,22 @@ module _ {r m i : List ℕ} {k : ℕ} {q : Rect} {r' i' : List ℕ} (s : LineSen
       let p = to-send base pending ((well_formed base r w).panels k there) (empty_as e f) in
       rw s.line (record { on = omega arith; wide = p.wide; within = p.right_in })
 
-  module _ {a : Sent} (n : (a.code ≡ 0) × (sent_numbers a ≡ numbers_of q)) where
+  module _ (a : Option SentLine) (n : line_sent_numbers a ≡ numbers_of q) where
     -- the device as the writes leave it
-    drives : (d d' : Device) → d' ≡ run_device base (driver_writes base pending i') d → answer a.code (sent_numbers a) (driven r' m d' i') ≡ drive_done base k (driven r m d i)
+    drives : (d d' : Device) → d' ≡ run_device base (driver_writes base pending i') d → answer 0 (line_sent_numbers a) (driven r' m d' i') ≡ drive_done base k (driven r m d i)
     unfolding answered drive_done
     drives d d' e =
-        ap (λ (x : Device). answer a.code (sent_numbers a) (driven r' m x i')) e
-        ∙ ap (λ (o : Outcome). answer o.code o.numbers (driven o.left.rec m (run_device base (driver_writes base pending o.left.panel) d) o.left.panel)) (send_done base k r m i s n)
+        ap (λ (x : Device). answer 0 (line_sent_numbers a) (driven r' m x i')) e
+        ∙ ap (λ (o : Outcome). answer o.code o.numbers (driven o.left.rec m (run_device base (driver_writes base pending o.left.panel) d) o.left.panel)) (send_done base k r m i a s n)
 
     -- idle: no write
-    pub drives_idle : (d : Device) {t : Bool} → t ≡ is_empty q → t ≡ true → answer a.code (sent_numbers a) (driven r' m d i') ≡ drive_done base k (driven r m d i)
+    pub drives_idle : (d : Device) {t : Bool} → t ≡ is_empty q → t ≡ true → answer 0 (line_sent_numbers a) (driven r' m d i') ≡ drive_done base k (driven r m d i)
     unfolding driver_writes run_device
     drives_idle d e f = drives d d (rw (empty_as e f) refl)
 
     -- a line
     pub drives_line : {x y : Registers} (b b' p p' : List ℕ) {t : Bool} → length b ≡ register_bytes → x ≡ registers_of b → t ≡ is_empty q → t ≡ false → LineWritten base x p i' q y p'
-        → b' ≡ bytes_of_registers y → answer a.code (sent_numbers a) (driven r' m (device b' p') i') ≡ drive_done base k (driven r m (device b p) i)
+        → b' ≡ bytes_of_registers y → answer 0 (line_sent_numbers a) (driven r' m (device b' p') i') ≡ drive_done base k (driven r m (device b p) i)
     unfolding driver_writes
     drives_line {x} b b' p p' z o e f w u =
         let back : bytes_of_registers x ≡ b = ap bytes_of_registers o ∙ bytes_back b z in

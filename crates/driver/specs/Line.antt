@@ -1,11 +1,7 @@
 -- What the driver asks of the device, and what its writes leave.
-use Rattle.std.specs.Prelude.{◌≡◌, ◌≢◌, false, not, ℕ, ◌+◌, ◌-◌, ◌*◌, ◌≤◌, ◌<◌, length, take}
-use Rattle.std.proofs.Math.Path.{refl, sym, ap, subst}
-use Rattle.std.proofs.Common.{◌∙◌, arith, add-one, drop-cons}
-use Rattle.std.proofs.Math.Bool.{true}
-use mathlib.Core.List.{List, [], ◌∷◌, map}
-use borrow.Author.Tests.{ne_eqb}
-use Rattle.std.proofs.Math.ListN.{get_or, drop, drop_of_length-le}
+use Rattle.std.specs.Prelude.{◌≡◌, ◌≢◌, refl, true, false, not, List, [], ◌∷◌, map, ℕ, ◌+◌, ◌-◌, ◌*◌, ◌≤◌, ◌<◌, length, get_or, take, drop, Option, Some}
+use Rattle.std.proofs.Common.{sym, ap, subst, ◌∙◌, arith, add-one, drop-cons, ne_eqb}
+use Rattle.std.proofs.Math.ListN.{drop_of_length-le}
 use Rattle.model.specs.declared.Rect.{Rect}
 use Rattle.model.specs.declared.Registers.{Registers}
 use Rattle.model.specs.Geometry.{Geometry, width, height, screen_bytes}
@@ -69,19 +65,19 @@ module _ (g : Geometry) (k v : ℕ) {r s : Registers} {p q : List ℕ} (t : Read
 
 module _ (g : Geometry) {r : Registers} {p : List ℕ} (i : Idle g r p) where
   -- a register that takes any byte then, and leaves status
-  pub ready_field : (n : Register) (v : ℕ) → takes_write g r n v ≡ not (busy r) → Ready g r n v p
+  pub ready_field : (n : Option Register) (v : ℕ) → takes_write g r n v ≡ not (busy r) → Ready g r n v p
   ready_field n v t = record { passes = i.sound.passes; taken = t ∙ rw i.not_busy refl; panel = i.sound.panel }
 
   pub after_field : (k v : ℕ) → takes_write g r (register_of k) v ≡ not (busy r) → (registers_after r (register_of k) v).status ≡ r.status
       → {s : Registers} {q : List ℕ} → Written g r (register_of k) v p s q → Idle g s q
   after_field k v t e w = record { sound = next_sound g k v (ready_field (register_of k) v t) w; not_busy = rw (w.registers, e) i.not_busy }
 
-  pub ready_command : LineIn g r.line r.first r.count → Ready g r Command 2 p
+  pub ready_command : LineIn g r.line r.first r.count → Ready g r (Some Command) 2 p
   unfolding takes_write
   ready_command l = record { passes = i.sound.passes; taken = rw (i.not_busy, line-fits g r l) refl; panel = i.sound.panel }
 
 module _ (g : Geometry) {r a b c : Registers} {p pa pb pc : List ℕ} {line first count : ℕ} (i : Idle g r p) (l : LineIn g line first count)
-    (w₁ : Written g r Line line p a pa) (w₂ : Written g a First first pa b pb) (w₃ : Written g b Count count pb c pc) where
+    (w₁ : Written g r (Some Line) line p a pa) (w₂ : Written g a (Some First) first pa b pb) (w₃ : Written g b (Some Count) count pb c pc) where
   set_fields : (c.line ≡ line) × (c.first ≡ first) × (c.count ≡ count)
   unfolding registers_after
   set_fields = rw (w₃.registers, w₂.registers, w₁.registers) (refl, refl, refl)
@@ -94,17 +90,17 @@ module _ (g : Geometry) {r a b c : Registers} {p pa pb pc : List ℕ} {line firs
   unfolding takes_write registers_after
   idle₂ = after_field g idle₁ 2 first refl refl w₂
 
-  pub ready_start : Ready g c Command 2 pc
+  pub ready_start : Ready g c (Some Command) 2 pc
   unfolding takes_write registers_after
   ready_start = ready_command g (after_field g idle₂ 3 count refl refl w₃) (let f = set_fields in rw (f.0, f.1, f.2) l)
 
-  pub line_starts : {s : Registers} {q : List ℕ} → Written g c Command 2 pc s q → Started g r p line first count s q
+  pub line_starts : {s : Registers} {q : List ℕ} → Written g c (Some Command) 2 pc s q → Started g r p line first count s q
   unfolding takes_write registers_after run_device
   line_starts w₄ =
       record {
         left =
-            sym (then_run g 1 line (ready_field g i Line line refl) w₁ (write 2 first ∷ write 3 count ∷ write 0 2 ∷ []) ∙ then_run g 2 first (ready_field g idle₁ First first refl) w₂ (write 3 count ∷ write 0 2 ∷ [])
-            ∙ then_run g 3 count (ready_field g idle₂ Count count refl) w₃ (write 0 2 ∷ []) ∙ then_run g 0 2 ready_start w₄ []);
+            sym (then_run g 1 line (ready_field g i (Some Line) line refl) w₁ (write 2 first ∷ write 3 count ∷ write 0 2 ∷ []) ∙ then_run g 2 first (ready_field g idle₁ (Some First) first refl) w₂ (write 3 count ∷ write 0 2 ∷ [])
+            ∙ then_run g 3 count (ready_field g idle₂ (Some Count) count refl) w₃ (write 0 2 ∷ []) ∙ then_run g 0 2 ready_start w₄ []);
         begun = record { sound = next_sound g 0 2 ready_start w₄; busy = rw w₄.registers (status_busy true (interrupt c)); count = rw w₄.registers set_fields.2 };
       }
 
@@ -120,11 +116,11 @@ pub bytes_start : (g : Geometry) {r : Registers} {p bs : List ℕ} → Begun g r
 bytes_start g {bs = bs} b = record { same = refl; sound = b.sound; upto = omega arith; more = λ h. (b.busy, omega (arith, b.count)) }
 
 module _ (g : Geometry) {r s : Registers} {p q bs : List ℕ} {i : ℕ} (b : BytesTo g r p bs i s q) where
-  pub bytes_ready : (v : ℕ) → i < length bs → Ready g s Data v q
+  pub bytes_ready : (v : ℕ) → i < length bs → Ready g s (Some Data) v q
   unfolding takes_write
   bytes_ready v h = record { passes = b.sound.passes; taken = (b.more h).0; panel = b.sound.panel }
 
-  pub bytes_turn : {s' : Registers} {q' : List ℕ} → i < length bs → Written g s Data (get_or bs i 0) q s' q' → BytesTo g r p bs (i + 1) s' q'
+  pub bytes_turn : {s' : Registers} {q' : List ℕ} → i < length bs → Written g s (Some Data) (get_or bs i 0) q s' q' → BytesTo g r p bs (i + 1) s' q'
   unfolding registers_after
   bytes_turn h w =
       let v = get_or bs i 0 in

@@ -21,33 +21,26 @@ fn start_line(r: Registers, panel: &mut [u8], line: u8, first: u8, count: u8) ->
 }
 
 // A data write for each byte.
-fn write_bytes(r: Registers, panel: &mut [u8], bytes: &[u8]) -> Registers
+fn write_bytes(mut r: Registers, panel: &mut [u8], bytes: &[u8]) -> Registers
     requires { Begun base r panel.old (length bytes.now) }
     ensures { DataWritten base r panel.old bytes.now result panel.new }
 {
-    let mut s = r;
-    let n = bytes.len();
-    let mut i: usize = 0;
-    while i < n {
-        s = write(s, panel, Register::Data, bytes[i]);
-        i += 1;
+    for b in bytes {
+        r = write(r, panel, Register::Data, *b);
     }
-    s
+    r
 }
 
 // The top line of a rectangle, by the bytes of the image that hold its pixels.
 pub fn write_line(r: Registers, panel: &mut [u8], image: &[u8], q: Rect) -> Registers
     requires idle { Idle base r panel.old }
-    requires on_glass { OnGlass base q.top q.left q.right × (length image.now ≡ screen_bytes base) }
+    requires on_glass { OnGlass base q.top q.left q.right }
+    requires image_len { length image.now ≡ screen_bytes base }
     ensures { LineWritten base r panel.old image.now q result panel.new }
 {
-    let glass = SMALL;
-    let left = q.left as usize;
-    let right = q.right as usize;
-    let first = left / 8;
-    let count = (right - 1) / 8 + 1 - first;
-    let from = glass.stride * (q.top as usize) + first;
-    let to = from + count;
+    let first = (q.left as usize) / 8;
+    let count = ((q.right as usize) - 1) / 8 + 1 - first;
+    let from = SMALL.stride * (q.top as usize) + first;
     let s = start_line(r, panel, q.top as u8, first as u8, count as u8);
-    write_bytes(s, panel, &image[from..to])
+    write_bytes(s, panel, &image[from..from + count])
 }

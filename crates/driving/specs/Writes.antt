@@ -1,11 +1,7 @@
 -- The writes of a line: each is done, the bytes of the line are stored and no others, and then the device is not busy.
-use Rattle.std.specs.Prelude.{◌≡◌, false, cond, List, [], ◌∷◌, ◌++◌, map, ℕ, suc, ◌+◌, ◌-◌, ◌*◌, ◌≤◌, ◌<◌, eqb}
-use Rattle.std.proofs.Math.Path.{refl, ap, subst}
-use Rattle.std.proofs.Common.{sym, ◌∙◌, add-one}
-use Rattle.std.proofs.Math.Bool.{true, not}
-use native.Mathlib.Omega.{arith}
+use Rattle.std.specs.Prelude.{◌≡◌, refl, true, false, cond, not, List, [], ◌∷◌, ◌++◌, map, ℕ, suc, ◌+◌, ◌-◌, ◌*◌, ◌≤◌, ◌<◌, eqb, length, set, Some}
+use Rattle.std.proofs.Common.{sym, ap, subst, ◌∙◌, arith, add-one}
 use Rattle.std.proofs.Math.Arith.{digits_lt}
-use Rattle.std.proofs.Math.ListN.{length, set}
 use Rattle.model.specs.declared.Registers.{Registers}
 use Rattle.model.specs.declared.Register.TheVariants.{Command}
 use Rattle.model.specs.Geometry.{Geometry, width, height, screen_bytes}
@@ -166,7 +162,7 @@ module _ (g : Geometry) (y left right : ℕ) (image : List ℕ) (d : Device) (s 
       let d₃ = (device_done g (write 3 count) d₂).left in
       let s₃ = sound_done g (write 3 count) d₂ s₂ t in
       let fits = line-fits g (fields_of d₃) (record { on = hy; within = omega arith; some = omega arith }) in
-      let t₃ : takes_write g (fields_of d₃) Command 2 ≡ true = rw (idle, fits) refl in
+      let t₃ : takes_write g (fields_of d₃) (Some Command) 2 ≡ true = rw (idle, fits) refl in
       let d₄ = (device_done g (write 0 2) d₃).left in
       let i : InLine g y first count 0 d₄ = subst (λ (o : Answer Device). InLine g y first count 0 o.left) (taken g (write 0 2) d₃ s₃ t₃) (starts g d₃ s₃ t₃) in
       let size : length line_bytes ≡ count = length-window (line_at g.stride y left) count image (rw long (line_room g y left right hy hx hw)) in

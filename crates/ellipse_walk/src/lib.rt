@@ -5,8 +5,6 @@ ghost use Rattle.std.specs.Prelude.{◌≡◌, ◌+◌, ◌-◌, ◌%◌, not, �
 ghost use Rattle.model.specs.Ellipses.{start, moves, advanced, turns, turned, apart, early, x_step, y_step, part, x_parts, y_parts, step, step_parts, ended};
 ghost use Rattle.ellipse_walk.specs.Walk.{axis_of, walk_of, parts_of, Stepped};
 
-use std::num::{wrapping_add_u8, wrapping_sub_u8};
-
 // The source's variables of one axis: fx, fx_neg, delta_x, tmp_x and inc_x, or those of y.
 #[derive(Clone, Copy)]
 pub struct EllipseAxis {
@@ -40,11 +38,12 @@ pub struct EllipseStep {
     pub part: EllipsePart,
 }
 
+#[tactic(auto, using(crate::proofs::Laws::start_is))]
 pub fn start(r: u8, rx: u8) -> EllipseWalk
     ensures { walk_of result ≡ start r rx }
 {
     let x = EllipseAxis {
-        f: wrapping_sub_u8(wrapping_add_u8(r, r), 1),
+        f: r.wrapping_add(r).wrapping_sub(1),
         neg: true,
         delta: 0,
         tmp: rx,
@@ -69,7 +68,7 @@ pub fn start(r: u8, rx: u8) -> EllipseWalk
 fn apart(m: u8, n: u8) -> u8
     ensures { result ≡ apart m n }
 {
-    if m < n { n - m } else { m - n }
+    m.abs_diff(n)
 }
 
 // f with its sign, raised by 2.
@@ -77,16 +76,17 @@ fn raise(f: u8, neg: bool) -> u8
     ensures { result ≡ (if neg then (if nat_lt 2 f then f - 2 else 2 - f) else (f + 2) % 256) }
 {
     if neg {
-        if 2 < f { f - 2 } else { 2 - f }
+        f.abs_diff(2)
     } else {
-        wrapping_add_u8(f, 2)
+        f.wrapping_add(2)
     }
 }
 
+#[tactic(auto, unfolding(model::specs::Ellipses::moves))]
 fn moves(a: EllipseAxis, r: u8, radius: u8) -> bool
     ensures { result ≡ moves r radius (axis_of a) }
 {
-    wrapping_sub_u8(wrapping_add_u8(a.delta, radius), r) < 128
+    a.delta.wrapping_add(radius).wrapping_sub(r) < 128
 }
 
 fn advance(a: EllipseAxis, r: u8, radius: u8, moved: bool) -> EllipseAxis
@@ -95,14 +95,14 @@ fn advance(a: EllipseAxis, r: u8, radius: u8, moved: bool) -> EllipseAxis
 {
     let f = raise(a.f, a.neg);
     let neg = a.neg & (2 < a.f);
-    let fed = wrapping_add_u8(a.delta, radius);
+    let fed = a.delta.wrapping_add(radius);
     let inc = a.inc;
     if moved {
         return EllipseAxis {
             f,
             neg,
-            delta: wrapping_sub_u8(fed, r),
-            tmp: wrapping_add_u8(a.tmp, inc),
+            delta: fed.wrapping_sub(r),
+            tmp: a.tmp.wrapping_add(inc),
             inc,
         };
     }
@@ -115,22 +115,24 @@ fn advance(a: EllipseAxis, r: u8, radius: u8, moved: bool) -> EllipseAxis
     }
 }
 
+#[tactic(auto, unfolding(model::specs::Ellipses::turns))]
 fn turns(a: EllipseAxis) -> bool
     ensures { result ≡ turns (axis_of a) }
 {
     !a.neg & (a.f < 3)
 }
 
+#[tactic(auto, using(crate::proofs::Laws::turn_back, crate::proofs::Laws::turn_not))]
 fn turn(a: EllipseAxis, t: bool) -> EllipseAxis
     ensures { axis_of result ≡ turned t (axis_of a) }
 {
     if t {
         return EllipseAxis {
-            f: wrapping_sub_u8(2, a.f),
+            f: 2u8.wrapping_sub(a.f),
             neg: a.neg,
             delta: a.delta,
             tmp: a.tmp,
-            inc: wrapping_sub_u8(0, a.inc),
+            inc: a.inc.wrapping_neg(),
         };
     }
     a
@@ -145,14 +147,15 @@ fn choose(t: bool, a: bool, b: bool) -> bool
 fn negate(m: u8, t: bool) -> u8
     ensures { result ≡ (if t then (256 - m) % 256 else m) }
 {
-    if t { wrapping_sub_u8(0, m) } else { m }
+    if t { m.wrapping_neg() } else { m }
 }
 
 // A step along x draws no part at the first column.
+#[tactic(auto, unfolding(crate::specs::Walk::parts_of))]
 fn x_part(moved: bool, a: u8, b: u8, rx: u8) -> EllipsePart
     ensures { parts_of result ≡ (if moved && not ((a + 1) % 256 == rx) then part a b ∷ [] else []) }
 {
-    if moved & (wrapping_add_u8(a, 1) != rx) {
+    if moved & (a.wrapping_add(1) != rx) {
         return EllipsePart::At(a, b);
     }
     EllipsePart::Nothing
@@ -165,6 +168,7 @@ fn early(started: bool, b: u8) -> bool
 }
 
 // The first two lines are drawn as wide as the middle.
+#[tactic(auto, unfolding(crate::specs::Walk::parts_of))]
 fn y_part(moved: bool, soon: bool, a: u8, b: u8, rx: u8) -> EllipsePart
     ensures { parts_of result ≡ (if moved then part (if soon then rx else a) b ∷ [] else []) }
 {
@@ -230,6 +234,7 @@ pub fn next_step(w: EllipseWalk, r: u8, rx: u8, ry: u8) -> EllipseStep
     x_step(w, r, rx)
 }
 
+#[tactic(auto, unfolding(model::specs::Ellipses::ended))]
 pub fn ended(w: EllipseWalk) -> bool
     ensures { result ≡ ended (walk_of w) }
 {

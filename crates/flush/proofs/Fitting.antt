@@ -1,22 +1,15 @@
 -- The GLYPH test in code is the definition's: the last byte of each glyph decides.
-use mathlib.Core.Path.{◌≡◌, refl, sym, ap, ◌∙◌}
-use mathlib.Core.Bool.{Bool, true, false, ◌&&◌}
-use mathlib.Core.List.{List, [], ◌∷◌}
-use Prim.Native.Nat.{ℕ, suc, ◌+◌, ◌-◌, ◌*◌, ◌/◌, ◌%◌, ◌≤◌, ◌<◌}
-use native.Mathlib.Omega.{arith}
-use borrow.Author.Tests.{lt-ltb, le-ltb, le-leb, lt-leb}
-use lib.Dec.{leb, ltb}
-use lib.ListN.{length}
+use Rattle.std.proofs.Common.{◌≡◌, refl, sym, ap, ◌∙◌, Bool, true, false, ◌&&◌, List, [], ◌∷◌, ℕ, suc, ◌+◌, ◌-◌, ◌*◌, ◌/◌, ◌≤◌, ◌<◌, arith, leb, length}
 use Rattle.model.specs.declared.Glyph.{Glyph}
 use Rattle.model.specs.declared.Glyph.TheVariants.{Emoji, Gb, Extra, Hexadecimal}
 use Rattle.model.specs.declared.Spot.{Spot}
 use Rattle.model.specs.declared.CellKind.{CellKind}
 use Rattle.model.specs.declared.CellKind.TheVariants.{Blank, Single, Pair, Code}
 use Rattle.model.specs.Bytes.{four}
-use Rattle.model.specs.Glyphs.{Fonts, digit, glyph_of, fonts_fit, code_stores}
+use Rattle.model.specs.Glyphs.{Fonts, glyph_of, fonts_fit, code_stores}
 use Rattle.model.specs.declared.Shown.{Shown}
 use Rattle.model.specs.Flush.{top_of, right_of, flag_at, half_stores, glyph_stores, kind_stores, stores, text_stores, spot, shown_at, next_spot, walk}
-use Rattle.laws.specs.Tests.{by_lt, and-true}
+use Rattle.laws.specs.Tests.{and-true}
 use Rattle.laws.specs.Glyphs.{fits-append, column_fits, lines_fits, code-fits}
 use Rattle.laws.specs.FlushWalk.{Within, rest, rest_more, rest_end, rest-start}
 use Rattle.flush.specs.Fits.{code_fits, glyph_fits, kind_fits, shown_fits, walk_fits, text_fits, entries_fit_from}
@@ -58,76 +51,26 @@ text-fits st n text flags version f = walk-fits st flags version f (walk st n te
 
 -- ---- the tests in code
 
-pub index_fits : (i n : ℕ) → ltb i (n / 32) ≡ leb (32 * i + 32) n
-index_fits i n =
-    by_lt i (n / 32) (λ l. rw (lt-ltb i (n / 32) l, le-leb (32 * i + 32) n (omega arith)))
-    (λ l. rw (le-ltb i (n / 32) l, lt-leb (32 * i + 32) n (omega arith)))
+-- ---- the extra list, one entry after another: the next is entry k
 
-pub offset-fits : (i n : ℕ) → i ≤ n → leb 32 (n - i) ≡ leb (i + 32) n
-offset-fits i n h =
-    by_lt (n - i) 32 (λ l. rw (lt-leb 32 (n - i) l, lt-leb (i + 32) n (omega arith)))
-    (λ l. rw (le-leb 32 (n - i) l, le-leb (i + 32) n (omega arith)))
-
-pub offset_past : (i n : ℕ) → n < i → false ≡ leb (i + 32) n
-offset_past i n h = rw (lt-leb (i + 32) n (omega arith))
-
-pub code_tested : (font : List ℕ) (b : ℕ) {h l : ℕ} → h ≡ digit (b / 16) → l ≡ digit (b % 16)
-    → (leb (8 * h + 8) (length font) && leb (8 * l + 8) (length font)) ≡ code_fits font b
-unfolding code_fits
-code_tested font b e g = λ k. leb (8 * e k + 8) (length font) && leb (8 * g k + 8) (length font)
-
-module _ (ascii8 gb emoji extra : List ℕ) (lead trail : ℕ) {g : Glyph} where
-  pub emoji_fits : (i : ℕ) {t : Bool} → g ≡ Emoji i → t ≡ leb (32 * i + 32) (length emoji) → t ≡ glyph_fits ascii8 gb emoji extra lead trail g
-  unfolding glyph_fits
-  emoji_fits i e h = rw e h
-
-  pub gb_fits : (i : ℕ) {t : Bool} → g ≡ Gb i → t ≡ leb (32 * i + 32) (length gb) → t ≡ glyph_fits ascii8 gb emoji extra lead trail g
-  unfolding glyph_fits
-  gb_fits i e h = rw e h
-
-  pub extra_fits : (i : ℕ) {t : Bool} → g ≡ Extra i → t ≡ leb (i + 32) (length extra) → t ≡ glyph_fits ascii8 gb emoji extra lead trail g
-  unfolding glyph_fits
-  extra_fits i e h = rw e h
-
-  pub codes_fit : {t u : Bool} → g ≡ Hexadecimal → t ≡ code_fits ascii8 lead → u ≡ code_fits ascii8 trail → (t && u) ≡ glyph_fits ascii8 gb emoji extra lead trail g
-  unfolding glyph_fits
-  codes_fit e h k = rw e (λ i. h i && k i)
-
-module _ (version : ℕ) (f : Fonts) (b trail : ℕ) {m : CellKind} where
-  pub blank_fits : m ≡ Blank → true ≡ kind_fits version f b trail m
-  unfolding kind_fits
-  blank_fits e = rw e
-
-  pub single_fits : {t : Bool} → m ≡ Single → t ≡ leb (16 * b + 16) (length f.ascii16) → t ≡ kind_fits version f b trail m
-  unfolding kind_fits
-  single_fits e h = rw e h
-
-  pub pair_fits : {g : Glyph} {t : Bool} → m ≡ Pair → g ≡ glyph_of version f.extra_list b trail → t ≡ glyph_fits f.ascii8 f.gb f.emoji f.extra_font b trail g
-      → t ≡ kind_fits version f b trail m
-  unfolding kind_fits
-  pair_fits e h k = rw e (k ∙ ap (glyph_fits f.ascii8 f.gb f.emoji f.extra_font b trail) h)
-
-  pub alone_fits : {t : Bool} → m ≡ Code → t ≡ code_fits f.ascii8 b → t ≡ kind_fits version f b trail m
-  unfolding kind_fits
-  alone_fits e h = rw e h
-
--- ---- the extra list, one entry after another: the next is at byte i of n
-
-module _ (list extra : List ℕ) (i n : ℕ) {whole : Bool} (h : entries_fit_from list extra i ((n - i) / 6) ≡ whole) where
+module _ (list extra : List ℕ) (k : ℕ) {whole : Bool} (h : entries_fit_from list extra (6 * k) (length list / 6 - k) ≡ whole) where
   -- an entry that passes
-  pub entry_turn : {o : ℕ} {t : Bool} → i + 6 ≤ n → o ≡ four list (i + 2) → t ≡ leb (o + 32) (length extra) → t ≡ true
-      → entries_fit_from list extra (i + 6) ((n - (i + 6)) / 6) ≡ whole
+  pub entry_turn : {o : ℕ} {t : Bool} → k < length list / 6 → o ≡ four list (6 * k + 2) → t ≡ leb (o + 32) (length extra) → t ≡ true
+      → entries_fit_from list extra (6 * (k + 1)) (length list / 6 - (k + 1)) ≡ whole
   unfolding entries_fit_from
-  entry_turn l eo et ok = let q : (n - i) / 6 ≡ suc ((n - (i + 6)) / 6) = omega arith in cc
+  entry_turn l eo et ok =
+      let q : length list / 6 - k ≡ suc (length list / 6 - (k + 1)) = omega arith in
+      let j : 6 * (k + 1) ≡ 6 * k + 6 = omega arith in
+      cc
 
   -- and one that fails
-  pub entry_stop : {o : ℕ} {t : Bool} → i + 6 ≤ n → o ≡ four list (i + 2) → t ≡ leb (o + 32) (length extra) → t ≡ false → false ≡ whole
+  pub entry_stop : {o : ℕ} {t : Bool} → k < length list / 6 → o ≡ four list (6 * k + 2) → t ≡ leb (o + 32) (length extra) → t ≡ false → false ≡ whole
   unfolding entries_fit_from
-  entry_stop l eo et bad = let q : (n - i) / 6 ≡ suc ((n - (i + 6)) / 6) = omega arith in cc
+  entry_stop l eo et bad = let q : length list / 6 - k ≡ suc (length list / 6 - (k + 1)) = omega arith in cc
 
-  pub entries_end : n < i + 6 → true ≡ whole
+  pub entries_end : length list / 6 ≤ k → true ≡ whole
   unfolding entries_fit_from
-  entries_end l = let q : (n - i) / 6 ≡ 0 = omega arith in cc
+  entries_end l = let q : length list / 6 - k ≡ 0 = omega arith in cc
 
 -- ---- the walk, one step at a time
 

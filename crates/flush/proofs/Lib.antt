@@ -1,5 +1,6 @@
 pub mod Walking
 pub mod Painting
+pub mod Entries
 pub mod Fitting
 pub mod Showing
 pub mod Texts

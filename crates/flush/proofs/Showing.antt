@@ -1,14 +1,5 @@
 -- What is shown at a spot, in code: room for it on the screen, its bytes in the fonts, and what painting it leaves.
-use mathlib.Core.Path.{◌≡◌, refl, sym, ap, ◌∙◌}
-use mathlib.Core.Bool.{Bool, true, false, cond}
-use mathlib.Core.List.{List}
-use Prim.Native.Nat.{ℕ, suc, ◌+◌, ◌*◌, ◌/◌, ◌%◌, ◌≤◌, ◌<◌}
-use native.Mathlib.Nat.{mul-le-mul_left, mul-suc}
-use native.Mathlib.Numerals.{add-one}
-use native.Mathlib.Omega.{arith}
-use borrow.Author.Tests.{eq-eqb, leb-true}
-use lib.Dec.{leb, ltb, eqb}
-use lib.ListN.{length, get_or, take, drop, length-take, length-drop}
+use Rattle.std.proofs.Common.{◌≡◌, refl, sym, ap, ◌∙◌, Bool, true, false, cond, List, ℕ, suc, ◌+◌, ◌*◌, ◌/◌, ◌%◌, ◌≤◌, ◌<◌, mul-le-mul_left, mul-suc, add-one, arith, eq-eqb, leb-true, leb, ltb, eqb, length, get_or, take, drop, length-take, length-drop}
 use Rattle.model.specs.declared.Glyph.{Glyph}
 use Rattle.model.specs.declared.Glyph.TheVariants.{Emoji, Gb, Extra, Hexadecimal}
 use Rattle.model.specs.declared.Spot.{Spot}
@@ -23,22 +14,6 @@ use Rattle.flush.specs.Fits.{code_fits, glyph_fits, kind_fits}
 use Rattle.flush.specs.Rooms.{OnScreen, Room, SpotRoom, PairRoom, ShownRoom, part_of, PartFits, code_end, is_hexadecimal}
 
 -- ---- hexadecimal or not
-
-pub hex_yes : {g : Glyph} → g ≡ Hexadecimal → true ≡ is_hexadecimal g
-unfolding is_hexadecimal
-hex_yes e = rw e
-
-pub hex_emoji : {g : Glyph} (i : ℕ) → g ≡ Emoji i → false ≡ is_hexadecimal g
-unfolding is_hexadecimal
-hex_emoji i e = rw e
-
-pub hex_gb : {g : Glyph} (i : ℕ) → g ≡ Gb i → false ≡ is_hexadecimal g
-unfolding is_hexadecimal
-hex_gb i e = rw e
-
-pub hex_extra : {g : Glyph} (i : ℕ) → g ≡ Extra i → false ≡ is_hexadecimal g
-unfolding is_hexadecimal
-hex_extra i e = rw e
 
 -- ---- bytes in the fonts
 
@@ -146,11 +121,6 @@ pub room_at : (st : ℕ) (screen t : List ℕ) (h : ℕ) {place k : ℕ} → Roo
 room_at st screen t h r e q = record { narrow = r.narrow; small = omega (arith, r.small); inside = omega (arith, r.inside) }
 
 -- ---- what painting leaves
-
-pub column_shown : (st : ℕ) (flags : List Bool) (s : Spot) (b : ℕ) (font screen : List ℕ) {top : ℕ} {a : Bool} {v : List ℕ}
-    → top ≡ top_of st s.row s.column → a ≡ flag_at flags s.cell → v ≡ paint (column_stores st font top (16 * b) a 16) screen
-    → v ≡ paint (column_stores st font (top_of st s.row s.column) (16 * b) (flag_at flags s.cell) 16) screen
-column_shown st flags s b font screen q h k = k ∙ (λ i. paint (column_stores st font (q i) (16 * b) (h i) 16) screen)
 
 module _ (st : ℕ) (flags : List Bool) (s : Spot) (lead trail : ℕ) (screen : List ℕ) where
   pub shown_as : (ascii8 gb emoji extra : List ℕ) {g h : Glyph} {v : List ℕ} → g ≡ h → v ≡ paint (glyph_stores st flags ascii8 gb emoji extra s lead trail g) screen

@@ -1,19 +1,10 @@
 -- A screen cleared in Text mode, then the whole text on it: what is left of the walk, painted on the screen as it stands, gives what the whole gives.
-use mathlib.Core.Path.{◌≡◌, refl, sym, ap, ◌∙◌}
-use mathlib.Core.Bool.{Bool, true, ◌&&◌}
-use mathlib.Core.List.{List, ◌++◌}
-use Prim.Native.Nat.{ℕ, zero, suc, ◌+◌, ◌-◌, ◌*◌, ◌≤◌, ◌<◌}
-use native.Mathlib.Nat.{mul-le-mul}
-use native.Mathlib.Omega.{arith}
-use borrow.Author.Tests.{eq-eqb, ne_eqb, eqb-true}
-use lib.Dec.{leb, eqb}
-use lib.ListN.{length, get_or}
+use Rattle.std.proofs.Common.{◌≡◌, refl, sym, ap, ◌∙◌, Bool, true, ◌&&◌, List, ◌++◌, ℕ, zero, suc, ◌+◌, ◌-◌, ◌≤◌, ◌<◌, arith, eqb-true, leb, eqb, length, get_or}
 use Rattle.model.specs.declared.Spot.{Spot}
 use Rattle.model.specs.declared.CellKind.{CellKind}
 use Rattle.model.specs.declared.Shown.{Shown}
-use Rattle.model.specs.Memory.{zeros}
 use Rattle.model.specs.Glyphs.{Fonts, Store, paint}
-use Rattle.model.specs.Flush.{cleared_in_text, spot, shown_at, cells_taken, spot_after, next_spot, shown_stores, stores, text_stores}
+use Rattle.model.specs.Flush.{spot, shown_at, cells_taken, spot_after, next_spot, shown_stores, stores, text_stores}
 use Rattle.laws.specs.Tests.{and-true}
 use Rattle.laws.specs.Glyphs.{length-paint, paint-append}
 use Rattle.laws.specs.FlushWalk.{Within, rest_more, rest_end, rest-start}
@@ -23,12 +14,6 @@ use Rattle.flush.specs.Rooms.{TextScreen, OnScreen}
 use Rattle.flush.proofs.Walking.{cell_small, kind_blank, after_row, after_end, after-after, within-start, within_turn, down_turn}
 use Rattle.flush.proofs.Fitting.{fits-start, fits_turn, fits_here}
 use Rattle.flush.proofs.Showing.{blank_shown}
-
-pub clears : (mode : ℕ) (s : List ℕ) {t : List ℕ} → mode ≡ 0 → t ≡ zeros (length s) → t ≡ cleared_in_text mode s (length s)
-clears mode s e h = rw (eq-eqb mode 0 e) h
-
-pub keeps : (mode : ℕ) (s : List ℕ) → (mode ≡ 0 → ⊥) → s ≡ cleared_in_text mode s (length s)
-keeps mode s e = rw (ne_eqb mode 0 e)
 
 pub painted_on : (ws : List Store) {s t u : List ℕ} → u ≡ paint ws t → t ≡ s → u ≡ paint ws s
 painted_on ws e h = e ∙ ap (paint ws) h
@@ -43,10 +28,6 @@ on_screen st n old screen s p e w l = record {
   column = w.column;
   cell = cell_small st n s w p.text.narrow p.text.low;
 }
-
--- the number of cells is small
-pub cells_small : (st n : ℕ) → st ≤ 32 → n ≤ 16 → n * st ≤ 512
-cells_small st n a b = mul-le-mul b a
 
 module _ (st n : ℕ) (text : List ℕ) (flags : List Bool) (version : ℕ) (f : Fonts) where
   abbrev Painted : Spot → List ℕ → Spot → List ℕ → Type 0

@@ -1,80 +1,51 @@
 -- The walk in code: what is shown, and what a step keeps.
-use mathlib.Core.Path.{◌≡◌, refl, ap, ◌∙◌}
-use mathlib.Core.Bool.{Bool, true, false, ◌&&◌, and_assoc, and-true}
-use mathlib.Core.List.{List, [], ◌∷◌}
-use Prim.Native.Nat.{ℕ, zero, suc, ◌+◌, ◌-◌, ◌≤◌, ◌<◌}
-use native.Mathlib.Nat.{mul-le-mul}
-use native.Mathlib.Omega.{arith}
-use borrow.Author.Tests.{eq-eqb, ne_eqb, lt-ltb, le-ltb}
-use lib.Dec.{ltb, eqb}
-use lib.ListN.{length, get_or}
+use Rattle.std.proofs.Common.{◌≡◌, ap, ◌∙◌, Bool, ◌&&◌, List, ℕ, suc, ◌+◌, ◌-◌, ◌≤◌, ◌<◌, mul-le-mul, arith, eq-eqb, lt-ltb, le-ltb, ltb, eqb, take, drop, get_or-take, get_or-drop, length-take, length-drop, length, get_or}
+use mathlib.Core.Bool.{and_assoc, and-true}
 use Rattle.model.specs.declared.Spot.{Spot}
-use Rattle.model.specs.declared.CellKind.{CellKind}
-use Rattle.model.specs.declared.CellKind.TheVariants.{Blank, Single, Pair, Code}
+use Rattle.model.specs.declared.CellKind.TheVariants.{Blank}
 use Rattle.model.specs.declared.Shown.{Shown}
-use Rattle.model.specs.Flush.{spot, is_last, kind_of, shown_at, cells_taken, spot_after, next_spot}
+use Rattle.model.specs.Flush.{spot, kind_of, shown_at, cells_taken, spot_after, next_spot}
 use Rattle.flush.specs.Fits.{blank_cells}
 use Rattle.flush.specs.Rooms.{TextSize}
 use Rattle.laws.specs.Tests.{if_cases}
 use Rattle.laws.specs.FlushWalk.{Within, places_left, taken_most, within-next, left_after}
 
-pub past_end : (l : List ℕ) (i : ℕ) → length l ≤ i → 0 ≡ get_or l i 0
-past_end [] i h = refl
-past_end (x ∷ l) zero h = absurd (omega arith)
-past_end (x ∷ l) (suc i) h = past_end l i (omega arith)
-
 -- ---- what is shown
-
-pub taken_pair : {k : CellKind} → k ≡ Pair → 2 ≡ cells_taken k
-unfolding cells_taken
-taken_pair e = rw e
-
-pub taken_blank : {k : CellKind} → k ≡ Blank → 1 ≡ cells_taken k
-unfolding cells_taken
-taken_blank e = rw e
-
-pub taken_single : {k : CellKind} → k ≡ Single → 1 ≡ cells_taken k
-unfolding cells_taken
-taken_single e = rw e
-
-pub taken_code : {k : CellKind} → k ≡ Code → 1 ≡ cells_taken k
-unfolding cells_taken
-taken_code e = rw e
 
 module _ (st n b : ℕ) (s : Spot) where
   pub kind_blank : b ≡ 0 → Blank ≡ kind_of st n b s
   unfolding kind_of
   kind_blank e = rw (eq-eqb b 0 e)
 
-  pub kind_single : (b ≡ 0 → ⊥) → b < 128 → Single ≡ kind_of st n b s
-  unfolding kind_of
-  kind_single e l = rw (ne_eqb b 0 e, lt-ltb b 128 l)
+-- ---- n bytes of a slice from a place on, as a part of it has them
 
-  pub kind_code : {t : Bool} → (b ≡ 0 → ⊥) → 128 ≤ b → t ≡ is_last st n s → t ≡ true → Code ≡ kind_of st n b s
-  unfolding kind_of
-  kind_code e l h y = rw (ne_eqb b 0 e, le-ltb b 128 l, ← h, y)
+module _ (whole : List ℕ) (at n k : ℕ) where
+  pub lent_byte : k < n → get_or (take (at + n - at) (drop at whole)) k 0 ≡ get_or whole (at + k) 0
+  lent_byte l = get_or-take (at + n - at) (drop at whole) k 0 (omega arith) ∙ get_or-drop at whole k 0
 
-  pub kind_pair : {t : Bool} → (b ≡ 0 → ⊥) → 128 ≤ b → t ≡ is_last st n s → t ≡ false → Pair ≡ kind_of st n b s
-  unfolding kind_of
-  kind_pair e l h y = rw (ne_eqb b 0 e, le-ltb b 128 l, ← h, y)
+  pub lent_below : k < length (take (at + n - at) (drop at whole)) → k < n
+  lent_below l = omega (arith, length-take (at + n - at) (drop at whole))
 
-pub shown_here : (st n : ℕ) (text : List ℕ) (s : Spot) {lead trail : ℕ} {k : CellKind} → lead ≡ get_or text s.cell 0 → trail ≡ get_or text (s.cell + 1) 0
-    → k ≡ kind_of st n lead s → record { spot = s; lead = lead; trail = trail; kind = k } ≡ shown_at st n text s
-shown_here st n text s el et ek = λ i. record { spot = s; lead = el i; trail = et i; kind = (ek ∙ ap (λ (b : ℕ). kind_of st n b s) el) i }
+  pub lent_over : at + n ≤ length whole → length (take (at + n - at) (drop at whole)) ≤ k → n ≤ k
+  lent_over l h = omega (arith, length-take (at + n - at) (drop at whole), length-drop at whole)
 
--- ---- blank cells: i up to e are left
+-- ---- blank cells: of n from a place on, those from the k-th on are left
 
-module _ (ok : Bool) (text : List ℕ) (i e : ℕ) where
-  pub blank_turn : i < e → ((ok && eqb (get_or text i 0) 0) && blank_cells text (i + 1) (e - (i + 1))) ≡ (ok && blank_cells text i (e - i))
+module _ (ok : Bool) (text : List ℕ) (at n k : ℕ) where
+  abbrev lent : List ℕ
+  lent = take (at + n - at) (drop at text)
+
+  pub blank_turn : k < length lent → ((ok && eqb (get_or lent k 0) 0) && blank_cells text (at + (k + 1)) (n - (k + 1))) ≡ (ok && blank_cells text (at + k) (n - k))
   unfolding blank_cells
-  blank_turn l = let q : e - i ≡ suc (e - (i + 1)) = omega arith in cc (and_assoc ok _ _)
+  blank_turn l =
+      let m = lent_below text at n k l in
+      let q : n - k ≡ suc (n - (k + 1)) = omega arith in
+      let r : at + k + 1 ≡ at + (k + 1) = omega arith in
+      cc (and_assoc ok _ _, lent_byte text at n k m)
 
-  pub blank_end : e ≤ i → (ok && blank_cells text i (e - i)) ≡ ok
+  pub blank_end : at + n ≤ length text → length lent ≤ k → (ok && blank_cells text (at + k) (n - k)) ≡ ok
   unfolding blank_cells
-  blank_end l = let q : e - i ≡ 0 = omega arith in cc (and-true ok)
-
-pub blank_start : (text : List ℕ) (at k : ℕ) → blank_cells text at (at + k - at) ≡ blank_cells text at k
-blank_start text at k = let q : at + k - at ≡ k = omega arith in ap (blank_cells text at) q
+  blank_end l h = let q : n - k ≡ 0 = omega (arith, lent_over text at n k l h) in cc (and-true ok)
 
 -- ---- the cell that is read stays small
 
@@ -113,13 +84,6 @@ down-after st k s = if_cases (λ (t : Spot). s.row ≤ t.row) (ltb (s.column + k
 
 pub within-start : (st n : ℕ) → 0 < st → Within st n (spot 0 0 0)
 within-start st n h = record { column = h; row = omega arith; ahead = omega arith }
-
--- the spot after what is shown
-pub taken_small : (k : CellKind) {n : ℕ} → n ≡ cells_taken k → n ≤ 2
-taken_small k e = omega (arith, e, taken_most k)
-
-pub went_on : (st : ℕ) (w : Shown) {k : ℕ} {t : Spot} → k ≡ cells_taken w.kind → t ≡ spot_after st w.spot k → t ≡ next_spot st w
-went_on st w e h = h ∙ ap (spot_after st w.spot) e
 
 module _ (st n : ℕ) (text : List ℕ) (s : Spot) {w : Shown} (h : Within st n s) (l : s.row < n) (e : w ≡ shown_at st n text s) where
   pub spot_small : TextSize st n → (w.spot.cell ≤ 65535) × (w.spot.column ≤ 65535) × (w.spot.row ≤ 65535)

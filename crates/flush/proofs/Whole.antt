@@ -1,16 +1,7 @@
 -- Whole fonts: emoji indices are below 527, GB indices below 7,614, digits below G, and every entry of the extra list fits its font; so any text of bytes fits.
-use mathlib.Core.Path.{◌≡◌, refl}
-use mathlib.Core.Bool.{Bool, true, ◌&&◌}
-use mathlib.Core.List.{List, [], ◌∷◌}
-use Prim.Native.Nat.{ℕ, zero, suc, ◌+◌, ◌-◌, ◌*◌, ◌/◌, ◌≤◌, ◌<◌}
-use native.Mathlib.Omega.{arith}
-use borrow.Author.Tests.{le-leb, leb-true}
-use lib.Dec.{leb, ltb, eqb}
-use lib.ListN.{length, get_or}
+use Rattle.std.proofs.Common.{◌≡◌, refl, Bool, true, ◌&&◌, List, [], ◌∷◌, ℕ, zero, suc, ◌+◌, ◌-◌, ◌*◌, ◌/◌, ◌≤◌, ◌<◌, arith, le-leb, leb-true, Option, Some, None, leb, ltb, eqb, length, get_or}
 use mir.Syntax.{w8}
 use mir.Val.{Fits}
-use Rattle.model.specs.declared.Found.{Found}
-use Rattle.model.specs.declared.Found.TheVariants.{At, Nothing}
 use Rattle.model.specs.declared.Glyph.{Glyph}
 use Rattle.model.specs.declared.Glyph.TheVariants.{Emoji, Gb, Extra, Hexadecimal}
 use Rattle.model.specs.declared.Spot.{Spot}
@@ -28,9 +19,9 @@ use Rattle.flush.specs.Fits.{code_fits, glyph_fits, kind_fits, walk_fits, text_f
 -- ---- indices
 
 -- an index, where there is one, is below n
-abbrev pub below : Found → ℕ → Type 0
-below (At i) n = i < n
-below Nothing n = Unit {0}
+abbrev pub below : Option ℕ → ℕ → Type 0
+below (Some i) n = i < n
+below None n = Unit {0}
 
 -- how many codes the rows have
 total : List CodeRow → ℕ
@@ -41,7 +32,7 @@ index_below : (rs : List CodeRow) (before lead trail n : ℕ) → before + total
 unfolding index_in in_row total
 index_below [] before lead trail n h = tt
 index_below (r ∷ rs) before lead trail n h =
-    if_cases (λ (x : Found). below x n) (every (eqb lead r.lead ∷ leb r.first trail ∷ leb trail r.last ∷ []))
+    if_cases (λ (x : Option ℕ). below x n) (every (eqb lead r.lead ∷ leb r.first trail ∷ leb trail r.last ∷ []))
     (λ e. let a = all_true (eqb lead r.lead ∷ leb r.first trail ∷ leb trail r.last ∷ []) e in omega (arith, tests))
     (λ e. index_below rs (before + (r.last + 1 - r.first)) lead trail n (omega arith))
 
@@ -58,7 +49,7 @@ lead_most lead e =
 pub gb_below : (lead trail : ℕ) → below (gb_index lead trail) 7614
 unfolding gb_index
 gb_below lead trail =
-    if_cases (λ (x : Found). below x 7614) (every (gb_lead lead ∷ leb 161 trail ∷ leb trail 254 ∷ []))
+    if_cases (λ (x : Option ℕ). below x 7614) (every (gb_lead lead ∷ leb 161 trail ∷ leb trail 254 ∷ []))
     (λ e. let a = all_true (gb_lead lead ∷ leb 161 trail ∷ leb trail 254 ∷ []) e in
     let m = lead_most lead a.0 in
     let r : gb_row (lead - 161) ≤ 80 = if_cases (λ (k : ℕ). k ≤ 80) (ltb 8 (lead - 161)) (λ t. omega (arith, tests)) (λ t. omega (arith, tests)) in
@@ -66,9 +57,9 @@ gb_below lead trail =
     (λ e. tt)
 
 -- an offset, where there is one, has its thirty-two bytes among n
-abbrev Inside : Found → ℕ → Type 0
-Inside (At i) n = i + 32 ≤ n
-Inside Nothing n = Unit {0}
+abbrev Inside : Option ℕ → ℕ → Type 0
+Inside (Some i) n = i + 32 ≤ n
+Inside None n = Unit {0}
 
 -- where every entry fits, so does the one that is found, in any list
 entry_inside : (list extra : List ℕ) (code i n : ℕ) → entries_fit_from list extra i n ≡ true → Inside (extra_from list code i n) (length extra)
@@ -76,7 +67,7 @@ unfolding extra_from entries_fit_from
 entry_inside list extra code i zero h = tt
 entry_inside list extra code i (suc n) h =
     let p = and-true (leb (four list (i + 2) + 32) (length extra)) (entries_fit_from list extra (i + 6) n) h in
-    if_cases (λ (x : Found). Inside x (length extra)) (eqb (two list i) code)
+    if_cases (λ (x : Option ℕ). Inside x (length extra)) (eqb (two list i) code)
     (λ e. leb-true (four list (i + 2) + 32) (length extra) p.0) (λ e. entry_inside list extra code (i + 6) n p.1)
 
 -- ---- what is shown
@@ -112,26 +103,26 @@ module _ (f : Fonts) (w : whole_fonts f.ascii8 f.ascii16 f.gb f.emoji f.extra_li
   abbrev fits : ℕ → ℕ → Glyph → Bool
   fits = glyph_fits f.ascii8 f.gb f.emoji f.extra_font
 
-  extra_whole : (lead trail : ℕ) → lead < 256 → trail < 256 → (x : Found) → Inside x (length f.extra_font) → fits lead trail (glyph_or x Extra Hexadecimal) ≡ true
+  extra_whole : (lead trail : ℕ) → lead < 256 → trail < 256 → (x : Option ℕ) → Inside x (length f.extra_font) → fits lead trail (glyph_or x Extra Hexadecimal) ≡ true
   unfolding glyph_or glyph_fits
-  extra_whole lead trail hl ht (At i) h = le-leb (i + 32) (length f.extra_font) h
-  extra_whole lead trail hl ht Nothing h = rw (code_whole lead hl, code_whole trail ht)
+  extra_whole lead trail hl ht (Some i) h = le-leb (i + 32) (length f.extra_font) h
+  extra_whole lead trail hl ht None h = rw (code_whole lead hl, code_whole trail ht)
 
   offset-inside : (code : ℕ) → Inside (extra_offset f.extra_list code) (length f.extra_font)
   unfolding extra_offset
   offset-inside code = entry_inside f.extra_list f.extra_font code 0 (length f.extra_list / 6) whole.list
 
-  gb_whole : (lead trail : ℕ) → lead < 256 → trail < 256 → (x : Found) → below x 7614
+  gb_whole : (lead trail : ℕ) → lead < 256 → trail < 256 → (x : Option ℕ) → below x 7614
       → fits lead trail (glyph_or x Gb (glyph_or (extra_offset f.extra_list (256 * lead + trail)) Extra Hexadecimal)) ≡ true
   unfolding glyph_or glyph_fits
-  gb_whole lead trail hl ht (At i) h = le-leb (32 * i + 32) (length f.gb) (omega (arith, whole.gb))
-  gb_whole lead trail hl ht Nothing h = extra_whole lead trail hl ht (extra_offset f.extra_list (256 * lead + trail)) (offset-inside (256 * lead + trail))
+  gb_whole lead trail hl ht (Some i) h = le-leb (32 * i + 32) (length f.gb) (omega (arith, whole.gb))
+  gb_whole lead trail hl ht None h = extra_whole lead trail hl ht (extra_offset f.extra_list (256 * lead + trail)) (offset-inside (256 * lead + trail))
 
-  emoji_whole : (lead trail : ℕ) → lead < 256 → trail < 256 → (x : Found) → below x 527
+  emoji_whole : (lead trail : ℕ) → lead < 256 → trail < 256 → (x : Option ℕ) → below x 527
       → fits lead trail (glyph_or x Emoji (glyph_or (gb_index lead trail) Gb (glyph_or (extra_offset f.extra_list (256 * lead + trail)) Extra Hexadecimal))) ≡ true
   unfolding glyph_or glyph_fits
-  emoji_whole lead trail hl ht (At i) h = le-leb (32 * i + 32) (length f.emoji) (omega (arith, whole.emoji))
-  emoji_whole lead trail hl ht Nothing h = gb_whole lead trail hl ht (gb_index lead trail) (gb_below lead trail)
+  emoji_whole lead trail hl ht (Some i) h = le-leb (32 * i + 32) (length f.emoji) (omega (arith, whole.emoji))
+  emoji_whole lead trail hl ht None h = gb_whole lead trail hl ht (gb_index lead trail) (gb_below lead trail)
 
   glyph_whole : (version lead trail : ℕ) → lead < 256 → trail < 256 → fits lead trail (glyph_of version f.extra_list lead trail) ≡ true
   unfolding glyph_of

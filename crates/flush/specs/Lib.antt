@@ -1,3 +1,4 @@
+pub mod Lent
 pub mod Rooms
 pub mod Fits
 pub mod Painted

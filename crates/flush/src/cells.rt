@@ -9,7 +9,7 @@ use model::{CellKind, Shown, Spot};
 fn byte_at(text: &[u8], cell: usize) -> u8
     ensures { result ≡ get_or text.now cell 0 }
 {
-    if cell < text.len() { text[cell] } else { 0 }
+    text.get(cell).copied().unwrap_or(0)
 }
 
 // Whether `count` cells from one on are there and zero.
@@ -22,10 +22,8 @@ pub fn are_blank(text: &[u8], at: usize, count: usize) -> bool
         return false;
     }
     let mut ok = true;
-    let mut i = at;
-    while i < end {
-        ok = ok & (text[i] == 0);
-        i += 1;
+    for b in &text[at..end] {
+        ok = ok & (*b == 0);
     }
     ok
 }
@@ -40,6 +38,7 @@ pub fn start() -> Spot
     }
 }
 
+#[tactic(auto, unfolding(model::specs::Flush::is_last))]
 fn is_last(columns: usize, rows: usize, s: Spot) -> bool
     requires { (s.column < columns) × (s.row < rows) }
     ensures { result ≡ is_last columns rows s }
@@ -47,69 +46,64 @@ fn is_last(columns: usize, rows: usize, s: Spot) -> bool
     (s.row + 1 == rows) & (s.column + 1 == columns)
 }
 
+#[tactic(auto, unfolding(model::specs::Flush::kind_of))]
 fn kind_of(columns: usize, rows: usize, b: u8, s: Spot) -> CellKind
     requires { (s.column < columns) × (s.row < rows) }
     ensures { result ≡ kind_of columns rows b s }
 {
-    if b == 0 {
-        return CellKind::Blank;
+    match b {
+        0 => CellKind::Blank,
+        1..=127 => CellKind::Single,
+        _ if is_last(columns, rows, s) => CellKind::Code,
+        _ => CellKind::Pair,
     }
-    if b < 128 {
-        return CellKind::Single;
-    }
-    if is_last(columns, rows, s) {
-        return CellKind::Code;
-    }
-    CellKind::Pair
 }
 
 pub fn shown_at(columns: usize, rows: usize, text: &[u8], s: Spot) -> Shown
     requires { (s.column < columns) × (s.row < rows) × (s.cell ≤ 65535) }
     ensures { result ≡ shown_at columns rows text.now s }
 {
-    let cell = s.cell;
-    let lead = byte_at(text, cell);
-    let trail = byte_at(text, cell + 1);
-    let kind = kind_of(columns, rows, lead, s);
+    let lead = byte_at(text, s.cell);
+    let trail = byte_at(text, s.cell + 1);
     Shown {
         spot: s,
-        lead: lead,
-        trail: trail,
-        kind: kind,
+        lead,
+        trail,
+        kind: kind_of(columns, rows, lead, s),
     }
 }
 
 // How many cells it takes.
+#[tactic(auto, unfolding(model::specs::Flush::cells_taken))]
 fn cells_taken(kind: CellKind) -> usize
     ensures { result ≡ cells_taken kind }
 {
     match kind {
         CellKind::Pair => 2,
-        CellKind::Blank => 1,
-        CellKind::Single => 1,
-        CellKind::Code => 1,
+        CellKind::Blank | CellKind::Single | CellKind::Code => 1,
     }
 }
 
 // Reading just goes on; a row that is full leads to column 0 below.
+#[tactic(auto, unfolding(model::specs::Flush::spot_after))]
 pub fn spot_after(columns: usize, s: Spot, k: usize) -> Spot
     requires { (s.cell ≤ 65535) × (s.column ≤ 65535) × (s.row ≤ 65535) × (k ≤ 65535) }
     ensures { result ≡ spot_after columns s k }
 {
+    let cell = s.cell + k;
     let column = s.column + k;
     if column < columns {
-        return Spot {
-            cell: s.cell + k,
+        Spot {
+            cell,
             row: s.row,
-            column: column,
-        };
-    }
-    let cell = s.cell + k;
-    let below = s.row + 1;
-    Spot {
-        cell: cell,
-        row: below,
-        column: 0,
+            column,
+        }
+    } else {
+        Spot {
+            cell,
+            row: s.row + 1,
+            column: 0,
+        }
     }
 }
 
@@ -117,6 +111,5 @@ pub fn next_spot(columns: usize, w: Shown) -> Spot
     requires { (w.spot.cell ≤ 65535) × (w.spot.column ≤ 65535) × (w.spot.row ≤ 65535) }
     ensures { result ≡ next_spot columns w }
 {
-    let kind = w.kind;
-    spot_after(columns, w.spot, cells_taken(kind))
+    spot_after(columns, w.spot, cells_taken(w.kind))
 }

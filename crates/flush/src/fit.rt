@@ -1,14 +1,16 @@
 // The GLYPH test: every byte that a flush would paint is there. It changes nothing.
 ghost use Rattle.std.specs.Prelude.{◌≡◌, ◌*◌, ◌+◌, ◌<◌, leb, length};
-ghost use Rattle.model.specs.Glyphs.{fonts};
 ghost use Rattle.flush.specs.Fits.{code_fits, glyph_fits, shown_fits, text_fits, entries_fit, whole_fonts};
-ghost use Rattle.flush.specs.Rooms.{TextSize};
+ghost use Rattle.flush.specs.Lent.{fonts_of};
 
 use crate::cells::{next_spot, shown_at, start};
+use crate::fonts::Fonts;
 use crate::glyph::digit_of;
+use crate::style::Style;
 use glyph_choice::glyph_of;
 use model::{CellKind, Glyph, Shown};
 
+#[tactic(auto, unfolding(crate::specs::Fits::code_fits))]
 fn code_fits(ascii8: &[u8], b: u8) -> bool
     ensures { result ≡ code_fits ascii8.now b }
 {
@@ -35,54 +37,33 @@ fn index_fits(font: &[u8], index: usize) -> bool
 fn offset_fits(font: &[u8], at: usize) -> bool
     ensures { result ≡ leb (at + 32) (length font.now) }
 {
-    if at <= font.len() {
-        return 32 <= font.len() - at;
-    }
-    false
+    at <= font.len() && 32 <= font.len() - at
 }
 
-fn glyph_fits(
-    ascii8: &[u8],
-    gb: &[u8],
-    emoji: &[u8],
-    extra: &[u8],
-    lead: u8,
-    trail: u8,
-    g: Glyph,
-) -> bool
-    ensures { result ≡ glyph_fits ascii8.now gb.now emoji.now extra.now lead trail g }
+#[tactic(auto, unfolding(crate::specs::Fits::glyph_fits))]
+fn glyph_fits(fonts: Fonts<'_>, lead: u8, trail: u8, g: Glyph) -> bool
+    ensures { let f = fonts_of fonts.entry in result ≡ glyph_fits f.ascii8 f.gb f.emoji f.extra_font lead trail g }
 {
     match g {
-        Glyph::Emoji(index) => index_fits(emoji, index),
-        Glyph::Gb(index) => index_fits(gb, index),
-        Glyph::Extra(at) => offset_fits(extra, at),
-        Glyph::Hexadecimal => code_fits(ascii8, lead) & code_fits(ascii8, trail),
+        Glyph::Emoji(index) => index_fits(fonts.emoji, index),
+        Glyph::Gb(index) => index_fits(fonts.gb, index),
+        Glyph::Extra(at) => offset_fits(fonts.extra, at),
+        Glyph::Hexadecimal => code_fits(fonts.ascii8, lead) & code_fits(fonts.ascii8, trail),
     }
 }
 
-fn shown_fits(
-    version: u8,
-    ascii8: &[u8],
-    ascii16: &[u8],
-    gb: &[u8],
-    emoji: &[u8],
-    list: &[u8],
-    extra: &[u8],
-    w: Shown,
-) -> bool
-    ensures { result ≡ shown_fits version (fonts ascii8.now ascii16.now gb.now emoji.now list.now extra.now) w }
+#[tactic(auto, unfolding(crate::specs::Fits::kind_fits))]
+fn shown_fits(version: u8, fonts: Fonts<'_>, w: Shown) -> bool
+    ensures { result ≡ shown_fits version (fonts_of fonts.entry) w }
 {
-    let lead = w.lead;
-    let trail = w.trail;
-    let kind = w.kind;
-    match kind {
+    match w.kind {
         CellKind::Blank => true,
-        CellKind::Single => char_fits(ascii16, lead),
+        CellKind::Single => char_fits(fonts.ascii16, w.lead),
         CellKind::Pair => {
-            let g = glyph_of(version, list, lead, trail);
-            glyph_fits(ascii8, gb, emoji, extra, lead, trail, g)
+            let g = glyph_of(version, fonts.list, w.lead, w.trail);
+            glyph_fits(fonts, w.lead, w.trail, g)
         }
-        CellKind::Code => code_fits(ascii8, lead),
+        CellKind::Code => code_fits(fonts.ascii8, w.lead),
     }
 }
 
@@ -99,13 +80,8 @@ const WHOLE_EMOJI: usize = 16864;
 fn entries_fit(list: &[u8], extra: &[u8]) -> bool
     ensures { result ≡ entries_fit list.now extra.now }
 {
-    let n = list.len();
-    let mut at: usize = 0;
-    while at + 6 <= n {
-        let offset = slices::load_four(list, at + 2) as usize;
-        if offset_fits(extra, offset) {
-            at += 6;
-        } else {
+    for entry in list.chunks_exact(6) {
+        if !offset_fits(extra, slices::load_four(entry, 2) as usize) {
             return false;
         }
     }
@@ -113,67 +89,31 @@ fn entries_fit(list: &[u8], extra: &[u8]) -> bool
 }
 
 // With such fonts and such a list any text fits, and the walk is spared.
-fn fonts_whole(
-    ascii8: &[u8],
-    ascii16: &[u8],
-    gb: &[u8],
-    emoji: &[u8],
-    list: &[u8],
-    extra: &[u8],
-) -> bool
-    ensures { result ≡ whole_fonts ascii8.now ascii16.now gb.now emoji.now list.now extra.now }
+#[tactic(auto, unfolding(crate::specs::Fits::whole_fonts))]
+fn fonts_whole(fonts: Fonts<'_>) -> bool
+    ensures { let f = fonts_of fonts.entry in result ≡ whole_fonts f.ascii8 f.ascii16 f.gb f.emoji f.extra_list f.extra_font }
 {
-    let ascii = (WHOLE_ASCII8 <= ascii8.len()) & (WHOLE_ASCII16 <= ascii16.len());
-    let pairs = (WHOLE_GB <= gb.len()) & (WHOLE_EMOJI <= emoji.len());
-    (ascii & pairs) & entries_fit(list, extra)
+    let ascii = (WHOLE_ASCII8 <= fonts.ascii8.len()) & (WHOLE_ASCII16 <= fonts.ascii16.len());
+    let pairs = (WHOLE_GB <= fonts.gb.len()) & (WHOLE_EMOJI <= fonts.emoji.len());
+    (ascii & pairs) & entries_fit(fonts.list, fonts.extra)
 }
 
-fn walk_fits(
-    columns: usize,
-    rows: usize,
-    text: &[u8],
-    version: u8,
-    ascii8: &[u8],
-    ascii16: &[u8],
-    gb: &[u8],
-    emoji: &[u8],
-    list: &[u8],
-    extra: &[u8],
-) -> bool
-    requires { TextSize columns rows }
-    ensures { result ≡ text_fits columns rows text.now version (fonts ascii8.now ascii16.now gb.now emoji.now list.now extra.now) }
+fn walk_fits(style: Style<'_>, text: &[u8]) -> bool
+    ensures { let p = style.entry in result ≡ text_fits p.columns p.rows text.now p.version (fonts_of p.fonts) }
 {
     let mut s = start();
-    while s.row < rows {
-        let w = shown_at(columns, rows, text, s);
-        if shown_fits(version, ascii8, ascii16, gb, emoji, list, extra, w) {
-            s = next_spot(columns, w);
-        } else {
+    while s.row < style.rows {
+        let w = shown_at(style.columns, style.rows, text, s);
+        if !shown_fits(style.version, style.fonts, w) {
             return false;
         }
+        s = next_spot(style.columns, w);
     }
     true
 }
 
-pub fn text_fits(
-    columns: usize,
-    rows: usize,
-    text: &[u8],
-    version: u8,
-    ascii8: &[u8],
-    ascii16: &[u8],
-    gb: &[u8],
-    emoji: &[u8],
-    list: &[u8],
-    extra: &[u8],
-) -> bool
-    requires { TextSize columns rows }
-    ensures { result ≡ text_fits columns rows text.now version (fonts ascii8.now ascii16.now gb.now emoji.now list.now extra.now) }
+pub fn text_fits(style: Style<'_>, text: &[u8]) -> bool
+    ensures { let p = style.entry in result ≡ text_fits p.columns p.rows text.now p.version (fonts_of p.fonts) }
 {
-    if fonts_whole(ascii8, ascii16, gb, emoji, list, extra) {
-        return true;
-    }
-    walk_fits(
-        columns, rows, text, version, ascii8, ascii16, gb, emoji, list, extra,
-    )
+    fonts_whole(style.fonts) || walk_fits(style, text)
 }

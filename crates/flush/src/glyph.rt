@@ -1,5 +1,5 @@
 // Glyphs by value, and columns of bytes, painted line by line onto the lent screen.
-ghost use Rattle.std.specs.Prelude.{◌≡◌, [], ◌∷◌, ◌+◌, ◌/◌, ◌%◌, ◌*◌, ◌≤◌, ◌<◌, length, get_or};
+ghost use Rattle.std.specs.Prelude.{◌≡◌, [], ◌∷◌, ◌+◌, ◌/◌, ◌%◌, ◌*◌, ◌≤◌, ◌<◌, length, get_or, take, drop};
 ghost use Rattle.model.specs.Glyphs.{flipped, paint, column_stores, digit, code_stores};
 ghost use Rattle.laws.specs.Glyphs.{glyph_lines, paint_lines};
 ghost use Rattle.flush.specs.Rooms.{Room, part_of, PartFits, code_end};
@@ -24,16 +24,13 @@ fn paint_column(
     inverse: bool,
 )
     requires room { Room stride screen.old top height }
-    requires height_in_bounds { from + height ≤ length font.now }
+    requires bytes_are_there { from + height ≤ length font.now }
     ensures { screen.new ≡ paint (column_stores stride font.now top from inverse height) screen.old }
 {
-    let end = from + height;
     let mut place = top;
-    let mut i = from;
-    while i < end {
-        screen[place] = flip(font[i], inverse);
+    for b in &font[from..from + height] {
+        screen[place] = flip(*b, inverse);
         place += stride;
-        i += 1;
     }
 }
 
@@ -48,45 +45,39 @@ pub fn paint_character(
     inverse: bool,
 )
     requires room { Room stride screen.old top height }
-    requires height_in_bounds { from + height ≤ length font.now }
+    requires bytes_are_there { from + height ≤ length font.now }
     ensures { screen.new ≡ paint (column_stores stride font.now top from inverse height) screen.old }
 {
     if inverse {
         paint_column(stride, screen, top, font, from, height, true);
-        return;
+    } else {
+        paint_column(stride, screen, top, font, from, height, false);
     }
-    paint_column(stride, screen, top, font, from, height, false);
+}
+
+// The bytes of a glyph of two bytes a line.
+const GLYPH_BYTES: usize = 32;
+
+// Those from a place of a font on.
+fn part(font: &[u8], at: usize) -> &[u8]
+    requires { at + 32 ≤ length font.now }
+    ensures { result.now ≡ take 32 (drop at font.now) }
+{
+    &font[at..at + GLYPH_BYTES]
 }
 
 // The part of whichever font holds the glyph; nothing for hexadecimal.
+#[tactic(auto, unfolding(crate::specs::Rooms::part_of))]
 pub fn glyph_part<'a>(emoji: &'a [u8], gb: &'a [u8], extra: &'a [u8], g: Glyph) -> &'a [u8]
     requires { PartFits emoji.now gb.now extra.now g }
     ensures { result.now ≡ part_of emoji.now gb.now extra.now g }
 {
     match g {
-        Glyph::Emoji(index) => {
-            let at = 32 * index;
-            let end = at + 32;
-            &emoji[at..end]
-        }
-        Glyph::Gb(index) => {
-            let at = 32 * index;
-            let end = at + 32;
-            &gb[at..end]
-        }
-        Glyph::Extra(at) => {
-            let end = at + 32;
-            &extra[at..end]
-        }
-        Glyph::Hexadecimal => &extra[0..0],
+        Glyph::Emoji(index) => part(emoji, GLYPH_BYTES * index),
+        Glyph::Gb(index) => part(gb, GLYPH_BYTES * index),
+        Glyph::Extra(at) => part(extra, at),
+        Glyph::Hexadecimal => &extra[..0],
     }
-}
-
-fn line(part: &[u8], i: usize) -> [u8; 2]
-    requires { i + 2 ≤ length part.now }
-    ensures { result ≡ (get_or part.now i 0 ∷ get_or part.now (i + 1) 0 ∷ []) }
-{
-    [part[i], part[i + 1]]
 }
 
 // The thirty-two bytes as sixteen lines of two.
@@ -94,24 +85,9 @@ pub fn load_glyph(part: &[u8]) -> [[u8; 2]; GLYPH_LINES]
     requires { length part.now ≡ 32 }
     ensures { result ≡ glyph_lines part.now 0 16 }
 {
-    [
-        line(part, 0),
-        line(part, 2),
-        line(part, 4),
-        line(part, 6),
-        line(part, 8),
-        line(part, 10),
-        line(part, 12),
-        line(part, 14),
-        line(part, 16),
-        line(part, 18),
-        line(part, 20),
-        line(part, 22),
-        line(part, 24),
-        line(part, 26),
-        line(part, 28),
-        line(part, 30),
-    ]
+    let mut lines = [[0; 2]; GLYPH_LINES];
+    lines.copy_from_slice(part.as_chunks::<2>().0);
+    lines
 }
 
 // Line by line, each half inverted by itself, down from two places.
@@ -124,21 +100,18 @@ fn paint_glyph(
     inverse: bool,
     inverse2: bool,
 )
-    requires room { Room stride screen.old left 16 }
-    requires room_2 { Room stride screen.old right 16 }
-    requires g_len { length g ≡ 16 }
+    requires left_room { Room stride screen.old left 16 }
+    requires right_room { Room stride screen.old right 16 }
+    requires sixteen_lines { length g ≡ 16 }
     ensures { screen.new ≡ paint_lines stride left right inverse inverse2 g screen.old }
 {
     let mut l = left;
     let mut r = right;
-    let mut i: usize = 0;
-    while i < GLYPH_LINES {
-        let line = g[i];
+    for line in &g {
         screen[l] = flip(line[0], inverse);
         screen[r] = flip(line[1], inverse2);
         l += stride;
         r += stride;
-        i += 1;
     }
 }
 
@@ -152,16 +125,16 @@ pub fn paint_halves(
     inverse: bool,
     inverse2: bool,
 )
-    requires room { Room stride screen.old left 16 }
-    requires room_2 { Room stride screen.old right 16 }
-    requires g_len { length g ≡ 16 }
+    requires left_room { Room stride screen.old left 16 }
+    requires right_room { Room stride screen.old right 16 }
+    requires sixteen_lines { length g ≡ 16 }
     ensures { screen.new ≡ paint_lines stride left right inverse inverse2 g screen.old }
 {
     if inverse | inverse2 {
         paint_glyph(stride, screen, left, right, g, inverse, inverse2);
-        return;
+    } else {
+        paint_glyph(stride, screen, left, right, g, false, false);
     }
-    paint_glyph(stride, screen, left, right, g, false, false);
 }
 
 // The character of a hexadecimal digit.
@@ -179,7 +152,7 @@ pub fn digit_of(n: u8) -> usize
 // A byte in hexadecimal: the high digit, and the low one eight lines under it.
 pub fn paint_code(stride: usize, screen: &mut [u8], top: usize, ascii8: &[u8], b: u8)
     requires room { Room stride screen.old top 16 }
-    requires b_in_bounds { code_end b ≤ length ascii8.now }
+    requires digits_are_there { code_end b ≤ length ascii8.now }
     ensures { screen.new ≡ paint (code_stores stride ascii8.now top b) screen.old }
 {
     let high = 8 * digit_of(b / 16);

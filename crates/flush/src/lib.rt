@@ -3,6 +3,8 @@
 
 pub mod cells;
 pub mod fit;
+pub mod fonts;
 pub mod glyph;
 pub mod paint;
 pub mod screen;
+pub mod style;

@@ -1,12 +1,10 @@
--- The choice of a glyph from its second source on, and from its third.
-use Rattle.std.specs.Prelude.{List, ℕ, ◌+◌, ◌*◌}
-use Rattle.model.specs.declared.Glyph.{Glyph}
-use Rattle.model.specs.declared.Glyph.TheVariants.{Gb, Extra, Hexadecimal}
-use Rattle.model.specs.Codes.{gb_index, extra_offset}
-use Rattle.model.specs.Glyphs.{glyph_or}
+-- Emoji rows as the code has them in its tables, and the rows of the GB font.
+use Rattle.std.specs.Prelude.{cond, List, map, ℕ, ◌-◌, Option, Some, None}
+use Rattle.model.specs.Codes.{CodeRow, codes, gb_lead, gb_row}
 
-abbrev pub extra_glyph : List ℕ → ℕ → ℕ → Glyph
-extra_glyph list lead trail = glyph_or (extra_offset list (256 * lead + trail)) Extra Hexadecimal
+abbrev pub rows_of : List (ℕ × ℕ × ℕ) → List CodeRow
+rows_of = map (λ (r : ℕ × ℕ × ℕ). codes r.0 r.1 r.2)
 
-abbrev pub other_glyph : List ℕ → ℕ → ℕ → Glyph
-other_glyph list lead trail = glyph_or (gb_index lead trail) Gb (extra_glyph list lead trail)
+-- the place of a lead's row in the GB font, where it has one
+abbrev pub row_of : ℕ → Option ℕ
+row_of lead = cond (gb_lead lead) (Some (gb_row (lead - 161))) None

@@ -1,5 +1,5 @@
 -- Glyphs: where a code's glyph stands, and how its bytes are stored on the screen.
-use Rattle.std.specs.Prelude.{◌≡◌, Bool, true, false, ◌&&◌, leb, eqb, ltb, length}
+use Rattle.std.specs.Prelude.{◌≡◌, Bool, true, false, ◌&&◌, leb, eqb, ltb, length, Option, Some, None}
 use Rattle.std.proofs.Math.Path.{refl, ap}
 use Rattle.std.proofs.Common.{sym, ◌∙◌, mul-suc, length-set, get_or-take, get_or-drop, drop-cons}
 use Rattle.std.proofs.Math.Bool.{and_assoc, and-true}
@@ -9,8 +9,6 @@ use native.Mathlib.Omega.{arith}
 use Rattle.std.proofs.Math.Numerals.{add-one}
 use Rattle.std.proofs.Math.ListN.{get_or, set, take, drop}
 use borrow.Author.Tests.{eq-eqb, ne_eqb, lt-ltb, le-ltb, le-leb, lt-leb}
-use Rattle.model.specs.declared.Found.{Found}
-use Rattle.model.specs.declared.Found.TheVariants.{At, Nothing}
 use Rattle.model.specs.declared.Glyph.{Glyph}
 use Rattle.model.specs.declared.Glyph.TheVariants.{Extra, Hexadecimal}
 use Rattle.model.specs.Bytes.{two, four}
@@ -24,12 +22,12 @@ use Rattle.laws.specs.Tests.{all_true, by_lt, if_cases, tests}
 
 module _ {b : Bool} (r : CodeRow) (rs : List CodeRow) (before lead trail : ℕ) where
   -- the code is of the first row
-  pub row_here : {f : Found} → b ≡ in_row r lead trail → b ≡ true → f ≡ At (before + (trail - r.first)) → f ≡ index_in (r ∷ rs) before lead trail
+  pub row_here : {f : Option ℕ} → b ≡ in_row r lead trail → b ≡ true → f ≡ Some (before + (trail - r.first)) → f ≡ index_in (r ∷ rs) before lead trail
   unfolding index_in
   row_here e t h = rw (← e, t) h
 
   -- or of another
-  pub row_past : {f : Found} → b ≡ in_row r lead trail → b ≡ false → f ≡ index_in rs (before + (r.last + 1 - r.first)) lead trail
+  pub row_past : {f : Option ℕ} → b ≡ in_row r lead trail → b ≡ false → f ≡ index_in rs (before + (r.last + 1 - r.first)) lead trail
       → f ≡ index_in (r ∷ rs) before lead trail
   unfolding index_in
   row_past e t h = rw (← e, t) h
@@ -41,11 +39,11 @@ row_first row first last lead trail e t = omega (arith, tests, all_true (eqb lea
 
 -- ---- the version, 0 or 1
 
-pub index_v1 : {f : Found} (version lead trail : ℕ) → version ≡ 0 → f ≡ index_in (emoji_rows 0) 0 lead trail → f ≡ emoji_index version lead trail
+pub index_v1 : {f : Option ℕ} (version lead trail : ℕ) → version ≡ 0 → f ≡ index_in (emoji_rows 0) 0 lead trail → f ≡ emoji_index version lead trail
 unfolding emoji_index
 index_v1 version lead trail e h = h ∙ ap (λ (v : ℕ). index_in (emoji_rows v) 0 lead trail) (sym e)
 
-pub index_v2 : {f : Found} (version lead trail : ℕ) → (version ≡ 0 → ⊥) → f ≡ index_in (emoji_rows 1) 0 lead trail → f ≡ emoji_index version lead trail
+pub index_v2 : {f : Option ℕ} (version lead trail : ℕ) → (version ≡ 0 → ⊥) → f ≡ index_in (emoji_rows 1) 0 lead trail → f ≡ emoji_index version lead trail
 unfolding emoji_index
 index_v2 zero lead trail e h = absurd (e refl)
 index_v2 (suc n) lead trail e h = h
@@ -55,21 +53,21 @@ abbrev Above : ℕ → List CodeRow → Type 0
 Above lead [] = Unit {0}
 Above lead (r ∷ rs) = (lead < r.lead) × Above lead rs
 
-above_none : (rs : List CodeRow) (before lead trail : ℕ) → Above lead rs → Nothing ≡ index_in rs before lead trail
+above_none : (rs : List CodeRow) (before lead trail : ℕ) → Above lead rs → None ≡ index_in rs before lead trail
 unfolding index_in in_row
 above_none [] before lead trail h = refl
 above_none (r ∷ rs) before lead trail h =
     rw (ne_eqb lead r.lead (λ e. absurd (omega arith))) (above_none rs (before + (r.last + 1 - r.first)) lead trail h.1)
 
 -- no emoji has a lead below 248
-pub no_emoji : (version lead trail : ℕ) → lead < 248 → Nothing ≡ emoji_index version lead trail
+pub no_emoji : (version lead trail : ℕ) → lead < 248 → None ≡ emoji_index version lead trail
 unfolding emoji_index
 no_emoji zero lead trail h = above_none (emoji_rows 0) 0 lead trail (omega arith)
 no_emoji (suc n) lead trail h = above_none (emoji_rows 1) 0 lead trail (omega arith)
 
 -- ---- GB's empty rows, 10-15: neither emoji nor GB, so the extra list decides
 
-gb_empty : (lead trail : ℕ) → 170 ≤ lead → lead ≤ 175 → gb_index lead trail ≡ Nothing
+gb_empty : (lead trail : ℕ) → 170 ≤ lead → lead ≤ 175 → gb_index lead trail ≡ None
 unfolding gb_index
 gb_empty lead trail a b = rw (le-leb 161 lead (omega arith), lt-leb lead 169 (omega arith), lt-leb 176 lead (omega arith))
 
@@ -81,25 +79,25 @@ empty_row version list lead trail a b = rw (← no_emoji version lead trail (ome
 -- ---- the extra list
 
 module _ (list : List ℕ) (code : ℕ) where
-  pub extra_here : {f : Found} (i k n : ℕ) → k < n → two list i ≡ code → f ≡ At (four list (i + 2)) → f ≡ extra_from list code i (n - k)
+  pub extra_here : {f : Option ℕ} (i k n : ℕ) → k < n → two list i ≡ code → f ≡ Some (four list (i + 2)) → f ≡ extra_from list code i (n - k)
   unfolding extra_from
   extra_here i k n l e h = let q : n - k ≡ suc (n - (k + 1)) = omega arith in rw (q, eq-eqb (two list i) code e) h
 
-  pub extra_past : {f : Found} (i k n : ℕ) → k < n → (two list i ≡ code → ⊥) → f ≡ extra_from list code i (n - k) → f ≡ extra_from list code (i + 6) (n - (k + 1))
+  pub extra_past : {f : Option ℕ} (i k n : ℕ) → k < n → (two list i ≡ code → ⊥) → f ≡ extra_from list code i (n - k) → f ≡ extra_from list code (i + 6) (n - (k + 1))
   unfolding extra_from
   extra_past i k n l e h = let q : n - k ≡ suc (n - (k + 1)) = omega arith in cc (ne_eqb (two list i) code e)
 
-  pub extra_end : (i k n : ℕ) → n ≤ k → Nothing ≡ extra_from list code i (n - k)
+  pub extra_end : (i k n : ℕ) → n ≤ k → None ≡ extra_from list code i (n - k)
   unfolding extra_from
   extra_end i k n l = let q : n - k ≡ 0 = omega arith in rw q
 
 -- ---- one source after another
 
-pub found_at : {f : Found} (i : ℕ) (k : ℕ → Glyph) (other : Glyph) → f ≡ At i → k i ≡ glyph_or f k other
+pub found_at : {f : Option ℕ} (i : ℕ) (k : ℕ → Glyph) (other : Glyph) → f ≡ Some i → k i ≡ glyph_or f k other
 unfolding glyph_or
 found_at i k other e = rw e
 
-pub found_nothing : {f : Found} {g : Glyph} (k : ℕ → Glyph) (other : Glyph) → f ≡ Nothing → g ≡ other → g ≡ glyph_or f k other
+pub found_nothing : {f : Option ℕ} {g : Glyph} (k : ℕ → Glyph) (other : Glyph) → f ≡ None → g ≡ other → g ≡ glyph_or f k other
 unfolding glyph_or
 found_nothing k other e h = rw e h
 

@@ -9,7 +9,7 @@ use native.Mathlib.Omega.{arith}
 use Rattle.model.specs.declared.Rect.{Rect}
 use Rattle.model.specs.declared.glass.Glass.{Glass}
 use Rattle.model.specs.Geometry.{Geometry, width}
-use Rattle.model.specs.Glass.{geometry, Suits}
+use Rattle.model.specs.Glass.{geometry}
 use Rattle.model.specs.Rects.{is_empty, cut, every}
 use Rattle.model.specs.Record.{panel, at, record_bytes, Pending, State, decode, encode, panel_of, nothing_pending, with_panels}
 use Rattle.model.specs.Marks.{owing, owing_each}
@@ -31,9 +31,9 @@ pub record Owing (v : Glass) (i : ℕ) (f : ℕ → List ℕ → List ℕ) (r₀
   pub sized : length r ≡ length r₀
   pub same : each_from (geometry v) i f k (panels - k) r ≡ each_from (geometry v) i f 0 v.panels r₀
 
-pub owe_room : {v : Glass} (r : List ℕ) {i k a : ℕ} → Suits v → length r ≡ record_bytes (geometry v) → i < v.bands → k < v.panels → a ≡ at (geometry v) (panel k)
+pub owe_room : (v : Glass) (r : List ℕ) {i k a : ℕ} → length r ≡ record_bytes (geometry v) → i < v.bands → k < v.panels → a ≡ at (geometry v) (panel k)
     → a + 8 * i + 8 ≤ length r
-owe_room {v} r {k = k} z n h j e = let p = panel_room v k z j in omega arith
+owe_room v r {k = k} n h j e = let p = panel_room v k j in let z = v.suits in omega arith
 
 pub owe_starts : (v : Glass) (i : ℕ) (f : ℕ → List ℕ → List ℕ) (r : List ℕ) (panels : ℕ) → panels ≡ v.panels → Owing v i f r r panels 0
 owe_starts v i f r panels c = let e : panels - 0 ≡ v.panels = omega arith in record { counted = c; some = omega arith; sized = refl; same = rw e refl }
@@ -62,31 +62,32 @@ pub record Marking (v : Glass) (m : Rect) (r₀ r : List ℕ) (bottom lo i : ℕ
   pub sized : length r ≡ length r₀
   pub same : owed_after (geometry v) m i (v.bands - i) r ≡ owing_each (geometry v) m (decode (geometry v) r₀)
 
-pub glass_band : (v : Glass) → Suits v → 0 < v.band
-glass_band v z = band_some v.bands v.band 0 (omega (arith, z.glass.row, z.glass.filled))
+pub glass_band : (v : Glass) → 0 < v.band
+glass_band v = let z = v.suits in band_some v.bands v.band 0 (omega (arith, z.glass.row, z.glass.filled))
 
 -- a band's lines are the glass's
-pub band_low : (v : Glass) (i lo : ℕ) → Suits v → i < v.bands → lo ≡ i * v.band → lo + v.band ≤ 256
-band_low v i lo z h e = let t : suc i * v.band ≤ v.bands * v.band = mul-le-mul_right v.band h in omega (arith, z.glass.high)
+pub band_low : (v : Glass) (i lo : ℕ) → i < v.bands → lo ≡ i * v.band → lo + v.band ≤ 256
+band_low v i lo h e = let t : suc i * v.band ≤ v.bands * v.band = mul-le-mul_right v.band h in omega (arith, v.suits.glass.high)
 
-pub is_part : (v : Glass) (m : Rect) (i : ℕ) {lo hi : ℕ} {q : Rect} → Suits v → lo ≡ i * v.band → hi ≡ lo + v.band → q ≡ cut v.width lo hi m → q ≡ band_part (geometry v) m i
-is_part v m i z e f g = cc z.is_width
+pub is_part : (v : Glass) (m : Rect) (i : ℕ) {lo hi : ℕ} {q : Rect} → lo ≡ i * v.band → hi ≡ lo + v.band → q ≡ cut v.width lo hi m → q ≡ band_part (geometry v) m i
+is_part v m i e f g = cc v.suits.is_width
 
-pub is_band : (v : Glass) (i : ℕ) {lo hi : ℕ} → Suits v → lo ≡ i * v.band → hi ≡ lo + v.band → record { left = 0; top = lo; right = v.width; bottom = hi } ≡ whole_band (geometry v) i
-is_band v i z e f = rect_equal refl e z.is_width (f ∙ ap (λ (n : ℕ). n + v.band) e)
+pub is_band : (v : Glass) (i : ℕ) {lo hi : ℕ} → lo ≡ i * v.band → hi ≡ lo + v.band → record { left = 0; top = lo; right = v.width; bottom = hi } ≡ whole_band (geometry v) i
+is_band v i e f = rect_equal refl e v.suits.is_width (f ∙ ap (λ (n : ℕ). n + v.band) e)
 
 -- and has a pixel
-pub band_full : (v : Glass) (lo : ℕ) {hi : ℕ} → Suits v → hi ≡ lo + v.band → is_empty (record { left = 0; top = lo; right = v.width; bottom = hi }) ≡ false
-band_full v lo {hi} z e = in_not_none (record { left = 0; top = lo; right = v.width; bottom = hi }) 0 lo (omega (arith, z.is_width, z.glass.columns, glass_band v z))
+pub band_full : (v : Glass) (lo : ℕ) {hi : ℕ} → hi ≡ lo + v.band → is_empty (record { left = 0; top = lo; right = v.width; bottom = hi }) ≡ false
+band_full v lo {hi} e = let z = v.suits in in_not_none (record { left = 0; top = lo; right = v.width; bottom = hi }) 0 lo (omega (arith, z.is_width, z.glass.columns, glass_band v))
 
 -- a part is its whole band where the mark has all of it
-pub is_whole : (v : Glass) (m : Rect) (i : ℕ) {lo hi : ℕ} → Suits v → lo ≡ i * v.band → hi ≡ lo + v.band
+pub is_whole : (v : Glass) (m : Rect) (i : ℕ) {lo hi : ℕ} → lo ≡ i * v.band → hi ≡ lo + v.band
     → every (eqb m.left 0 ∷ leb v.width m.right ∷ leb m.top lo ∷ leb hi m.bottom ∷ []) ≡ true → band_part (geometry v) m i ≡ whole_band (geometry v) i
-is_whole v m i {lo} {hi} z e f t =
+is_whole v m i {lo} {hi} e f t =
     let g = geometry v in
+    let z = v.suits in
     let a = all_true (eqb m.left 0 ∷ leb v.width m.right ∷ leb m.top lo ∷ leb hi m.bottom ∷ []) t in
     let w = z.is_width in
-    cut-whole (width g) (i * g.band) (i * g.band + g.band) m (omega (arith, z.glass.columns)) (omega (arith, glass_band v z)) (omega (arith, tests)) (omega (arith, tests)) (omega (arith, tests)) (omega (arith, tests))
+    cut-whole (width g) (i * g.band) (i * g.band + g.band) m (omega (arith, z.glass.columns)) (omega (arith, glass_band v)) (omega (arith, tests)) (omega (arith, tests)) (omega (arith, tests)) (omega (arith, tests))
 
 -- the first band that is marked is that of the mark's top line
 pub mark_starts : (v : Glass) (m : Rect) (r : List ℕ) {bottom first : ℕ} → Passing (geometry v) r → bottom ≡ min m.bottom v.height → first ≡ m.top / v.band
@@ -113,13 +114,13 @@ mark_starts v m r {first = first} p e f =
           (λ k h. start (panel_of g s k) ∙ owing_bands g m (panel_of g s k) ((well_sized g s (well_formed g r p)).owed k)));
     }
 
-module _ {v : Glass} {m : Rect} {r₀ r : List ℕ} {bottom lo i : ℕ} (z : Suits v) (k : Marking v m r₀ r bottom lo i) where
+module _ {v : Glass} {m : Rect} {r₀ r : List ℕ} {bottom lo i : ℕ} (k : Marking v m r₀ r bottom lo i) where
   -- the next is there, and its lines are the glass's
   pub band_there : lo < bottom → i < v.bands
-  band_there h = lt_of_mul-lt-mul_right v.band (omega (arith, k.line, k.end, z.is_height))
+  band_there h = lt_of_mul-lt-mul_right v.band (omega (arith, k.line, k.end, v.suits.is_height))
 
   pub band_ends : lo < bottom → lo + v.band ≤ 256
-  band_ends h = band_low v i lo z (band_there h) k.line
+  band_ends h = band_low v i lo (band_there h) k.line
 
   pub mark_goes : {hi : ℕ} {r' : List ℕ} → lo < bottom → hi ≡ lo + v.band → length r' ≡ length r → BandMarked (geometry v) m i r r' → Marking v m r₀ r' bottom hi (i + 1)
   unfolding owing_from
@@ -146,7 +147,7 @@ module _ {v : Glass} {m : Rect} {r₀ r : List ℕ} {bottom lo i : ℕ} (z : Sui
       let rest : (p : Pending) → owing_from g m i (v.bands - i) p ≡ p = λ p.
       by_lt i v.bands
       (λ j. let t : suc i * v.band ≤ v.bands * v.band = mul-le-mul_right v.band j in
-      let some = glass_band v z in
-      skip_below g m (v.bands - i) i p (omega (arith, k.line, k.end, z.is_height)))
+      let some = glass_band v in
+      skip_below g m (v.bands - i) i p (omega (arith, k.line, k.end, v.suits.is_height)))
       (λ j. let e : v.bands - i ≡ 0 = omega arith in cc) in
       sym (encode-decode g r k.passing) ∙ ap (λ (ps : List Pending). encode g (with_panels ps s)) (sym (map_same (owing_from g m i (v.bands - i)) s.panels rest)) ∙ ap (encode g) k.same

@@ -9,7 +9,7 @@ use Rattle.model.specs.declared.Rect.{Rect}
 use Rattle.model.specs.declared.Head.{Head}
 use Rattle.model.specs.declared.glass.Glass.{Glass}
 use Rattle.model.specs.Geometry.{Geometry, height, rows, columns, cells}
-use Rattle.model.specs.Glass.{geometry, IsGlass, Suits}
+use Rattle.model.specs.Glass.{geometry, IsGlass}
 use Rattle.model.specs.Memory.{zeros, with_window}
 use Rattle.model.specs.Rects.{none, is_empty, fits}
 use Rattle.model.specs.Bytes.{rects_bytes, words_bytes, Words}
@@ -98,7 +98,7 @@ clear_sized g h p ks x n m = record {
   flags = length-replicate (cells g) false;
 }
 
-module _ {v : Glass} {a b c d : List ℕ} {h : Head} (r : List ℕ) (graphics text version : ℕ) (ks : List ℕ) (x : ℕ) (z : Suits v) (n : length r ≡ record_bytes (geometry v))
+module _ {a b c d : List ℕ} {h : Head} (r : List ℕ) (graphics text version : ℕ) (ks : List ℕ) (x : ℕ) (v : Glass) (n : length r ≡ record_bytes (geometry v))
     (t : Told (geometry v) graphics text version ks x) (e : a ≡ zeros (length r)) (f : h ≡ clear_head graphics text version) (i : b ≡ with_window 0 (bytes_of_head h) a)
     (k : c ≡ with_window v.keys (words_bytes ks) b) (y : d ≡ with_window v.edge (x ∷ []) c) where
   -- zeros, then the head, the keys and the edge flag: nothing is pending
@@ -106,6 +106,7 @@ module _ {v : Glass} {a b c d : List ℕ} {h : Head} (r : List ℕ) (graphics te
   unfolding nothing_pending
   written-clear =
       let g = geometry v in
+      let z = v.suits in
       let p = nothing_pending g in
       let m = t.count in
       let count = length-replicate g.bands none in
@@ -115,10 +116,10 @@ module _ {v : Glass} {a b c d : List ℕ} {h : Head} (r : List ℕ) (graphics te
       cc (zeros-encode g z.glass)
 
   nothing_formed : WellFormed (geometry v) (clear (geometry v) (clear_head graphics text version) (nothing_pending (geometry v)) ks x)
-  nothing_formed = clear_formed (geometry v) z.glass graphics text version ks x t (nothing_pending (geometry v)) (well_nothing (geometry v))
+  nothing_formed = clear_formed (geometry v) v.suits.glass graphics text version ks x t (nothing_pending (geometry v)) (well_nothing (geometry v))
 
   pub opening_passes : Passing (geometry v) d
-  opening_passes = rw written-clear (encode_passing (geometry v) z.glass _ nothing_formed)
+  opening_passes = rw written-clear (encode_passing (geometry v) v.suits.glass _ nothing_formed)
 
   -- and the mark
   pub opens : {w : Rect} {s : List ℕ} → w ≡ whole v.stride (height (geometry v)) → s ≡ encode (geometry v) (owing_each (geometry v) w (decode (geometry v) d))
@@ -128,5 +129,5 @@ module _ {v : Glass} {a b c d : List ℕ} {h : Head} (r : List ℕ) (graphics te
       let g = geometry v in
       let p = nothing_pending g in
       let all = whole v.stride (height g) in
-      let state : decode g d ≡ clear g (clear_head graphics text version) p ks x = ap (decode g) written-clear ∙ decode-encode g (clear g (clear_head graphics text version) p ks x) z.glass nothing_formed in
+      let state : decode g d ≡ clear g (clear_head graphics text version) p ks x = ap (decode g) written-clear ∙ decode-encode g (clear g (clear_head graphics text version) p ks x) v.suits.glass nothing_formed in
       j ∙ (λ o. encode g (owing_each g (q o) (state o))) ∙ ap (λ (ps : List Pending). encode g (with_panels ps (clear g (clear_head graphics text version) p ks x))) (map-replicate (owing g all) g.panels p)

@@ -10,7 +10,7 @@ use Rattle.std.proofs.lemmas.List.{set-get_or}
 use Rattle.model.specs.declared.Rect.{Rect}
 use Rattle.model.specs.declared.glass.Glass.{Glass}
 use Rattle.model.specs.Geometry.{Geometry, width, height}
-use Rattle.model.specs.Glass.{geometry, Suits}
+use Rattle.model.specs.Glass.{geometry}
 use Rattle.model.specs.Memory.{with_window}
 use Rattle.model.specs.Rects.{is_empty}
 use Rattle.model.specs.Bytes.{rect_at, rect_bytes, rects_bytes, four, four_bytes, Bytes}
@@ -50,7 +50,7 @@ taken_sent p = if_cases (λ (q : Pending). q.sent ≡ p.sent) (is_empty p.hand) 
 
 -- ---- as the code goes, with the glass by value
 
-module _ {v : Glass} {r : List ℕ} (k : ℕ) (z : Suits v) (w : Passing (geometry v) r) (h : k < v.panels) where
+module _ {r : List ℕ} (k : ℕ) (v : Glass) (w : Passing (geometry v) r) (h : k < v.panels) where
   -- the panel's part where it stands
   panel_here : panel_of (geometry v) (decode (geometry v) r) k ≡ pending_of (geometry v) r (at (geometry v) (panel k))
   panel_here = panel_decoded (geometry v) r k h ∙ pending-part (geometry v) r k
@@ -75,7 +75,7 @@ module _ {v : Glass} {r : List ℕ} (k : ℕ) (z : Suits v) (w : Passing (geomet
       let s = decode g r in
       let p = panel_of g s k in
       let c = at g (panel k) in
-      let room = panel_room v k z h in
+      let room = panel_room v k h in
       let none : is_empty (take_owed p).hand ≡ true = cc (line-sent e i) in
       let same = owed_again g.bands c r w.bytes (omega arith) in
       let kept = ap (λ (l : List Pending). encode g (with_panels l s)) (set-get_or s.panels k (nothing_pending g)) in
@@ -92,7 +92,7 @@ module _ {v : Glass} {r : List ℕ} (k : ℕ) (z : Suits v) (w : Passing (geomet
       let st = decode g r in
       let p = panel_of g st k in
       let d = at g (panel k) in
-      let room = panel_room v k z h in
+      let room = panel_room v k h in
       let some : is_empty (take_owed p).hand ≡ false = cc (line-sent e i) in
       let owed = (take_owed p).owed in
       let count : length owed ≡ g.bands = (well_take g p well).bands in
@@ -101,7 +101,7 @@ module _ {v : Glass} {r : List ℕ} (k : ℕ) (z : Suits v) (w : Passing (geomet
       let starts : d ≤ length r = omega arith in
       let two = window_extend d (8 * v.bands) (rects_bytes owed) (rect_bytes n) r long starts in
       let three = window_extend d (8 * v.bands + 8) (rects_bytes owed ++ rect_bytes n) (four_bytes c) r (omega (arith, length-append (rects_bytes owed) (rect_bytes n))) starts in
-      let put = put_panel g k (record { owed = owed; hand = n; sent = c }) st z.glass (sized_decode g r w.sized) h (count-decode g r) count in
+      let put = put_panel g k (record { owed = owed; hand = n; sent = c }) st v.suits.glass (sized_decode g r w.sized) h (count-decode g r) count in
       cc (panel_here, line-sent e i, encode-decode g r w, taken_sent p, append_assoc (rects_bytes owed) (rect_bytes n) (four_bytes c))
 
 -- the rectangle whose top line is sent, and the record
@@ -110,6 +110,6 @@ pub record SentOn (v : Glass) (k : ℕ) (r : List ℕ) (q : Rect) (r' : List ℕ
   pub left : r' ≡ encode (geometry v) (with_panel k (send_pending (panel_of (geometry v) (decode (geometry v) r) k)) (decode (geometry v) r))
 
 -- the line that is sent lies on the screen
-pub sent_proper : {v : Glass} {k : ℕ} {r : List ℕ} {q : Rect} {r' : List ℕ} {t : Bool} → Suits v → Passing (geometry v) r → k < v.panels → SentOn v k r q r' → t ≡ is_empty q → t ≡ false
+pub sent_proper : {v : Glass} {k : ℕ} {r : List ℕ} {q : Rect} {r' : List ℕ} {t : Bool} → Passing (geometry v) r → k < v.panels → SentOn v k r q r' → t ≡ is_empty q → t ≡ false
     → Proper (width (geometry v)) 0 (height (geometry v)) q
-sent_proper {k = k} z w h i e f = rw i.line (to-send _ _ (well k z w h) (cc))
+sent_proper {v} {k} w h i e f = rw i.line (to-send _ _ (well k v w h) (cc))

@@ -8,7 +8,7 @@ use Rattle.model.specs.declared.Head.{Head}
 use Rattle.model.specs.declared.Edge.TheVariants.{Clamp, Stop}
 use Rattle.model.specs.declared.glass.Glass.{Glass}
 use Rattle.model.specs.Geometry.{Geometry, cells}
-use Rattle.model.specs.Glass.{geometry, IsGlass, Suits}
+use Rattle.model.specs.Glass.{geometry, IsGlass}
 use Rattle.model.specs.Memory.{window}
 use Rattle.model.specs.Rects.{fits}
 use Rattle.model.specs.Bytes.{rect_at, rects_at}
@@ -74,29 +74,29 @@ valid_is g r {a} {b} {c} {e} l fa fb fc fe =
 
 -- ---- as the code goes, with the glass by value
 
-pub windows_is : (v : Glass) (graphics text : ℕ) → Suits v
+pub windows_is : (v : Glass) (graphics text : ℕ)
     → ((leb graphics v.graphics && leb text v.text) && (leb (graphics + v.screen) text || leb (text + v.cells) graphics)) ≡ windows (geometry v) graphics text
 unfolding windows
-windows_is v graphics text z =
-    λ i. (leb graphics (z.is_graphics i) && leb text (z.is_text i)) && (leb (graphics + z.is_screen i) text || leb (text + z.is_cells i) graphics)
+windows_is v graphics text =
+    let z = v.suits in λ i. (leb graphics (z.is_graphics i) && leb text (z.is_text i)) && (leb (graphics + z.is_screen i) text || leb (text + z.is_cells i) graphics)
 
-pub head_is : (v : Glass) (h : Head) {w d : Bool} → Suits v → w ≡ windows (geometry v) h.graphics h.text → d ≡ fits 256 0 256 h.dirty
+pub head_is : (v : Glass) (h : Head) {w d : Bool} → w ≡ windows (geometry v) h.graphics h.text → d ≡ fits 256 0 256 h.dirty
     → (((((((w && ltb h.row v.rows) && ltb h.column v.columns) && leb h.screen 1) && leb h.print 2) && leb h.cursor 2) && leb h.version 1) && d)
     ≡ head_fits (geometry v) h
 unfolding head_fits
-head_is v h z e f =
-    λ i. ((((((e i && ltb h.row (z.is_rows i)) && ltb h.column (z.is_columns i)) && leb h.screen 1) && leb h.print 2) && leb h.cursor 2) && leb h.version 1) && f i
+head_is v h e f =
+    let z = v.suits in λ i. ((((((e i && ltb h.row (z.is_rows i)) && ltb h.column (z.is_columns i)) && leb h.screen 1) && leb h.print 2) && leb h.cursor 2) && leb h.version 1) && f i
 
 -- a panel's part: what is owed fails, or what is in hand decides
-module _ (v : Glass) (r : List ℕ) (k a : ℕ) {b : Bool} (z : Suits v) (e : a ≡ at (geometry v) (panel k)) (f : b ≡ bands_fit v.width v.band 0 (rects_at v.bands r a)) where
+module _ (v : Glass) (r : List ℕ) (k a : ℕ) {b : Bool} (e : a ≡ at (geometry v) (panel k)) (f : b ≡ bands_fit v.width v.band 0 (rects_at v.bands r a)) where
   pub pending_fails : not b ≡ true → false ≡ pending_fits (geometry v) (pending_of (geometry v) r (at (geometry v) (panel k)))
   unfolding pending_fits
-  pending_fails n = let y = not-true b n in cc z.is_width
+  pending_fails n = let y = not-true b n in cc v.suits.is_width
 
   pub pending_is : {t : Bool} → not b ≡ false → t ≡ fits v.width 0 v.height (rect_at r (a + 8 * v.bands))
       → t ≡ pending_fits (geometry v) (pending_of (geometry v) r (at (geometry v) (panel k)))
   unfolding pending_fits
-  pending_is n h = let y = not-false b n in cc (z.is_width, z.is_height)
+  pending_is n h = let y = not-false b n in cc (v.suits.is_width, v.suits.is_height)
 
 -- where the loop over panels stands: those before k have passed
 pub record Fitting (v : Glass) (r : List ℕ) (panels k : ℕ) : Type 0 where
@@ -124,28 +124,31 @@ unfolding panels_fit
 fit_ends {panels = panels} {k} i h = let z : panels - k ≡ 0 = omega (arith, i) in cc i.same
 
 -- the flags lie in the record
-pub flags_room : (v : Glass) → Suits v → (v.flags ≤ v.others) × (v.others ≤ record_bytes (geometry v))
-flags_room v z = let f = part-in (geometry v) flags (has_flags (geometry v)) in (omega (arith, z), omega (arith, z))
+pub flags_room : (v : Glass) → (v.flags ≤ v.others) × (v.others ≤ record_bytes (geometry v))
+flags_room v =
+    let f = part-in (geometry v) flags (has_flags (geometry v)) in
+    let z = v.suits in (omega (arith, z), omega (arith, z))
 
 -- and their lent part is theirs
-pub flags-part : (v : Glass) (r : List ℕ) → Suits v → take (v.others - v.flags) (drop v.flags r) ≡ part_in (geometry v) flags r
+pub flags-part : (v : Glass) (r : List ℕ) → take (v.others - v.flags) (drop v.flags r) ≡ part_in (geometry v) flags r
 unfolding window
-flags-part v r z =
+flags-part v r =
+    let z = v.suits in
     let n : v.others - v.flags ≡ flag_bytes (cells (geometry v)) = omega (arith, z.is_others, z.is_flags) in
     λ i. take (n i) (drop (z.is_flags i) r)
 
-pub flags_sized : (v : Glass) (r : List ℕ) → Suits v → length r ≡ record_bytes (geometry v) → length (take (v.others - v.flags) (drop v.flags r)) ≡ flag_bytes v.cells
-flags_sized v r z l = cc (flags-part v r z, length_part (geometry v) flags r (has_flags (geometry v)) l, z.is_cells)
+pub flags_sized : (v : Glass) (r : List ℕ) → length r ≡ record_bytes (geometry v) → length (take (v.others - v.flags) (drop v.flags r)) ≡ flag_bytes v.cells
+flags_sized v r l = cc (flags-part v r, length_part (geometry v) flags r (has_flags (geometry v)) l, v.suits.is_cells)
 
 -- the head fails, or the edge flag does, or a panel, or the flags decide
-module _ (v : Glass) (r : List ℕ) {h : Head} {a : Bool} (z : Suits v) (e : h ≡ head_of r) (f : a ≡ head_fits (geometry v) h) where
+module _ (v : Glass) (r : List ℕ) {h : Head} {a : Bool} (e : h ≡ head_of r) (f : a ≡ head_fits (geometry v) h) where
   heads : a ≡ head_fits (geometry v) (head_of r)
   heads = f ∙ ap (head_fits (geometry v)) e
 
   -- with the panels' test, the flags' and the edge flag's as they are
   tested : {b c x : Bool} → b ≡ panels_fit (geometry v) r 0 v.panels → c ≡ flags_fit (cells (geometry v)) (part_in (geometry v) flags r) → x ≡ edge_fits (get_or r v.edge 0)
       → (((a && x) && b) && c) ≡ valid (geometry v) r
-  tested p q y = valid_is (geometry v) r z.glass heads p q (y ∙ ap (λ (i : ℕ). edge_fits (get_or r i 0)) z.is_edge)
+  tested p q y = valid_is (geometry v) r v.suits.glass heads p q (y ∙ ap (λ (i : ℕ). edge_fits (get_or r i 0)) v.suits.is_edge)
 
   pub head_fails : not a ≡ true → false ≡ valid (geometry v) r
   head_fails n = let y = not-true a n in cc (tested refl refl refl)
@@ -170,17 +173,17 @@ module _ (v : Glass) (r : List ℕ) {h : Head} {a : Bool} (z : Suits v) (e : h �
           let i = not-false a n in
           let j = not-false x m in
           let k = not-false b l in
-          cc (tested p (q ∙ (λ i. flags_fit (z.is_cells i) (flags-part v r z i))) y)
+          cc (tested p (q ∙ (λ i. flags_fit (v.suits.is_cells i) (flags-part v r i))) y)
 
 -- the edge flag is the record's last part, and lies in it
-pub edge_room : (v : Glass) → Suits v → v.edge + 1 ≤ record_bytes (geometry v)
-edge_room v z = let p = part-in (geometry v) edge (has_edge (geometry v)) in omega (arith, z.is_edge)
+pub edge_room : (v : Glass) → v.edge + 1 ≤ record_bytes (geometry v)
+edge_room v = let p = part-in (geometry v) edge (has_edge (geometry v)) in omega (arith, v.suits.is_edge)
 
 -- the flag where code reads it
-module _ (v : Glass) (r : List ℕ) (z : Suits v) where
+module _ (v : Glass) (r : List ℕ) where
   edge_decoded : get_or r v.edge 0 ≡ (decode (geometry v) r).edge
   unfolding decode
-  edge_decoded = cc (edge_part (geometry v) r, z.is_edge)
+  edge_decoded = cc (edge_part (geometry v) r, v.suits.is_edge)
 
   pub edge_clamps : get_or r v.edge 0 ≡ 0 → Clamp ≡ edge_of (decode (geometry v) r).edge
   unfolding edge_of

@@ -1,5 +1,7 @@
 -- Stores over a record that passes, as the code makes them: fields of the head, other flags.
-use Rattle.std.specs.Prelude.{◌≡◌, Bool, true, List, ℕ, ◌+◌, ◌-◌, ◌≤◌, length, take, drop}
+use Rattle.std.specs.Prelude.{◌≡◌, Bool, true, List, ℕ, ◌+◌, ◌-◌, ◌<◌, ◌≤◌, length, take, drop}
+use Rattle.std.specs.Coded.{le_prop}
+use mathlib.Core.HLevel.{is_prop→PathP}
 use Rattle.std.proofs.Common.{sym, ap, ◌∙◌, arith}
 use borrow.Rule.Slice.PartMut.{put_mid}
 use Rattle.model.specs.declared.Rect.{Rect}
@@ -7,7 +9,7 @@ use Rattle.model.specs.declared.Head.{Head}
 use Rattle.model.specs.declared.Canvas.{Canvas}
 use Rattle.model.specs.declared.glass.Glass.{Glass}
 use Rattle.model.specs.Geometry.{Geometry, width, cells}
-use Rattle.model.specs.Glass.{geometry, canvas, Suits}
+use Rattle.model.specs.Glass.{geometry, canvas}
 use Rattle.model.specs.Memory.{zeros, with_window}
 use Rattle.model.specs.Flags.{bytes_of_flags}
 use Rattle.model.specs.Record.{head_bytes, head_of, head, keys, flags, record_bytes, offset, Pending, State, decode, encode, bytes_of_head, head_fits, part_fits, with_head, with_panels, with_flags, WellFormed}
@@ -41,13 +43,22 @@ unfolding offset
 head_in g = let p = part-in g head (has_head g) in omega arith
 
 -- the keys lie in the record
-pub keys_room : (v : Glass) → Suits v → v.keys + 32 ≤ record_bytes (geometry v)
-keys_room v z = let k = part-in (geometry v) keys (has_keys (geometry v)) in omega (arith, z.is_keys)
+pub keys_room : (v : Glass) → v.keys + 32 ≤ record_bytes (geometry v)
+keys_room v = let k = part-in (geometry v) keys (has_keys (geometry v)) in omega (arith, v.suits.is_keys)
 
 -- ---- the screen of a glass
 
-pub screen_small : (v : Glass) {k : Canvas} → Suits v → k ≡ canvas v → (k.stride ≤ 32) × (k.height ≤ 256)
-screen_small v z e = rw e (omega (arith, z.glass.cursor), omega (arith, z.is_height, z.glass.high))
+pub screen_small : (v : Glass) {k : Canvas} → k ≡ canvas v → (k.stride ≤ 32) × (k.height ≤ 256)
+screen_small v e = let z = v.suits in rw e (omega (arith, z.glass.cursor), omega (arith, z.is_height, z.glass.high))
+
+-- two canvases of the same size are one
+pub canvas_equal : {a b : Canvas} → a.stride ≡ b.stride → a.height ≡ b.height → a ≡ b
+canvas_equal {a} {b} p q =
+    λ i. record {
+      stride = p i;
+      height = q i;
+      size = is_prop→PathP (λ j. (0 < p j) × (p j ≤ 32) × (0 < q j) × (q j ≤ 256)) (λ j. hlevel le_prop) a.size b.size i;
+    }
 
 pub whole_of : (v : Glass) {k : Canvas} → k ≡ canvas v → whole k.stride k.height ≡ whole v.stride v.height
 whole_of v e = ap (λ (x : Canvas). whole x.stride x.height) e
@@ -79,10 +90,11 @@ empty_dirty g r m p e f =
 
 -- ---- other flags: their part was lent and came back as fs
 
-module _ {v : Glass} {r : List ℕ} (z : Suits v) (p : Passing (geometry v) r) (fs : List Bool) (n : length fs ≡ cells (geometry v)) {c : List ℕ} (e : c ≡ bytes_of_flags fs) where
+module _ {r : List ℕ} (v : Glass) (p : Passing (geometry v) r) (fs : List Bool) (n : length fs ≡ cells (geometry v)) {c : List ℕ} (e : c ≡ bytes_of_flags fs) where
   pub flags_stored : put_mid v.flags (v.others - v.flags) r c ≡ encode (geometry v) (with_flags fs (decode (geometry v) r))
   flags_stored =
       let g = geometry v in
+      let z = v.suits in
       let long : length c ≡ v.others - v.flags = ap length e ∙ length_flags fs ∙ omega (arith, z.is_others, z.is_flags) in
       part_back v.flags v.others r c (omega (arith, z.is_others, z.is_flags)) long
       ∙ (λ i. with_window (z.is_flags i) (e i) (sym (encode-decode g r p) i))
@@ -92,15 +104,15 @@ module _ {v : Glass} {r : List ℕ} (z : Suits v) (p : Passing (geometry v) r) (
   formed = flags_formed (geometry v) (decode (geometry v) r) (well_formed (geometry v) r p) fs n
 
   pub flags_pass : Passing (geometry v) (put_mid v.flags (v.others - v.flags) r c)
-  flags_pass = rw flags_stored (encode_passing (geometry v) z.glass (with_flags fs (decode (geometry v) r)) formed)
+  flags_pass = rw flags_stored (encode_passing (geometry v) v.suits.glass (with_flags fs (decode (geometry v) r)) formed)
 
   pub flags_state : decode (geometry v) (put_mid v.flags (v.others - v.flags) r c) ≡ with_flags fs (decode (geometry v) r)
-  flags_state = ap (decode (geometry v)) flags_stored ∙ decode-encode (geometry v) (with_flags fs (decode (geometry v) r)) z.glass formed
+  flags_state = ap (decode (geometry v)) flags_stored ∙ decode-encode (geometry v) (with_flags fs (decode (geometry v) r)) v.suits.glass formed
 
 -- no flags: the part was cleared
-pub clears_flags : {v : Glass} {r : List ℕ} → Suits v → Passing (geometry v) r → {c : List ℕ} → c ≡ zeros (length (take (v.others - v.flags) (drop v.flags r)))
+pub clears_flags : {r : List ℕ} (v : Glass) → Passing (geometry v) r → {c : List ℕ} → c ≡ zeros (length (take (v.others - v.flags) (drop v.flags r)))
     → put_mid v.flags (v.others - v.flags) r c ≡ encode (geometry v) (with_flags (clear_flags (geometry v)) (decode (geometry v) r))
-clears_flags {v} {r} z p {c} e =
+clears_flags {r} v p {c} e =
     let g = geometry v in
-    let none : c ≡ bytes_of_flags (clear_flags g) = cc (flags-part v r z, length_part g flags r (has_flags g) p.sized, no_flags (cells g)) in
-    flags_stored z p (clear_flags g) (length_no_flags (cells g)) none
+    let none : c ≡ bytes_of_flags (clear_flags g) = cc (flags-part v r, length_part g flags r (has_flags g) p.sized, no_flags (cells g)) in
+    flags_stored v p (clear_flags g) (length_no_flags (cells g)) none

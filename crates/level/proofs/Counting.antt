@@ -1,16 +1,10 @@
 -- Differing pixels counted by bytes: the bits that are set in the exclusive or of two bytes.
-use mathlib.Core.Path.{◌≡◌, refl, sym, ap, ap₂, ◌∙◌}
-use mathlib.Core.List.{List}
-use Prim.Native.Nat.{ℕ, zero, suc, ◌+◌, ◌-◌, ◌*◌, ◌/◌, ◌%◌, ◌^◌, ◌≤◌, ◌<◌}
-use native.Mathlib.Nat.{add_assoc}
-use native.Mathlib.Numerals.{add-one}
-use native.Mathlib.Omega.{arith}
-use lib.Dec.{eqb}
+use Rattle.std.proofs.Common.{◌≡◌, ℕ, zero, suc, ◌+◌, ◌*◌, ◌/◌, ◌%◌, ◌^◌, ◌≤◌, ◌<◌, List, [], ◌∷◌, length, refl, sym, ap, ap₂, ◌∙◌, add-one, arith}
 use lib.Bits.{bit_xor, differ, xor_step, xor_lt}
 use lib.Count.{ones, ones_in, ones_step, ones-le}
+use Rattle.std.proofs.Math.Dec.{eqb}
+use Rattle.std.proofs.Math.Nat.{add_assoc}
 use lib.Pow.{shr-shr}
-use lib.ListN.{length, get_or, drop, drop_of_length-le}
-use lib.Seq.{drop-cons}
 use Rattle.model.specs.Geometry.{base, screen_bytes}
 use Rattle.model.specs.Bits.{bit_at}
 use Rattle.model.specs.declared.Rect.{Rect}
@@ -63,33 +57,23 @@ ones_differ a b h k =
 pub ones_small : (a b : ℕ) → a < 256 → b < 256 → ones (bit_xor a b) ≤ 8
 ones_small a b h k = ones-le 8 (bit_xor a b) (xor_lt 8 a b h k)
 
--- ---- the walk over two lists
+-- ---- the walk over two lists: n is counted, and what is left of the lists adds the rest
 
-pub count_turn : (n i m d : ℕ) (s p : List ℕ) → n + bytes_differ (drop i s) (drop i p) ≡ m → i < length s → length s ≡ screen_bytes base → length p ≡ screen_bytes base → d ≡ byte_differs (get_or s i 0) (get_or p i 0)
-    → n + d + bytes_differ (drop (i + 1) s) (drop (i + 1) p) ≡ m
+pub count_turn : (n m d a b : ℕ) (s p s' p' : List ℕ) → n + bytes_differ s p ≡ m → s ≡ a ∷ s' → p ≡ b ∷ p' → d ≡ byte_differs a b → n + d + bytes_differ s' p' ≡ m
 unfolding bytes_differ
-count_turn n i m d s p e h hs hp f =
-    let k : i < length p = omega arith in
-    ap (λ (j : ℕ). n + d + bytes_differ (drop j s) (drop j p)) (add-one i)
-    ∙ omega (arith, rw (drop-cons s i 0 h, drop-cons p i 0 k) at e)
+count_turn n m d a b s p s' p' e f g h = omega (arith, rw (f, g) at e)
 
-pub count_end : (n i : ℕ) (s p : List ℕ) → n + bytes_differ (drop i s) (drop i p) ≡ bytes_differ s p → length s ≤ i → length s ≡ screen_bytes base → length p ≡ screen_bytes base
-    → n ≡ differing base s p
+pub count_end : (n : ℕ) (s p s' p' : List ℕ) → n + bytes_differ s' p' ≡ bytes_differ s p → s' ≡ [] → length s ≡ screen_bytes base → length p ≡ screen_bytes base → n ≡ differing base s p
 unfolding bytes_differ
-count_end n i s p e h hs hp =
-    let z : bytes_differ (drop i s) (drop i p) ≡ 0 = rw (drop_of_length-le s h) in
-    omega arith ∙ sym (differing_bytes base s p hs hp)
+count_end n s p s' p' e f hs hp = omega (arith, rw f at e) ∙ sym (differing_bytes base s p hs hp)
 
 -- ---- lines left: n is counted, and the bands that are left add the rest
 
-pub left_turn : (left place n m d : ℕ) (r : List ℕ) (q : Rect) → n + owed_lines (rects_at left r place) ≡ m → 0 < left → q ≡ rect_at r place → d ≡ lines_of q
-    → n + d + owed_lines (rects_at (left - 1) r (place + 8)) ≡ m
+pub left_turn : (left next place behind n m d : ℕ) (r : List ℕ) (q : Rect) → n + owed_lines (rects_at left r place) ≡ m → left ≡ suc next → behind ≡ place + 8 → q ≡ rect_at r place → d ≡ lines_of q
+    → n + d + owed_lines (rects_at next r behind) ≡ m
 unfolding owed_lines
-left_turn zero place n m d r q e h p f = absurd (omega arith)
-left_turn (suc k) place n m d r q e h p f = let i : suc k - 1 ≡ k = omega arith in rw i (omega (arith, ap lines_of p))
+left_turn left next place behind n m d r q e l b p f = rw b (omega (arith, f, ap lines_of p, rw l at e))
 
-pub left_end : (left place hand end n m d : ℕ) (r : List ℕ) (q : Rect) → n + owed_lines (rects_at left r place) ≡ m → left ≤ 0 → hand ≡ end → q ≡ rect_at r hand → d ≡ lines_of q
-    → d + n ≡ lines_of (rect_at r end) + m
+pub left_end : (left place n m : ℕ) (r : List ℕ) → n + owed_lines (rects_at left r place) ≡ m → left ≡ 0 → n ≡ m
 unfolding owed_lines
-left_end zero place hand end n m d r q e h i p f = rw (← i) (omega (arith, ap lines_of p))
-left_end (suc k) place hand end n m d r q e h i p f = absurd (omega arith)
+left_end left place n m r e l = omega (arith, rw l at e)

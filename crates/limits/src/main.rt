@@ -4,8 +4,12 @@
 // document 01 and the steps of the source.
 #![tactic(auto)]
 
-use caption::{ellipses, flushes, open, points, poke, sends};
+use caption::{answer, ellipses, flushes, open, points, poke, sends};
 use model::glass::{MEMORY_BYTES, RECORD_BYTES, SCREEN_BYTES};
+use model::refusal::Refusal;
+use standard_output::StandardOutput;
+use std::fmt;
+use std::fmt::Write;
 
 // Open's graphics base; a circle's radius or an ellipse's two, then the fill flag; a send's panel; the pair that a flush shows, then the entries of its extra list.
 #[derive(Clone, Copy)]
@@ -17,77 +21,36 @@ enum Call {
     Flush(u8, u8, u8),
 }
 
-fn print_number(n: u64) {
-    io::write_all(1, b" ");
-    io::print_decimal(1, n);
-}
-
-fn print_byte(byte: u8) {
-    print_number(byte as u64);
-}
-
-fn print_three(name: &[u8], first: u8, second: u8, third: u8) {
-    io::write_all(1, name);
-    print_byte(first);
-    print_byte(second);
-    print_byte(third);
-}
-
-fn print_call(call: Call) {
-    match call {
-        Call::Open(graphics) => {
-            io::write_all(1, b"open");
-            print_number(graphics as u64);
+impl fmt::Display for Call {
+    fn fmt<W: fmt::Write>(&self, f: &mut fmt::Formatter<W>) -> fmt::Result {
+        match *self {
+            Call::Open(graphics) => write!(f, "open {graphics}"),
+            Call::Circle(r, fill) => write!(f, "circle {r} {fill}"),
+            Call::Ellipse(rx, ry, fill) => write!(f, "ellipse {rx} {ry} {fill}"),
+            Call::Send(number) => write!(f, "send {number}"),
+            Call::Flush(lead, trail, entries) => write!(f, "flush {lead} {trail} {entries}"),
         }
-        Call::Circle(r, fill) => {
-            io::write_all(1, b"circle");
-            print_byte(r);
-            print_byte(fill);
-        }
-        Call::Ellipse(rx, ry, fill) => print_three(b"ellipse", rx, ry, fill),
-        Call::Send(number) => {
-            io::write_all(1, b"send");
-            print_byte(number);
-        }
-        Call::Flush(lead, trail, entries) => print_three(b"flush", lead, trail, entries),
     }
-}
-
-// The bytes are pixels 0-7 and 120-127 of line 40 of a screen at 4,096, and the last two of memory.
-fn print_result(code: u32, stays: bool, memory: &[u8; MEMORY_BYTES]) {
-    io::write_all(1, b":");
-    print_number(code as u64);
-    print_number(stays as u64);
-    print_byte(memory[4896]);
-    print_byte(memory[4911]);
-    print_byte(memory[65534]);
-    print_byte(memory[65535]);
-    io::write_all(1, b"\n");
 }
 
 // V2, no keys, the text from byte 0 on; then a point at the last pixel, in the screen's last byte. The highest screen ends one byte before memory does.
-fn open_at(rec: &mut [u8], memory: &mut [u8], graphics: u16) -> u32 {
-    let code = open::caption_open(rec, memory, graphics, 0, 1, 0, 0, 0, 0, 0, 0, 0, 0, 0);
-    if code == 0 {
-        points::caption_draw_point(rec, memory, 159, 79, 1);
-    }
-    code
+fn open_at(rec: &mut [u8], memory: &mut [u8], graphics: u16) -> Result<(), Refusal> {
+    open::caption_open(rec, memory, graphics, 0, 1, 0, 0, 0, 0, 0, 0, 0, 0, 0)?;
+    points::caption_draw_point(rec, memory, 159, 79, 1)
 }
 
 // A pair stands at row 2, column 0: line 40 begins with the lower digit of its lead, or with line 8 of its glyph.
-fn prepare(rec: &mut [u8], memory: &mut [u8], call: Call) {
-    open_at(rec, memory, 4096);
-    match call {
-        Call::Flush(lead, trail, entries) => {
-            poke::caption_write_byte(rec, memory, 40, lead);
-            poke::caption_write_byte(rec, memory, 41, trail);
-        }
-        _ => {}
+fn prepare(rec: &mut [u8], memory: &mut [u8], call: Call) -> Result<(), Refusal> {
+    open_at(rec, memory, 4096)?;
+    if let Call::Flush(lead, trail, _) = call {
+        poke::caption_write_byte(rec, memory, 40, lead)?;
+        poke::caption_write_byte(rec, memory, 41, trail)?;
     }
+    Ok(())
 }
 
 // Digits of 85s; the one entry is for 0xAFFE, with a glyph of 15s. The other fonts are empty.
-fn flush(rec: &mut [u8], memory: &mut [u8], entries: u8) -> u32 {
+fn flush(rec: &mut [u8], memory: &mut [u8], entries: u8) -> Result<(), Refusal> {
     let ascii8 = [85u8; 568];
     let extra = [15u8; 32];
     if entries == 0 {
@@ -106,63 +69,70 @@ fn flush(rec: &mut [u8], memory: &mut [u8], entries: u8) -> u32 {
 }
 
 // Shapes have their centre at (127, 40).
-fn make_call(rec: &mut [u8], memory: &mut [u8], panel: &mut [u8], call: Call) -> u32 {
+fn make_call(
+    rec: &mut [u8],
+    memory: &mut [u8],
+    panel: &mut [u8],
+    call: Call,
+) -> Result<(), Refusal> {
     match call {
         Call::Open(graphics) => open_at(rec, memory, graphics),
         Call::Circle(r, fill) => ellipses::caption_draw_circle(rec, memory, 127, 40, r, fill, 1),
         Call::Ellipse(rx, ry, fill) => {
             ellipses::caption_draw_ellipse(rec, memory, 127, 40, rx, ry, fill, 1)
         }
-        Call::Send(number) => {
-            let s = sends::caption_send(rec, memory, panel, number);
-            s.code
-        }
-        Call::Flush(lead, trail, entries) => flush(rec, memory, entries),
+        Call::Send(number) => sends::caption_send(rec, memory, panel, number).map(|_| ()),
+        Call::Flush(_, _, entries) => flush(rec, memory, entries),
     }
 }
 
-// Each call is made on a screen at 4,096 that has the last pixel set alone.
+// Each call is made on a screen at 4,096 that has the last pixel set alone. The bytes are pixels 0-7 and 120-127 of line 40 of that screen, and the last two of memory.
 fn run(call: Call) {
     let mut rec = [0u8; RECORD_BYTES];
     let mut memory = [0u8; MEMORY_BYTES];
     let mut panel = [255u8; SCREEN_BYTES];
-    prepare(&mut rec, &mut memory, call);
+    let _ = prepare(&mut rec, &mut memory, call);
     let kept_rec = rec;
     let kept_memory = memory;
     let kept_panel = panel;
-    let code = make_call(&mut rec, &mut memory, &mut panel, call);
-    let stays = check::same(&rec, &kept_rec)
-        & check::same(&memory, &kept_memory)
-        & check::same(&panel, &kept_panel);
-    print_call(call);
-    print_result(code, stays, &memory);
+    let code = answer::code(make_call(&mut rec, &mut memory, &mut panel, call));
+    let stays = u8::from(rec == kept_rec && memory == kept_memory && panel == kept_panel);
+    let [a, b, c, d] = [memory[4896], memory[4911], memory[65534], memory[65535]];
+    let _ = writeln!(StandardOutput, "{call}: {code} {stays} {a} {b} {c} {d}");
+}
+
+fn run_all(calls: &[Call]) {
+    for call in calls {
+        run(*call);
+    }
 }
 
 fn run_radii(fill: u8) {
-    run(Call::Circle(127, fill));
-    run(Call::Circle(128, fill));
-    run(Call::Ellipse(127, 3, fill));
-    run(Call::Ellipse(128, 3, fill));
-    run(Call::Ellipse(3, 127, fill));
-    run(Call::Ellipse(3, 128, fill));
+    run_all(&[
+        Call::Circle(127, fill),
+        Call::Circle(128, fill),
+        Call::Ellipse(127, 3, fill),
+        Call::Ellipse(128, 3, fill),
+        Call::Ellipse(3, 127, fill),
+        Call::Ellipse(3, 128, fill),
+    ]);
 }
 
 fn run_leads() {
-    run(Call::Flush(169, 254, 0));
-    run(Call::Flush(170, 161, 0));
-    run(Call::Flush(175, 254, 0));
-    run(Call::Flush(176, 161, 0));
-    run(Call::Flush(170, 161, 1));
-    run(Call::Flush(175, 254, 1));
+    run_all(&[
+        Call::Flush(169, 254, 0),
+        Call::Flush(170, 161, 0),
+        Call::Flush(175, 254, 0),
+        Call::Flush(176, 161, 0),
+        Call::Flush(170, 161, 1),
+        Call::Flush(175, 254, 1),
+    ]);
 }
 
 fn main() {
-    run(Call::Open(63935));
-    run(Call::Open(63936));
+    run_all(&[Call::Open(63935), Call::Open(63936)]);
     run_radii(0);
     run_radii(1);
-    run(Call::Send(3));
-    run(Call::Send(4));
-    run(Call::Send(255));
+    run_all(&[Call::Send(3), Call::Send(4), Call::Send(255)]);
     run_leads();
 }

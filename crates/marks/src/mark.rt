@@ -1,15 +1,14 @@
 // Marks, on the structs by value.
-ghost use Rattle.std.specs.Prelude.{◌≡◌, ◌≤◌};
+ghost use Rattle.std.specs.Prelude.{◌≡◌};
 ghost use Rattle.model.specs.Rects.{none};
 ghost use Rattle.model.specs.Marks.{whole};
 ghost use Rattle.model.specs.Print.{scroll_mark};
 
 use crate::rect;
-use crate::span::no_marks;
+use crate::span::{no_marks, owed_as_is};
 use model::{Canvas, Marks, Rect};
 
 pub fn whole_screen(canvas: Canvas) -> Rect
-    requires { (canvas.stride ≤ 32) × (canvas.height ≤ 256) }
     ensures { result ≡ whole canvas.stride canvas.height }
 {
     Rect {
@@ -21,14 +20,9 @@ pub fn whole_screen(canvas: Canvas) -> Rect
 }
 
 pub fn whole_marks(canvas: Canvas) -> Marks
-    requires { (canvas.stride ≤ 32) × (canvas.height ≤ 256) }
     ensures { (result.dirty ≡ whole canvas.stride canvas.height) × (result.owed ≡ whole canvas.stride canvas.height) }
 {
-    let screen = whole_screen(canvas);
-    Marks {
-        dirty: screen,
-        owed: screen,
-    }
+    owed_as_is(whole_screen(canvas))
 }
 
 // What is owed, with nothing dirty.
@@ -37,13 +31,13 @@ pub fn owed_marks(owed: Rect) -> Marks
 {
     Marks {
         dirty: rect::empty(),
-        owed: owed,
+        owed,
     }
 }
 
 // After n scrolls in Graph: they owe the whole screen, and mark nothing.
+#[tactic(auto, unfolding(model::specs::Print::scroll_mark))]
 pub fn scroll_marks(canvas: Canvas, n: usize) -> Marks
-    requires { (canvas.stride ≤ 32) × (canvas.height ≤ 256) }
     ensures { (result.dirty ≡ none) × (result.owed ≡ scroll_mark canvas.stride canvas.height n) }
 {
     if n == 0 {

@@ -24,7 +24,7 @@ pub fn clamp(z: usize, size: usize) -> usize
     requires { 0 < size }
     ensures { result ≡ min z (size - 1) }
 {
-    if z < size { z } else { size - 1 }
+    z.min(size - 1)
 }
 
 fn clamp_mark(z: u16, size: usize) -> u16
@@ -34,8 +34,8 @@ fn clamp_mark(z: u16, size: usize) -> u16
     clamp(z as usize, size) as u16
 }
 
+#[tactic(auto, unfolding(model::specs::Rects::lowered))]
 fn lower(canvas: Canvas, q: Rect) -> Rect
-    requires { (0 < canvas.stride) × (canvas.stride ≤ 32) × (0 < canvas.height) × (canvas.height ≤ 256) }
     ensures { result ≡ lowered (8 * canvas.stride) canvas.height q }
 {
     Rect {
@@ -54,8 +54,8 @@ pub fn owed_as_is(q: Rect) -> Marks
 }
 
 // Of horizontals that are clamped a mark is owed lowered, of those that stop as it is.
+#[tactic(auto, unfolding(model::specs::Lines::owed_by))]
 fn owed_by(canvas: Canvas, edge: Edge, q: Rect) -> Rect
-    requires { (0 < canvas.stride) × (canvas.stride ≤ 32) × (0 < canvas.height) × (canvas.height ≤ 256) }
     ensures { result ≡ owed_by canvas.stride canvas.height edge q }
 {
     match edge {
@@ -66,7 +66,6 @@ fn owed_by(canvas: Canvas, edge: Edge, q: Rect) -> Rect
 
 // A mark owed by the edge flag.
 pub fn owed_by_edge(canvas: Canvas, edge: Edge, q: Rect) -> Marks
-    requires { (0 < canvas.stride) × (canvas.stride ≤ 32) × (0 < canvas.height) × (canvas.height ≤ 256) }
     ensures { result ≡ marks_by canvas.stride canvas.height edge q }
 {
     Marks {
@@ -82,7 +81,6 @@ pub fn span_marks(left: u8, top: u8, right: u8, bottom: u8) -> Marks
 }
 
 pub fn edge_marks(canvas: Canvas, edge: Edge, left: u8, top: u8, right: u8, bottom: u8) -> Marks
-    requires { (0 < canvas.stride) × (canvas.stride ≤ 32) × (0 < canvas.height) × (canvas.height ≤ 256) }
     ensures { result ≡ marks_by canvas.stride canvas.height edge (span_rect left top right bottom) }
 {
     owed_by_edge(canvas, edge, span(left, top, right, bottom))

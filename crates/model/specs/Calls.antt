@@ -1,10 +1,12 @@
 -- The exported calls: for each its refusals in testing order, and what it answers and leaves. Every exported contract cites `outcome`.
-use Rattle.std.specs.Prelude.{Bool, true, cond, ◌&&◌, List, [], ◌∷◌, ◌++◌, ℕ, zero, suc, ◌%◌, leb, ltb, eqb, ℤ, length}
+use Rattle.std.specs.Prelude.{Bool, true, cond, ◌&&◌, List, [], ◌∷◌, ◌++◌, ℕ, zero, suc, ◌%◌, leb, ltb, eqb, ℤ, length, Option, Some, None, Result, Ok, Err}
 use Rattle.model.specs.declared.Head.{Head}
 use Rattle.model.specs.declared.Edge.{Edge}
 use Rattle.model.specs.declared.Value.{Value}
 use Rattle.model.specs.declared.Area.{Area}
 use Rattle.model.specs.declared.Sent.{Sent}
+use Rattle.model.specs.declared.SentLine.{SentLine}
+use Rattle.model.specs.declared.refusal.Refusal.{Refusal}
 use Rattle.model.specs.Geometry.{Geometry, height, rows, columns, screen_bytes, memory_bytes}
 use Rattle.model.specs.Rects.{Rect, none}
 use Rattle.model.specs.Memory.{screen_of, with_screen}
@@ -76,6 +78,20 @@ area_numbers a = a.left ∷ a.top ∷ a.right ∷ a.bottom ∷ []
 
 abbrev pub sent_numbers : Sent → List ℕ
 sent_numbers s = s.sent ∷ s.line ∷ s.left ∷ s.right ∷ []
+
+-- those of a send: 1 and the line, or 0 for idle
+abbrev pub line_sent_numbers : Option SentLine → List ℕ
+line_sent_numbers None = 0 ∷ 0 ∷ 0 ∷ 0 ∷ []
+line_sent_numbers (Some s) = 1 ∷ s.line ∷ s.left ∷ s.right ∷ []
+
+-- those of what may be refused: with a refusal n zeros
+abbrev pub nought : ℕ → List ℕ
+nought zero = []
+nought (suc n) = 0 ∷ nought n
+
+abbrev pub numbers_beside : {A : Type 0} → ℕ → (A → List ℕ) → Result A Refusal → List ℕ
+numbers_beside n f (Ok x) = f x
+numbers_beside n f (Err e) = nought n
 
 -- ---- what a call is lent
 
@@ -277,10 +293,6 @@ done g (send k) l =
     (lent (encode g (with_panel k (send_pending p) s)) l.memory (send_panel g.stride p (screen_of g s.head.graphics l.memory) l.panel))
 
 -- ---- the outcome on every input: a refusal leaves all bytes, and its other numbers are 0
-
-abbrev pub nought : ℕ → List ℕ
-nought zero = []
-nought (suc n) = 0 ∷ nought n
 
 unfoldable pub refused : Call → Lent → ℕ → Outcome
 refused c l k = answered k (nought (numbers c)) l

@@ -1,8 +1,8 @@
 -- The glass controller: a device of eight byte registers and a panel. What STATE asks of the registers, and what a write and a read do.
-use Rattle.std.specs.Prelude.{Bool, true, false, cond, not, ◌&&◌, ◌||◌, List, [], ◌∷◌, ℕ, zero, suc, ◌+◌, ◌-◌, ◌*◌, ◌/◌, ◌%◌, leb, ltb, eqb, length, get_or, set}
+use Rattle.std.specs.Prelude.{Bool, true, false, cond, not, ◌&&◌, ◌||◌, List, [], ◌∷◌, ℕ, zero, suc, ◌+◌, ◌-◌, ◌*◌, ◌/◌, ◌%◌, leb, ltb, eqb, length, get_or, set, Option, Some, None}
 use Rattle.model.specs.declared.Registers.{Registers}
 use Rattle.model.specs.declared.Register.{Register}
-use Rattle.model.specs.declared.Register.TheVariants.{Command, Line, First, Count, Data, Status, Enable, Reset, Beyond}
+use Rattle.model.specs.declared.Register.TheVariants.{Command, Line, First, Count, Data, Status, Enable, Reset}
 use Rattle.model.specs.Geometry.{Geometry, height, screen_bytes}
 use Rattle.model.specs.Memory.{zeros}
 use Rattle.model.specs.Rects.{every}
@@ -10,16 +10,17 @@ use Rattle.model.specs.Refusals.{LENT, STATE, REGISTER, Test, test, refusal, rul
 
 -- ---- the registers
 
-abbrev pub register_of : ℕ → Register
-register_of zero = Command
-register_of (suc zero) = Line
-register_of (suc (suc zero)) = First
-register_of (suc (suc (suc zero))) = Count
-register_of (suc (suc (suc (suc zero)))) = Data
-register_of (suc (suc (suc (suc (suc zero))))) = Status
-register_of (suc (suc (suc (suc (suc (suc zero)))))) = Enable
-register_of (suc (suc (suc (suc (suc (suc (suc zero))))))) = Reset
-register_of (suc (suc (suc (suc (suc (suc (suc (suc n)))))))) = Beyond
+-- a number above 7 names none
+abbrev pub register_of : ℕ → Option Register
+register_of zero = Some Command
+register_of (suc zero) = Some Line
+register_of (suc (suc zero)) = Some First
+register_of (suc (suc (suc zero))) = Some Count
+register_of (suc (suc (suc (suc zero)))) = Some Data
+register_of (suc (suc (suc (suc (suc zero))))) = Some Status
+register_of (suc (suc (suc (suc (suc (suc zero)))))) = Some Enable
+register_of (suc (suc (suc (suc (suc (suc (suc zero))))))) = Some Reset
+register_of (suc (suc (suc (suc (suc (suc (suc (suc n)))))))) = None
 
 abbrev pub register_bytes : ℕ
 register_bytes = 8
@@ -65,16 +66,16 @@ registers_fit g r = every (register_tests g r)
 -- ---- a write of v: which the device takes, and what it leaves
 
 -- command, line, first byte and count only while not busy, data only while busy; status never
-unfoldable pub takes_write : Geometry → Registers → Register → ℕ → Bool
-takes_write g r Command v = not (busy r) && (leb v 1 || (eqb v 2 && line_fits g r))
-takes_write g r Line v = not (busy r)
-takes_write g r First v = not (busy r)
-takes_write g r Count v = not (busy r)
-takes_write g r Data v = busy r
-takes_write g r Status v = false
-takes_write g r Enable v = leb v 1
-takes_write g r Reset v = true
-takes_write g r Beyond v = false
+unfoldable pub takes_write : Geometry → Registers → Option Register → ℕ → Bool
+takes_write g r (Some Command) v = not (busy r) && (leb v 1 || (eqb v 2 && line_fits g r))
+takes_write g r (Some Line) v = not (busy r)
+takes_write g r (Some First) v = not (busy r)
+takes_write g r (Some Count) v = not (busy r)
+takes_write g r (Some Data) v = busy r
+takes_write g r (Some Status) v = false
+takes_write g r (Some Enable) v = leb v 1
+takes_write g r (Some Reset) v = true
+takes_write g r None v = false
 
 -- command 2 sets busy
 abbrev pub command_status : Registers → ℕ → ℕ
@@ -85,32 +86,32 @@ abbrev pub data_status : Registers → ℕ
 data_status r = cond (eqb (r.count - 1) 0) (status_of false (interrupt r || enabled r)) r.status
 
 -- the byte stays in its register; data raises the first byte and lowers the count; reset clears all
-unfoldable pub registers_after : Registers → Register → ℕ → Registers
-registers_after r Command v = registers v r.line r.first r.count r.byte (command_status r v) r.enable r.reset
-registers_after r Line v = registers r.command v r.first r.count r.byte r.status r.enable r.reset
-registers_after r First v = registers r.command r.line v r.count r.byte r.status r.enable r.reset
-registers_after r Count v = registers r.command r.line r.first v r.byte r.status r.enable r.reset
-registers_after r Data v = registers r.command r.line (r.first + 1) (r.count - 1) v (data_status r) r.enable r.reset
-registers_after r Status v = r
-registers_after r Enable v = registers r.command r.line r.first r.count r.byte r.status v r.reset
-registers_after r Reset v = registers 0 0 0 0 0 0 0 0
-registers_after r Beyond v = r
+unfoldable pub registers_after : Registers → Option Register → ℕ → Registers
+registers_after r (Some Command) v = registers v r.line r.first r.count r.byte (command_status r v) r.enable r.reset
+registers_after r (Some Line) v = registers r.command v r.first r.count r.byte r.status r.enable r.reset
+registers_after r (Some First) v = registers r.command r.line v r.count r.byte r.status r.enable r.reset
+registers_after r (Some Count) v = registers r.command r.line r.first v r.byte r.status r.enable r.reset
+registers_after r (Some Data) v = registers r.command r.line (r.first + 1) (r.count - 1) v (data_status r) r.enable r.reset
+registers_after r (Some Status) v = r
+registers_after r (Some Enable) v = registers r.command r.line r.first r.count r.byte r.status v r.reset
+registers_after r (Some Reset) v = registers 0 0 0 0 0 0 0 0
+registers_after r None v = r
 
 -- the panel byte that data goes to
 abbrev pub data_place : Geometry → Registers → ℕ
 data_place g r = g.stride * r.line + r.first
 
 -- command 1 clears the panel, data stores one byte
-unfoldable pub panel_after : Geometry → Registers → Register → ℕ → List ℕ → List ℕ
-panel_after g r Command v p = cond (eqb v 1) (zeros (screen_bytes g)) p
-panel_after g r Line v p = p
-panel_after g r First v p = p
-panel_after g r Count v p = p
-panel_after g r Data v p = set p (data_place g r) v
-panel_after g r Status v p = p
-panel_after g r Enable v p = p
-panel_after g r Reset v p = p
-panel_after g r Beyond v p = p
+unfoldable pub panel_after : Geometry → Registers → Option Register → ℕ → List ℕ → List ℕ
+panel_after g r (Some Command) v p = cond (eqb v 1) (zeros (screen_bytes g)) p
+panel_after g r (Some Line) v p = p
+panel_after g r (Some First) v p = p
+panel_after g r (Some Count) v p = p
+panel_after g r (Some Data) v p = set p (data_place g r) v
+panel_after g r (Some Status) v p = p
+panel_after g r (Some Enable) v p = p
+panel_after g r (Some Reset) v p = p
+panel_after g r None v p = p
 
 -- ---- a read of register n: it reads as it stands; status, which is 5, then has its interrupt bit cleared
 

@@ -1,7 +1,5 @@
 -- Glyphs: where a pair's glyph stands, and the byte stores that paint glyphs and hexadecimal codes.
-use Rattle.std.specs.Prelude.{Bool, true, false, cond, ◌&&◌, List, [], ◌∷◌, ◌++◌, ℕ, zero, suc, ◌+◌, ◌-◌, ◌*◌, ◌/◌, ◌%◌, ltb, length, get_or, set}
-use Rattle.model.specs.declared.Found.{Found}
-use Rattle.model.specs.declared.Found.TheVariants.{At, Nothing}
+use Rattle.std.specs.Prelude.{Bool, true, false, cond, ◌&&◌, List, [], ◌∷◌, ◌++◌, ℕ, zero, suc, ◌+◌, ◌-◌, ◌*◌, ◌/◌, ◌%◌, ltb, length, get_or, set, Option, Some, None}
 use Rattle.model.specs.declared.Glyph.{Glyph}
 use Rattle.model.specs.declared.Glyph.TheVariants.{Emoji, Gb, Extra, Hexadecimal}
 use Rattle.model.specs.Codes.{emoji_index, gb_index, extra_offset}
@@ -20,9 +18,9 @@ fonts ascii8 ascii16 gb emoji extra_list extra_font = record { ascii8 = ascii8; 
 
 -- ---- where a pair's glyph stands: emoji, GB, extra list, else hexadecimal codes
 
-unfoldable pub glyph_or : Found → (ℕ → Glyph) → Glyph → Glyph
-glyph_or (At i) found other = found i
-glyph_or Nothing found other = other
+unfoldable pub glyph_or : Option ℕ → (ℕ → Glyph) → Glyph → Glyph
+glyph_or (Some i) found other = found i
+glyph_or None found other = other
 
 unfoldable pub glyph_of : ℕ → List ℕ → ℕ → ℕ → Glyph
 glyph_of version list lead trail =

@@ -1,4 +1,4 @@
--- Document 01 as definitions, in its order; Controller and Driver are the glass controller and the line driver of document 02. Geometry, Bits, Pixels, Rects, Memory and Bytes are its terms, Characters is the bytes of a text; Glass and Flags are forms that its code takes; the other files are its sections.
+-- Document 01 as definitions, in its order; Controller and Driver are the glass controller and the line driver of document 02. Geometry, Bits, Pixels, Rects, Memory and Bytes are its terms, Characters is the bytes of a text; Suits, Glass and Flags are forms that its code takes; the other files are its sections.
 pub mod Geometry
 pub mod Bits
 pub mod Pixels
@@ -7,6 +7,7 @@ pub mod Memory
 pub mod Bytes
 pub mod Flags
 pub mod Record
+pub mod Suits
 pub mod Glass
 pub mod Refusals
 pub mod Marks

@@ -1,4 +1,5 @@
 // The glass by value: its geometry, and what follows from it. A call chooses it by the record's length.
+ghost use Rattle.model.specs.Suits.{GlassNumbers};
 
 #[derive(Clone, Copy)]
 pub struct Glass {
@@ -26,6 +27,7 @@ pub struct Glass {
     pub flags: usize,
     pub others: usize,
     pub edge: usize,
+    pub ghost suits: { GlassNumbers (record { stride = stride; bands = bands; band = band; panels = panels }) reciprocal width height screen rows columns cells graphics text bytes pending keys flags others edge },
 }
 
 // 160 by 80, five bands, four panels. The glass's numbers stand here and nowhere else in the code.

@@ -1,11 +1,14 @@
-// The types that code and definitions share. Every definition of document 01 stands in specs/; no function has a body here.
+// The types that code and definitions share. Every definition of document 01 stands in specs/; of functions only the conversions of modes stand here.
 #![tactic(auto)]
 
+ghost use Rattle.std.specs.Prelude.{◌<◌, ◌≤◌};
+
 pub mod glass;
+mod modes;
 pub mod refusal;
 
 // left < right and top < bottom, right and bottom not included; the empty rectangle is four zeros.
-#[derive(Clone, Copy)]
+#[derive(Clone, Copy, PartialEq, Eq)]
 pub struct Rect {
     pub left: u16,
     pub top: u16,
@@ -34,11 +37,12 @@ pub struct Marks {
     pub owed: Rect,
 }
 
-// What is drawn on: a line in bytes, and how many lines.
+// What is drawn on: a line in bytes, and how many lines. There is a pixel, and coordinates are bytes.
 #[derive(Clone, Copy)]
 pub struct Canvas {
     pub stride: usize,
     pub height: usize,
+    pub ghost size: { (0 < stride) × (stride ≤ 32) × (0 < height) × (height ≤ 256) },
 }
 
 // What a horizontal line does beyond the screen's last column or line: it is clamped to it, or it stops there.
@@ -71,13 +75,6 @@ pub struct Visible {
     pub skip: usize,
     pub from: usize,
     pub to: usize,
-}
-
-// An index or an offset, where there is one.
-#[derive(Clone, Copy)]
-pub enum Found {
-    At(usize),
-    Nothing,
 }
 
 // Where a pair's glyph stands: its index in the emoji or the GB font, its offset in the extra font, or nowhere, so that it shows in hexadecimal.
@@ -116,7 +113,7 @@ pub struct Shown {
 }
 
 // The registers of the glass controller, in the order of their numbers; `byte` is register 4, the last data byte.
-#[derive(Clone, Copy)]
+#[derive(Clone, Copy, Default)]
 pub struct Registers {
     pub command: u8,
     pub line: u8,
@@ -128,7 +125,7 @@ pub struct Registers {
     pub reset: u8,
 }
 
-// A register by its number; `Beyond`: a number above 7.
+// A register by its number, which is 0 to 7 in this order.
 #[derive(Clone, Copy)]
 pub enum Register {
     Command,
@@ -139,10 +136,17 @@ pub enum Register {
     Status,
     Enable,
     Reset,
-    Beyond,
 }
 
-// Results that hold more than a code. With a refusal all numbers but the code are 0.
+// A line that was sent: its number, its first column, and the one after its last.
+#[derive(Clone, Copy)]
+pub struct SentLine {
+    pub line: u16,
+    pub left: u16,
+    pub right: u16,
+}
+
+// What C is answered where that is more than a code. With a refusal all numbers but the code are 0.
 #[derive(Clone, Copy)]
 #[repr(C)]
 pub struct Value {

@@ -14,15 +14,13 @@ pub fn take_owed(rec: &mut [u8], at: usize, bands: usize) -> Rect
     requires { at + 8 * bands ≤ length rec.old }
     ensures { Took bands at rec.old result rec.new }
 {
-    let mut i: usize = 0;
-    while i < bands {
+    for i in 0..bands {
         let a = band_at(at, i);
         if !rects::is_clear(rec, a) {
             let q = rects::load_rect(rec, a);
             rects::store_rect(rec, a, rect::empty());
             return q;
         }
-        i += 1;
     }
     rect::empty()
 }
@@ -32,17 +30,13 @@ pub fn bands_fit(rec: &[u8], at: usize, bands: usize, band: u16, width: u16) -> 
     requires { (at + 8 * bands ≤ length rec.now) × (bands * band ≤ 65535) }
     ensures { result ≡ bands_fit width band 0 (rects_at bands rec.now at) }
 {
-    let mut a = at;
     let mut lo: u16 = 0;
-    let mut left = bands;
-    while left > 0 {
+    for i in 0..bands {
         let hi = lo + band;
-        if !rects::rect_fits(rec, a, width, lo, hi) {
+        if !rects::rect_fits(rec, band_at(at, i), width, lo, hi) {
             return false;
         }
-        a += 8;
         lo = hi;
-        left -= 1;
     }
     true
 }

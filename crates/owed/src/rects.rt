@@ -28,7 +28,7 @@ pub fn load_rect(bytes: &[u8], at: usize) -> Rect
     }
 }
 
-// Four zeros stand there. Tested by bytes: the compiler makes one comparison of eight.
+// Four zeros stand there. Tested by bytes: the compiler makes one comparison of eight, and of two slices that are compared a call with branches.
 pub fn is_clear(bytes: &[u8], at: usize) -> bool
     requires { at + 8 ≤ length bytes.now }
     ensures { result ≡ is_empty (rect_at bytes.now at) }
@@ -44,37 +44,25 @@ pub fn is_clear(bytes: &[u8], at: usize) -> bool
 }
 
 // STATE: an empty rectangle, or a proper one within its limits.
+#[tactic(auto, using(laws::specs::Rects::fits_empty, laws::specs::Rects::fits_proper))]
 pub fn rect_fits(bytes: &[u8], at: usize, w: u16, lo: u16, hi: u16) -> bool
     requires { at + 8 ≤ length bytes.now }
     ensures { result ≡ fits w lo hi (rect_at bytes.now at) }
 {
-    if is_clear(bytes, at) {
-        return true;
-    }
-    rect::is_proper(w, lo, hi, load_rect(bytes, at))
-}
-
-fn rect_bytes(q: Rect) -> [u8; 8]
-    ensures { result ≡ rect_bytes q }
-{
-    [
-        (q.left % 256) as u8,
-        (q.left / 256 % 256) as u8,
-        (q.top % 256) as u8,
-        (q.top / 256 % 256) as u8,
-        (q.right % 256) as u8,
-        (q.right / 256 % 256) as u8,
-        (q.bottom % 256) as u8,
-        (q.bottom / 256 % 256) as u8,
-    ]
+    is_clear(bytes, at) || rect::is_proper(w, lo, hi, load_rect(bytes, at))
 }
 
 pub fn store_rect(bytes: &mut [u8], at: usize, q: Rect)
     requires { at + 8 ≤ length bytes.old }
     ensures { bytes.new ≡ with_window at (rect_bytes q) bytes.old }
 {
-    let b = rect_bytes(q);
-    slices::put_bytes(bytes, at, &b);
+    let sides = [
+        q.left.to_le_bytes(),
+        q.top.to_le_bytes(),
+        q.right.to_le_bytes(),
+        q.bottom.to_le_bytes(),
+    ];
+    slices::put_bytes(bytes, at, sides.as_flattened());
 }
 
 // The rectangle that begins at byte `at`, joined with q, which is not empty. Each side is stored by itself: eight bytes put together of them cost more.
@@ -92,13 +80,14 @@ pub fn join_rect(bytes: &mut [u8], at: usize, q: Rect)
         return;
     }
     let stands = load_rect(bytes, at);
-    slices::store_two(bytes, at, rect::least(stands.left, left));
-    slices::store_two(bytes, at + 2, rect::least(stands.top, top));
-    slices::store_two(bytes, at + 4, rect::greatest(stands.right, right));
-    slices::store_two(bytes, at + 6, rect::greatest(stands.bottom, bottom));
+    slices::store_two(bytes, at, stands.left.min(left));
+    slices::store_two(bytes, at + 2, stands.top.min(top));
+    slices::store_two(bytes, at + 4, stands.right.max(right));
+    slices::store_two(bytes, at + 6, stands.bottom.max(bottom));
 }
 
 // q, which is not empty, owed where a rectangle begins at byte `at`: a whole band is stored, as it holds what is owed there; any other is joined to it.
+#[tactic(auto, unfolding(laws::specs::Owed::owed_at))]
 pub fn owe_rect(bytes: &mut [u8], at: usize, q: Rect, whole: bool)
     requires at_in_bounds { at + 8 ≤ length bytes.old }
     requires q_value { is_empty q ≡ false }

@@ -5,15 +5,6 @@ fn main() {
     let mut script = [0u8; 4097];
     let n = io::read_full(0, &mut script);
     let mut out = [0u8; 163900];
-    let mut rec = [0u8; model::glass::RECORD_BYTES];
-    let mut memory = [0u8; model::glass::MEMORY_BYTES];
-    let mut panel = [0u8; model::glass::SCREEN_BYTES];
-    let end = script_run::runner::run_script(
-        &script[..n],
-        &mut out,
-        &mut rec,
-        &mut memory,
-        &mut panel,
-    );
+    let end = script_run::runner::run_alone(&script[..n], &mut out);
     io::write_all(1, &out[..end]);
 }

@@ -1,12 +1,11 @@
 -- A page with a pair of an empty GB row alone: the walk shows it and blank cells, the extra list decides, and the stores compute to the picture.
-use Rattle.std.specs.Prelude.{◌≡◌, Bool, true, false, ◌&&◌, ℕ, ◌+◌, ◌*◌, ◌/◌, ◌%◌, ◌≤◌, ◌<◌}
+use Rattle.std.specs.Prelude.{◌≡◌, Bool, true, false, ◌&&◌, ℕ, ◌+◌, ◌*◌, ◌/◌, ◌%◌, ◌≤◌, ◌<◌, Some, None}
 use Rattle.std.proofs.Math.Path.{refl, ap}
 use Rattle.std.proofs.Common.{sym, ◌∙◌, inr, add-zero, arith}
 use mathlib.Core.List.{List, [], ◌∷◌, ◌++◌, append-nil}
 use Prim.Native.Char.{code}
 use Rattle.std.proofs.Math.ListN.{length}
 use borrow.Author.Tests.{eq-eqb, ne_eqb, le-ltb, le-leb}
-use Rattle.model.specs.declared.Found.TheVariants.{At, Nothing}
 use Rattle.model.specs.declared.Glyph.{Glyph}
 use Rattle.model.specs.declared.Glyph.TheVariants.{Extra, Hexadecimal}
 use Rattle.model.specs.declared.CellKind.{CellKind}
@@ -144,11 +143,11 @@ module _ (lead trail : ℕ) (from : 170 ≤ lead) (to : lead ≤ 175) where
         leaves l u (flush f) (λ (z : List ℕ). z ≡ screen) (flushed base f s l.memory) m m (rect 0 0 160 80) (down_from 0 0 160)
         (done_where l u (flush f) t (rw w fit, tt)) (ap length new ∙ long) (inr (omega arith)) refl refl new
 
-    pub codes_shown : extra_offset f.extra_list (256 * lead + trail) ≡ Nothing → trail < 256 → 568 ≤ length f.ascii8
+    pub codes_shown : extra_offset f.extra_list (256 * lead + trail) ≡ None → trail < 256 → 568 ≤ length f.ascii8
         → Shows f l (corner (digits_of f.ascii8 lead) (digits_of f.ascii8 trail))
     codes_shown e t h = shown Hexadecimal _ (sym (found_nothing Extra Hexadecimal e refl)) (codes_fit s.flags f t h) (codes-painted s.flags f)
 
-    pub glyph_shown : (i : ℕ) → extra_offset f.extra_list (256 * lead + trail) ≡ At i → i + 32 ≤ length f.extra_font
+    pub glyph_shown : (i : ℕ) → extra_offset f.extra_list (256 * lead + trail) ≡ Some i → i + 32 ≤ length f.extra_font
         → Shows f l (corner_glyph l (window i 32 f.extra_font))
     glyph_shown i e h = shown (Extra i) _ (sym (found_at i Extra Hexadecimal e)) (glyph-fits s.flags f i h) (glyph_painted s.flags f i)
 
@@ -163,4 +162,4 @@ module _ (f : Fonts) (l : Lent) (p : OnePair 0xAF 0xC4 l) where
   pub unassigned_glyph : (i : ℕ) → f.extra_list ≡ two_bytes 0xAFC4 ++ four_bytes i → i < 4294967296 → i + 32 ≤ length f.extra_font
       → Shows f l (corner_glyph l (window i 32 f.extra_font))
   unfolding extra_offset extra_from
-  unassigned_glyph i e b h = glyph_shown 0xAF 0xC4 (omega arith) (omega arith) f l p (rw e) i (rw e (ap At (four_back i b))) h
+  unassigned_glyph i e b h = glyph_shown 0xAF 0xC4 (omega arith) (omega arith) f l p (rw e) i (rw e (ap Some (four_back i b))) h

@@ -1,9 +1,7 @@
 -- The known pictures of document 01 that it stars, both of its scripts, and pictures of our own, from the definitions of crates/model/specs. Picture.antt says what a picture is:
 -- each starts with dirty and owed empty, in any record that passes STATE and over any memory. `script_text` of crates/model/specs/Script/Output.antt is what a script prints.
-use Rattle.std.specs.Prelude.{◌≡◌, List, [], ◌∷◌, ◌++◌, ℕ, ◌+◌, ◌*◌, ◌/◌, ◌%◌, ◌≤◌, ◌<◌, ℤ, pos, negsuc, length, get_or}
+use Rattle.std.specs.Prelude.{◌≡◌, List, [], ◌∷◌, ◌++◌, ℕ, ◌+◌, ◌*◌, ◌/◌, ◌%◌, ◌≤◌, ◌<◌, ℤ, pos, negsuc, length, get_or, Option, Some, None}
 use Prim.Native.Char.{code}
-use Rattle.model.specs.declared.Found.{Found}
-use Rattle.model.specs.declared.Found.TheVariants.{At, Nothing}
 use Rattle.model.specs.declared.Glyph.TheVariants.{Extra, Hexadecimal}
 use Rattle.model.specs.Geometry.{base}
 use Rattle.model.specs.Memory.{zeros, window, with_window}
@@ -53,11 +51,11 @@ abbrev V2 : ℕ
 V2 = 1
 
 -- the emoji index of a code, lead × 256 + trail
-abbrev emoji_of : ℕ → ℕ → Found
+abbrev emoji_of : ℕ → ℕ → Option ℕ
 emoji_of version code = emoji_index version (code / 256) (code % 256)
 
 -- and its GB index
-abbrev gb_of : ℕ → Found
+abbrev gb_of : ℕ → Option ℕ
 gb_of code = gb_index (code / 256) (code % 256)
 
 pub record KnownPictures : Type 0 where
@@ -94,8 +92,8 @@ pub record KnownPictures : Type 0 where
   pub source_refused : (x y : ℤ) (mode : ℕ) → mode ≤ 4 → (l : Lent) → Unmarked l → outcome base (draw (bitmap 65535 x y 9 1 mode)) l ≡ answered SOURCE [] l
   pub source_accepted : (x y : ℤ) (mode : ℕ) → mode ≤ 4 → (l : Lent) → Unmarked l → (outcome base (draw (bitmap 65534 x y 9 1 mode)) l).code ≡ 0
   -- Codes 0xFA46 and 0xFD7D in V1: 0 and 526; so 0xF8A1 and 0xFDD9 in V2
-  pub codes_V1 : (emoji_of V1 0xFA46 ≡ At 0) × (emoji_of V1 0xFD7D ≡ At 526)
-  pub codes_V2 : (emoji_of V2 0xF8A1 ≡ At 0) × (emoji_of V2 0xFDD9 ≡ At 526)
+  pub codes_V1 : (emoji_of V1 0xFA46 ≡ Some 0) × (emoji_of V1 0xFD7D ≡ Some 526)
+  pub codes_V2 : (emoji_of V2 0xF8A1 ≡ Some 0) × (emoji_of V2 0xFDD9 ≡ Some 526)
   -- The point form, then a send, prints `(done)`, `(sent 0 0 160)`, `(end 0 79)`
   pub point_send : script_text (bytes_of "(point (3 0) or)\n(send)\n") ≡ bytes_of "(done)\n(sent 0 0 160)\n(end 0 79)\n"
   -- Send first gives `(sent 0 0 160)`, `(done)`, `(end 1 80)`
@@ -121,7 +119,7 @@ pub record KnownPictures : Type 0 where
   pub disc_beyond : EdgePicture stop (draw (circle 162 10 2 filled or)) [] (rect 160 8 165 80) nothing
   pub disc_clamped : EdgePicture clamp (draw (circle 162 10 2 filled or)) (sets 159 8 ∷ sets 159 9 ∷ sets 159 10 ∷ sets 159 11 ∷ sets 159 12 ∷ []) (rect 160 8 165 80) (down_from 159 8 160)
   -- Our own, of GB 2312-80 and its empty rows, 10-15. Row 16 follows row 9 in the font
-  pub codes_GB : (gb_of 0xA1A1 ≡ At 0) × (gb_of 0xA9FE ≡ At 845) × (gb_of 0xB0A1 ≡ At 846) × (gb_of 0xF7FE ≡ At 7613)
+  pub codes_GB : (gb_of 0xA1A1 ≡ Some 0) × (gb_of 0xA9FE ≡ Some 845) × (gb_of 0xB0A1 ≡ Some 846) × (gb_of 0xF7FE ≡ Some 7613)
   -- A pair of leads 170-175 goes on to the extra list, then to hexadecimal codes
   pub empty_rows : (version : ℕ) (list : List ℕ) (lead trail : ℕ) → 170 ≤ lead → lead ≤ 175
       → glyph_of version list lead trail ≡ glyph_or (extra_offset list (256 * lead + trail)) Extra Hexadecimal
@@ -135,7 +133,7 @@ pub record KnownPictures : Type 0 where
       → i < 4294967296 → i + 32 ≤ length f.extra_font → Shows f l (corner_glyph l (window i 32 f.extra_font))
   -- So every pair of these rows, with any extra list that has no entry for it, and with one that has
   pub empty_row_codes : (lead trail : ℕ) → 170 ≤ lead → lead ≤ 175 → (f : Fonts) (l : Lent) → OnePair lead trail l → length f.extra_list % 6 ≡ 0
-      → extra_offset f.extra_list (256 * lead + trail) ≡ Nothing → trail < 256 → 568 ≤ length f.ascii8
+      → extra_offset f.extra_list (256 * lead + trail) ≡ None → trail < 256 → 568 ≤ length f.ascii8
       → Shows f l (corner (digits_of f.ascii8 lead) (digits_of f.ascii8 trail))
   pub empty_row_glyph : (lead trail : ℕ) → 170 ≤ lead → lead ≤ 175 → (f : Fonts) (l : Lent) → OnePair lead trail l → length f.extra_list % 6 ≡ 0
-      → (i : ℕ) → extra_offset f.extra_list (256 * lead + trail) ≡ At i → i + 32 ≤ length f.extra_font → Shows f l (corner_glyph l (window i 32 f.extra_font))
+      → (i : ℕ) → extra_offset f.extra_list (256 * lead + trail) ≡ Some i → i + 32 ≤ length f.extra_font → Shows f l (corner_glyph l (window i 32 f.extra_font))

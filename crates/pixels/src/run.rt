@@ -4,9 +4,9 @@ ghost use Rattle.model.specs.Pixels.{Screen, draw};
 ghost use Rattle.model.specs.Lines.{pixel_run};
 ghost use Rattle.laws.specs.Masks.{start_mask, end_mask};
 ghost use Rattle.laws.specs.Runs.{masked_bytes};
-ghost use Rattle.pixels.specs.Raster.{mode_of, IsOp};
+ghost use Rattle.pixels.specs.Raster.{mode_of};
 
-use crate::raster::{RasterOp, draw_mask};
+use crate::raster::RasterOp;
 use model::Canvas;
 
 // The pixels of x's byte from x on.
@@ -27,18 +27,16 @@ pub fn end_mask(x: usize) -> u8
 
 // The bytes from `from` up to `to`, whole.
 pub fn draw_bytes(screen: &mut [u8], from: usize, to: usize, op: RasterOp)
-    requires from_le_to { (from ≤ to) × (to ≤ length screen.old) }
-    requires op { IsOp op }
+    requires { (from ≤ to) × (to ≤ length screen.old) }
     ensures { screen.new ≡ masked_bytes screen.old from (to - from) (mode_of op) }
 {
-    let mut at = from;
-    while at < to {
-        draw_mask(screen, at, 255, op);
-        at += 1;
+    for at in from..to {
+        op.draw_mask(screen, at, 255);
     }
 }
 
 // The pixels of line y from left to right, all on the screen.
+#[tactic(auto, using(laws::specs::Runs::line_in))]
 pub fn draw_run(
     canvas: Canvas,
     screen: &mut [u8],
@@ -48,8 +46,7 @@ pub fn draw_run(
     op: RasterOp,
 )
     requires screen { Screen canvas.stride canvas.height screen.old }
-    requires left_le_right { (left ≤ right) × (right < 8 * canvas.stride) × (y < canvas.height) }
-    requires op { IsOp op }
+    requires on_line { (left ≤ right) × (right < 8 * canvas.stride) × (y < canvas.height) }
     ensures { screen.new ≡ draw canvas.stride (pixel_run left y (suc (right - left)) (mode_of op)) screen.old }
 {
     let stride = canvas.stride;
@@ -59,10 +56,10 @@ pub fn draw_run(
     let start = start_mask(left);
     let end = end_mask(right);
     if first == last {
-        draw_mask(screen, line + first, start & end, op);
+        op.draw_mask(screen, line + first, start & end);
         return;
     }
-    draw_mask(screen, line + first, start, op);
+    op.draw_mask(screen, line + first, start);
     draw_bytes(screen, line + first + 1, line + last, op);
-    draw_mask(screen, line + last, end, op);
+    op.draw_mask(screen, line + last, end);
 }

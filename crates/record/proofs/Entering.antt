@@ -1,18 +1,12 @@
 -- The ends of the entry: LENT refused, STATE refused, entered.
-use mathlib.Core.Path.{◌≡◌, sym, ap, ◌∙◌}
-use mathlib.Core.List.{List}
-use mathlib.Core.Bool.{Bool, true, false, ◌&&◌}
-use Prim.Native.Nat.{ℕ, ◌<◌}
-use native.Mathlib.Omega.{arith}
-use borrow.Author.Tests.{eqb-true}
-use lib.Dec.{eqb}
-use lib.ListN.{length, get_or}
+use Rattle.std.proofs.Common.{◌≡◌, sym, ap, ◌∙◌, List, Bool, true, false, ◌&&◌, ℕ, ◌<◌, eqb-true, eqb, length, get_or, Ok, Err}
 use Rattle.model.specs.declared.glass.Glass.{Glass}
 use Rattle.model.specs.Geometry.{Geometry}
 use Rattle.model.specs.Glass.{geometry, glass_of}
 use Rattle.model.specs.Bytes.{Bytes}
 use Rattle.model.specs.Record.{record_bytes, valid}
-use Rattle.model.specs.Refusals.{LENT, STATE, refusal}
+use Rattle.model.specs.Refusals.{refusal}
+use Rattle.model.specs.declared.refusal.Refusal.TheVariants.{Lent, State}
 use Rattle.laws.specs.Tests.{and-true}
 use Rattle.record.specs.Entry.{Chosen, Entered}
 
@@ -27,18 +21,18 @@ module _ {v : Glass} (others : Bool) (r : List ℕ) (k : Chosen (length r) v) wh
   valid_as : {t u : Bool} → t ≡ valid (geometry v) r → t ≡ u → valid (glass_of (length r)) r ≡ u
   valid_as g j = ap (λ (x : Geometry). valid x r) (sym k.glass) ∙ sym g ∙ j
 
-  pub enters : {t : Bool} → ((i : ℕ) → get_or r i 0 < 256) → (eqb (length r) v.bytes && others) ≡ true → t ≡ valid (geometry v) r → t ≡ true → Entered others r 0
+  pub enters : {t : Bool} → ((i : ℕ) → get_or r i 0 < 256) → (eqb (length r) v.bytes && others) ≡ true → t ≡ valid (geometry v) r → t ≡ true → Entered others r (Ok tt)
   unfolding refusal Bytes
   enters b e g j =
       record {
         code = rw (lent_as e, valid_as g j);
-        passing = λ z. record { glass = rw k.glass at k.suits.glass; sized = lent_sized others r k e ∙ ap record_bytes k.glass; bytes = b; passes = valid_as g j };
+        passing = record { glass = rw k.glass at k.suits.glass; sized = lent_sized others r k e ∙ ap record_bytes k.glass; bytes = b; passes = valid_as g j };
       }
 
-  pub breaks_state : {t : Bool} → (eqb (length r) v.bytes && others) ≡ true → t ≡ valid (geometry v) r → t ≡ false → Entered others r STATE
+  pub breaks_state : {t : Bool} → (eqb (length r) v.bytes && others) ≡ true → t ≡ valid (geometry v) r → t ≡ false → Entered others r (Err State)
   unfolding refusal
-  breaks_state s g j = record { code = rw (lent_as s, valid_as g j); passing = λ z. absurd (omega arith) }
+  breaks_state s g j = record { code = rw (lent_as s, valid_as g j); passing = tt }
 
-  pub breaks_lent : (eqb (length r) v.bytes && others) ≡ false → Entered others r LENT
+  pub breaks_lent : (eqb (length r) v.bytes && others) ≡ false → Entered others r (Err Lent)
   unfolding refusal
-  breaks_lent s = record { code = rw (lent_as s); passing = λ z. absurd (omega arith) }
+  breaks_lent s = record { code = rw (lent_as s); passing = tt }

@@ -2,18 +2,19 @@
 ghost use Rattle.record.specs.Entry.{Entered};
 
 use crate::{glass, state};
-use model::refusal;
+use model::refusal::Refusal;
 
-// 0 for a record that passes, or the refusal's number. `others`: the other lent buffers have their lengths.
-pub fn enter(rec: &[u8], others: bool) -> u32
+// Whether a record passes. `others`: the other lent buffers have their lengths.
+pub fn enter(rec: &[u8], others: bool) -> Result<(), Refusal>
     ensures { Entered others rec.now result }
 {
     let glass = glass::glass_of(rec.len());
-    if (rec.len() == glass.bytes) & others {
-        if state::is_valid(rec, glass) {
-            return 0;
-        }
-        return refusal::STATE;
+    let lent = (rec.len() == glass.bytes) & others;
+    if !lent {
+        return Err(Refusal::Lent);
     }
-    refusal::LENT
+    if !state::is_valid(rec, glass) {
+        return Err(Refusal::State);
+    }
+    Ok(())
 }

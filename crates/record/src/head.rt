@@ -6,6 +6,10 @@ use model::Head;
 use owed::rects;
 
 // Where its fields stand.
+pub const GRAPHICS: usize = 0;
+
+pub const TEXT: usize = 2;
+
 pub const ROW: usize = 4;
 
 pub const COLUMN: usize = 5;
@@ -20,13 +24,14 @@ pub const VERSION: usize = 9;
 
 pub const DIRTY: usize = 10;
 
+#[tactic(auto, using(laws::specs::Record::head_equal))]
 pub fn load_head(rec: &[u8]) -> Head
     requires { head_bytes ≤ length rec.now }
     ensures { result ≡ head_of rec.now }
 {
     Head {
-        graphics: slices::load_two(rec, 0),
-        text: slices::load_two(rec, 2),
+        graphics: slices::load_two(rec, GRAPHICS),
+        text: slices::load_two(rec, TEXT),
         row: rec[ROW],
         column: rec[COLUMN],
         screen: rec[SCREEN_MODE],

@@ -1,14 +1,13 @@
 // Where the panels' parts stand in the lent record.
 ghost use Rattle.std.specs.Prelude.{◌≡◌, ◌+◌, ◌*◌, ◌≤◌, ◌<◌};
-ghost use Rattle.model.specs.Glass.{geometry, Suits};
+ghost use Rattle.model.specs.Glass.{geometry};
 ghost use Rattle.model.specs.Record.{at, panel};
 
 use model::glass::{Glass, HEAD_BYTES};
 
 // Where panel k's part begins.
 pub fn panel_at(glass: Glass, k: usize) -> usize
-    requires suits { Suits glass }
-    requires k_lt_panels { k < glass.panels }
+    requires { k < glass.panels }
     ensures { result ≡ at (geometry glass) (panel k) }
 {
     if k == 0 {
@@ -18,9 +17,9 @@ pub fn panel_at(glass: Glass, k: usize) -> usize
 }
 
 // Where the count of lines sent stands in the part that begins at byte `at`: behind the bands and the rectangle in hand.
-pub fn sent_at(glass: Glass, at: usize) -> usize
-    requires { at + 8 * glass.bands + 12 ≤ 65535 }
-    ensures { result ≡ at + 8 * glass.bands + 8 }
+pub fn sent_at(bands: usize, at: usize) -> usize
+    requires { at + 8 * bands + 12 ≤ 65535 }
+    ensures { result ≡ at + 8 * bands + 8 }
 {
-    at + 8 * glass.bands + 8
+    at + 8 * bands + 8
 }

@@ -1,6 +1,6 @@
 // STATE: what every part of a record must be, for the glass that is told.
 ghost use Rattle.std.specs.Prelude.{◌≡◌, ◌<◌, length};
-ghost use Rattle.model.specs.Glass.{geometry, Suits};
+ghost use Rattle.model.specs.Glass.{geometry};
 ghost use Rattle.model.specs.Record.{at, panel, record_bytes, pending_of, windows, head_fits, edge_fits, pending_fits, valid};
 ghost use Rattle.laws.specs.StateTest.{panels_fit};
 
@@ -11,8 +11,8 @@ use model::glass::Glass;
 use owed::{bands, rects};
 
 // WINDOW: both windows lie in memory and share no byte.
+#[tactic(auto, using(laws::specs::StateTest::windows_is))]
 pub fn windows_fit(glass: Glass, graphics: u16, text: u16) -> bool
-    requires { Suits glass }
     ensures { result ≡ windows (geometry glass) graphics text }
 {
     (graphics <= glass.graphics)
@@ -21,8 +21,8 @@ pub fn windows_fit(glass: Glass, graphics: u16, text: u16) -> bool
             | ((text as usize) + glass.cells <= (graphics as usize)))
 }
 
+#[tactic(auto, using(laws::specs::StateTest::head_is))]
 fn head_fits(glass: Glass, h: Head) -> bool
-    requires { Suits glass }
     ensures { result ≡ head_fits (geometry glass) h }
 {
     let dirty = h.dirty;
@@ -44,38 +44,30 @@ pub fn edge_fits(edge: u8) -> bool
 }
 
 fn pending_fits(rec: &[u8], glass: Glass, k: usize) -> bool
-    requires suits { Suits glass }
-    requires rec_len { (length rec.now ≡ record_bytes (geometry glass)) × (k < glass.panels) }
+    requires { (length rec.now ≡ record_bytes (geometry glass)) × (k < glass.panels) }
     ensures { result ≡ pending_fits (geometry glass) (pending_of (geometry glass) rec.now (at (geometry glass) (panel k))) }
 {
     let a = panels::panel_at(glass, k);
     let bands = glass.bands;
-    if !bands::bands_fit(rec, a, bands, glass.band, glass.width) {
-        return false;
-    }
-    rects::rect_fits(rec, a + 8 * bands, glass.width, 0, glass.height)
+    bands::bands_fit(rec, a, bands, glass.band, glass.width)
+        && rects::rect_fits(rec, a + 8 * bands, glass.width, 0, glass.height)
 }
 
 fn panels_fit(rec: &[u8], glass: Glass) -> bool
-    requires suits { Suits glass }
-    requires rec_len { length rec.now ≡ record_bytes (geometry glass) }
+    requires { length rec.now ≡ record_bytes (geometry glass) }
     ensures { result ≡ panels_fit (geometry glass) rec.now 0 glass.panels }
 {
-    let panels = glass.panels;
-    let mut k: usize = 0;
-    while k < panels {
+    for k in 0..glass.panels {
         if !pending_fits(rec, glass, k) {
             return false;
         }
-        k += 1;
     }
     true
 }
 
 // Whether the record passes STATE. It returns at the first part that fails: tests joined by `&` would keep all their answers at once.
 pub fn is_valid(rec: &[u8], glass: Glass) -> bool
-    requires suits { Suits glass }
-    requires rec_len { length rec.now ≡ record_bytes (geometry glass) }
+    requires { length rec.now ≡ record_bytes (geometry glass) }
     ensures { result ≡ valid (geometry glass) rec.now }
 {
     let from = glass.flags;

@@ -3,32 +3,22 @@
 #![tactic(auto)]
 
 mod checksum;
-mod print;
 
+use standard_output::StandardOutput;
+use std::fmt::Write;
 use stored_calls::run;
 
-// Whether there was a next call.
-fn replay_next(rec: &mut [u8], memory: &mut [u8]) -> bool {
-    let mut stored = [0u8; 16];
-    let got = io::read_full(0, &mut stored);
-    if got < 16 {
-        return false;
-    }
-    let given = run::run(rec, memory, &stored);
-    print::line(given, checksum::of(rec, memory));
-    true
-}
-
-// Nothing says that the input ends: the turns that are left are counted down from a number that no run uses up.
-fn replay_all(rec: &mut [u8], memory: &mut [u8]) {
-    let mut turns = u64::MAX;
-    while turns > 0 && replay_next(rec, memory) {
-        turns -= 1;
-    }
-}
-
+// A line of output: the answer's numbers and the checksum, in decimal, with single spaces. The list ends where fewer than sixteen bytes are left.
 fn main() {
     let mut rec = [0u8; model::glass::RECORD_BYTES];
     let mut memory = [0u8; model::glass::MEMORY_BYTES];
-    replay_all(&mut rec, &mut memory);
+    for _ in 0..u64::MAX {
+        let mut stored = [0u8; 16];
+        if io::read_full(0, &mut stored) < stored.len() {
+            break;
+        }
+        let answer = run::run(&mut rec, &mut memory, &stored);
+        let sum = checksum::of(&rec, &memory);
+        let _ = writeln!(StandardOutput, "{answer} {sum}");
+    }
 }

@@ -1,19 +1,13 @@
 -- The numbers that a pattern takes are within their limits.
-use mathlib.Core.Path.{◌≡◌, sym, ◌∙◌}
-use mathlib.Core.List.{List, [], ◌∷◌}
-use mathlib.Core.Bool.{Bool, true, false, cond}
-use Prim.Native.Nat.{ℕ, zero, suc, ◌-◌, ◌≤◌, ◌<◌}
+use Rattle.std.proofs.Common.{◌≡◌, ℕ, zero, suc, ◌-◌, ◌≤◌, ◌<◌, List, [], ◌∷◌, Bool, true, false, cond, get_or, take, ap, sym, ◌∙◌, arith}
 use Prim.Native.Char.{code}
-use native.Mathlib.Omega.{arith}
-use lib.Dec.{eqb, leb}
-use lib.ListN.{get_or, take}
-use borrow.Author.Tests.{leb-true}
+use Rattle.std.proofs.Math.Dec.{eqb, leb}
+use Rattle.std.proofs.lemmas.Bool.{leb-true}
+use Rattle.std.specs.Prelude.{Option, Some}
 use Rattle.model.specs.Characters.{bytes_of}
 use Rattle.model.specs.Script.Read.{Taken, took_none, took, is_digit, take_digits, at_most, take_number, take_word, or_taken, take_mode, take_piece, is_field, with_field, matched_with, no_fields, and_then, matched, point_pattern, line_pattern, poke_pattern}
 use Rattle.laws.specs.Tests.{by_test}
-use Rattle.script.specs.declared.Fields.{Fields}
-use Rattle.script.specs.Meaning.{fields_of, match_of}
-use Rattle.script.proofs.Matching.{match_yes}
+use Rattle.script.specs.Meaning.{match_of}
 
 -- what was taken is at most m
 abbrev Most : ℕ → Taken → Type 0
@@ -113,23 +107,24 @@ matched-under (p ∷ ps) s bs fs gs u e = go (take_piece p s) (λ f. piece_most 
 none-under : Under no_fields no_fields
 none-under i = omega arith
 
-fields_under : (ps s : List ℕ) (f : Fields) → match_of f ≡ matched ps s no_fields → f.ok ≡ true → Under (bounds ps no_fields) (fields_of f)
-fields_under ps s f e k = matched-under ps s no_fields no_fields (fields_of f) none-under (sym e ∙ match_yes f k)
+fields_under : (ps s f : List ℕ) (m : Option (List ℕ)) → match_of m ≡ matched ps s no_fields → m ≡ Some f → Under (bounds ps no_fields) f
+fields_under ps s f m e k = matched-under ps s no_fields no_fields f none-under (sym e ∙ ap match_of k)
 
 -- ---- the forms
 
-pub point-fits : (s : List ℕ) (f : Fields) → match_of f ≡ matched point_pattern s no_fields → f.ok ≡ true → (f.a < 256) × (f.b < 256) × (f.c < 256)
+pub point-fits : (s f : List ℕ) (m : Option (List ℕ)) → match_of m ≡ matched point_pattern s no_fields → m ≡ Some f → (get_or f 0 0 < 256) × (get_or f 1 0 < 256) × (get_or f 2 0 < 256)
 unfolding bounds is_field
-point-fits s f e k =
-    let u = fields_under point_pattern s f e k in
+point-fits s f m e k =
+    let u = fields_under point_pattern s f m e k in
     (omega (arith, u 0), omega (arith, u 1), omega (arith, u 2))
 
-pub line-fits : (s : List ℕ) (f : Fields) → match_of f ≡ matched line_pattern s no_fields → f.ok ≡ true → (f.a < 256) × (f.b < 256) × (f.c < 256) × (f.d < 256) × (f.e < 256)
+pub line-fits : (s f : List ℕ) (m : Option (List ℕ)) → match_of m ≡ matched line_pattern s no_fields → m ≡ Some f
+    → (get_or f 0 0 < 256) × (get_or f 1 0 < 256) × (get_or f 2 0 < 256) × (get_or f 3 0 < 256) × (get_or f 4 0 < 256)
 unfolding bounds is_field
-line-fits s f e k =
-    let u = fields_under line_pattern s f e k in
+line-fits s f m e k =
+    let u = fields_under line_pattern s f m e k in
     (omega (arith, u 0), omega (arith, u 1), omega (arith, u 2), omega (arith, u 3), omega (arith, u 4))
 
-pub poke_fits : (s : List ℕ) (f : Fields) → match_of f ≡ matched poke_pattern s no_fields → f.ok ≡ true → f.a < 256
+pub poke_fits : (s f : List ℕ) (m : Option (List ℕ)) → match_of m ≡ matched poke_pattern s no_fields → m ≡ Some f → get_or f 0 0 < 256
 unfolding bounds is_field
-poke_fits s f e k = omega (arith, fields_under poke_pattern s f e k 0)
+poke_fits s f m e k = omega (arith, fields_under poke_pattern s f m e k 0)

@@ -1,37 +1,30 @@
 -- A script's lines, one after another: the first line ends at the first newline, and the others follow it.
-use mathlib.Core.Path.{◌≡◌, refl, sym, ap, ◌∙◌}
-use mathlib.Core.List.{List, [], ◌∷◌, map}
-use mathlib.Core.Bool.{cond}
-use Prim.Native.Nat.{ℕ, suc, ◌+◌, ◌-◌, ◌≤◌, ◌<◌}
+use Rattle.std.proofs.Common.{◌≡◌, ℕ, suc, ◌+◌, ◌-◌, ◌<◌, ◌≤◌, List, [], ◌∷◌, cond, length, get_or, take, drop, refl, ap, sym, ◌∙◌, arith, length-drop, drop-cons, drop_of_length-le}
 use Prim.Native.Char.{code}
-use native.Mathlib.Numerals.{add-one}
-use native.Mathlib.Omega.{arith}
-use lib.Dec.{eqb}
-use lib.ListN.{length, get_or, take, drop, drop_of_length-le, length-map}
-use lib.Seq.{drop-cons, drop-drop}
-use borrow.Author.Tests.{eq-eqb, ne_eqb}
-use Rattle.model.specs.Script.Read.{ScriptLine, on_first, script_lines, read_line, read_script}
+use Rattle.std.proofs.Math.Dec.{eqb, ltb}
+use Rattle.std.proofs.Math.ListN.{length-map}
+use Rattle.std.proofs.Math.Numerals.{one-add}
+use Rattle.std.proofs.Math.Seq.{drop-drop, length-take-le, take_all}
+use Rattle.std.proofs.lemmas.Bool.{ltb-false}
+use Rattle.std.proofs.lemmas.List.Sums.{prefix_len-le-length}
+use Rattle.std.proofs.lemmas.List.Recursion.{is_position_or_len}
+use Rattle.std.specs.List.{position_or_len}
+use Rattle.std.specs.Option.{unwrap_or}
+use Rattle.std.specs.Prelude.{Option, None, Some, not}
+use Rattle.model.specs.Script.Read.{on_first, script_lines, read_line, read_script}
 use Rattle.laws.specs.Tests.{by_test}
-use Rattle.script.specs.declared.Form.{Form}
-use Rattle.script.specs.declared.LineOrEnd.TheVariants.{Line as LineHere, End}
-use Rattle.script.specs.Meaning.{meaning, standing}
 use Rattle.script.specs.Lines.{line_length, lines_from}
 
--- ---- where a line ends: k is what the walk from i on adds up to
-
-pub line_turn : (i k : ℕ) (s : List ℕ) → i + line_length (drop i s) ≡ k → i < length s → (get_or s i 0 ≡ code "\n" → ⊥) → i + 1 + line_length (drop (i + 1) s) ≡ k
+-- a line is as long as the place of the first newline says
+newline_ends : (s : List ℕ) → line_length s ≡ position_or_len (λ b. eqb b (code "\n")) s
 unfolding line_length
-line_turn i k s e h n =
-    ap (λ (j : ℕ). i + 1 + line_length (drop j s)) (add-one i)
-    ∙ omega (arith, rw (drop-cons s i 0 h, ne_eqb (get_or s i 0) (code "\n") n) at e)
+newline_ends s = is_position_or_len line_length (λ b. eqb b (code "\n")) refl (λ b t. ap (λ (k : ℕ). cond (eqb b (code "\n")) 0 k) (sym (one-add (line_length t)))) s
 
-pub line-stop : (i k : ℕ) (s : List ℕ) → i + line_length (drop i s) ≡ k → i < length s → get_or s i 0 ≡ code "\n" → i ≡ k
-unfolding line_length
-line-stop i k s e h n = omega (arith, rw (drop-cons s i 0 h, eq-eqb (get_or s i 0) (code "\n") n) at e)
-
-pub line_out : (i k : ℕ) (s : List ℕ) → i + line_length (drop i s) ≡ k → length s ≤ i → i ≡ k
-unfolding line_length
-line_out i k s e h = omega (arith, rw (drop_of_length-le s h) at e)
+pub ends_at : (s : List ℕ) (r : Option ℕ) → r ≡ cond (ltb (position_or_len (λ b. eqb b (code "\n")) s) (length s)) (Some (position_or_len (λ b. eqb b (code "\n")) s)) None → unwrap_or r (length s) ≡ line_length s
+ends_at s r e =
+    let n = position_or_len (λ b. eqb b (code "\n")) s in
+    rw (newline_ends s, e)
+    (by_test (ltb n (length s)) (λ h. rw h) (λ h. rw h (omega (arith, ltb-false n (length s) h, prefix_len-le-length (λ b. not (eqb b (code "\n"))) s))))
 
 -- ---- the first line and the rest
 
@@ -48,44 +41,26 @@ first-line s at h =
     ∙ sym (ap (λ (l : List ℕ). take (line_length l) l ∷ script_lines (drop (suc (line_length l)) l)) c)
     ∙ ap (λ (l : List ℕ). take (line_length (drop at s)) (drop at s) ∷ script_lines l) (drop-drop (suc (line_length (drop at s))) at s)
 
-pub line_read : (s : List ℕ) (at end : ℕ) (f : Form) → at < length s → end ≡ at + line_length (drop at s) → meaning f ≡ read_line (take (end - at) (drop at s))
-    → standing (LineHere f) ≡ map read_line (take 1 (lines_from at s))
-unfolding standing
-line_read s at end f h e m =
-    let n : end - at ≡ line_length (drop at s) = omega arith in
-    ap (λ (x : ScriptLine). x ∷ []) (m ∙ ap (λ (i : ℕ). read_line (take i (drop at s))) n)
-    ∙ sym (ap (λ (ls : List (List ℕ)). map read_line (take 1 ls)) (first-line s at h))
+-- the line at a place and the lines behind it, where k is its length
+module _ (s : List ℕ) (at k : ℕ) (h : at < length s) (e : k ≡ line_length (take (length s - at) (drop at s))) where
+  whole : take (length s - at) (drop at s) ≡ drop at s
+  whole = take_all _ (drop at s) (omega (arith, length-drop at s))
 
-pub end_read : (s : List ℕ) (at : ℕ) → length s ≤ at → standing End ≡ map read_line (take 1 (lines_from at s))
-unfolding standing lines_from script_lines
-end_read s at h = rw (drop_of_length-le s h)
+  long : k ≡ line_length (drop at s)
+  long = e ∙ ap line_length whole
 
-pub after_read : (s : List ℕ) (at next : ℕ) → at < length s → next ≡ at + line_length (drop at s) + 1 → lines_from next s ≡ drop 1 (lines_from at s)
-after_read s at next h e =
-    let n : next ≡ at + suc (line_length (drop at s)) = omega arith in
-    ap (λ (i : ℕ). lines_from i s) n ∙ sym (ap (drop 1) (first-line s at h))
+  pub line_here : ◌≡◌ {A = List (List ℕ)} (take k (take (length s - at) (drop at s)) ∷ []) (take 1 (lines_from at s))
+  line_here = ap (λ (l : List ℕ). take k l ∷ []) whole ∙ ap (λ (i : ℕ). take i (drop at s) ∷ []) long ∙ sym (ap (take 1) (first-line s at h))
 
-pub stays_read : (s : List ℕ) (at : ℕ) → length s ≤ at → lines_from at s ≡ drop 1 (lines_from at s)
+  pub lines_behind : k ≤ length (take (length s - at) (drop at s)) → (at + length (take k (take (length s - at) (drop at s))) ≤ length s) × (lines_from (at + length (take k (take (length s - at) (drop at s))) + 1) s ≡ drop 1 (lines_from at s))
+  lines_behind b =
+      let n : length (take k (take (length s - at) (drop at s))) ≡ k = length-take-le k _ b in
+      let m : at + length (take k (take (length s - at) (drop at s))) + 1 ≡ at + suc (line_length (drop at s)) = omega (arith, long) in
+      (omega (arith, ap length whole, length-drop at s), ap (λ (i : ℕ). lines_from i s) m ∙ sym (ap (drop 1) (first-line s at h)))
+
+pub no_line : (s : List ℕ) (at : ℕ) → length s ≤ at → ◌≡◌ {A = List (List ℕ)} [] (take 1 (lines_from at s))
 unfolding lines_from script_lines
-stays_read s at h = rw (drop_of_length-le s h)
-
--- ---- what the first line and the others read as
-
-pub first_reads : (at : ℕ) (s : List ℕ) → map read_line (take 1 (lines_from at s)) ≡ take 1 (read_script (drop at s))
-unfolding read_script lines_from
-first_reads at s = go (script_lines (drop at s))
-  where
-    go : (ls : List (List ℕ)) → map read_line (take 1 ls) ≡ take 1 (map read_line ls)
-    go [] = refl
-    go (l ∷ ls) = refl
-
-pub others_read : (at next : ℕ) (s : List ℕ) → lines_from next s ≡ drop 1 (lines_from at s) → read_script (drop next s) ≡ drop 1 (read_script (drop at s))
-unfolding read_script lines_from
-others_read at next s e = ap (map read_line) e ∙ go (script_lines (drop at s))
-  where
-    go : (ls : List (List ℕ)) → map read_line (drop 1 ls) ≡ drop 1 (map read_line ls)
-    go [] = refl
-    go (l ∷ ls) = refl
+no_line s at h = rw (drop_of_length-le s h)
 
 -- ---- no more lines than bytes
 

@@ -1,38 +1,29 @@
--- What the reader's answers mean, in the terms of the definition: places in the script are what is left of it there.
-use Rattle.std.specs.Prelude.{cond, List, [], ◌∷◌, ℕ, drop}
+-- What the reader's answers mean, in the terms of the definition.
+use Rattle.std.specs.Prelude.{List, ℕ, Option, None, Some}
+use denote.Ref.{Bor}
 use Rattle.model.specs.Shapes.{point, line}
 use Rattle.model.specs.Calls.{draw, write_byte, send}
 use Rattle.model.specs.Script.Read.{Taken, took_none, took, Match, unmatched, matched_with, ScriptLine, call_line, bad_line}
-use Rattle.script.specs.declared.Got.{Got}
-use Rattle.script.specs.declared.Got.TheVariants.{Nothing, At}
-use Rattle.script.specs.declared.Number.{Number}
-use Rattle.script.specs.declared.Fields.{Fields}
 use Rattle.script.specs.declared.Form.{Form}
-use Rattle.script.specs.declared.Form.TheVariants.{Point, Line as LineForm, Poke, Send, Bad}
-use Rattle.script.specs.declared.LineOrEnd.{LineOrEnd}
-use Rattle.script.specs.declared.LineOrEnd.TheVariants.{Line as LineHere, End}
+use Rattle.script.specs.declared.Form.TheVariants.{Point, Line, Poke, Send, Bad}
 
-unfoldable pub taken_of : List ℕ → Got → Taken
-taken_of s Nothing = took_none
-taken_of s (At v next) = took v (drop next s)
+-- a number, and what is left of the line behind it
+abbrev pub number_of : ℕ × Bor (List ℕ) → Taken
+number_of n = took n.0 n.1.now
 
-abbrev pub number_of : List ℕ → Number → Taken
-number_of s n = took n.value (drop n.next s)
+-- such a number, or nothing
+abbrev pub taken_of : Option (ℕ × Bor (List ℕ)) → Taken
+taken_of None = took_none
+taken_of (Some n) = number_of n
 
-abbrev pub fields_of : Fields → List ℕ
-fields_of f = f.a ∷ f.b ∷ f.c ∷ f.d ∷ f.e ∷ f.f ∷ []
-
-unfoldable pub match_of : Fields → Match
-match_of f = cond f.ok (matched_with (fields_of f)) unmatched
+-- the numbers that a line gave, where it has a pattern's spelling
+abbrev pub match_of : Option (List ℕ) → Match
+match_of None = unmatched
+match_of (Some fs) = matched_with fs
 
 unfoldable pub meaning : Form → ScriptLine
 meaning (Point x y m) = call_line (draw (point x y m))
-meaning (LineForm x y z w m) = call_line (draw (line x y z w m))
+meaning (Line x y z w m) = call_line (draw (line x y z w m))
 meaning (Poke a v) = call_line (write_byte a v)
 meaning Send = call_line (send 0)
 meaning Bad = bad_line
-
--- what stands at a place: one line, or none
-unfoldable pub standing : LineOrEnd → List ScriptLine
-standing (LineHere f) = meaning f ∷ []
-standing End = []

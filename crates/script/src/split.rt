@@ -1,43 +1,23 @@
 // The lines of a script.
-ghost use Rattle.std.specs.Prelude.{◌≡◌, map, ◌+◌, ◌≤◌, length, take, drop};
-ghost use Rattle.model.specs.Script.Read.{read_line};
-ghost use Rattle.script.specs.Meaning.{standing};
-ghost use Rattle.script.specs.Lines.{line_length, lines_from};
+ghost use Rattle.std.specs.Prelude.{◌≡◌, ◌+◌, ◌≤◌, length, take, drop, IfSome};
+ghost use Rattle.script.specs.Lines.{line_length, line_of, lines_from};
 
-use crate::{LineOrEnd, forms};
-
-// Where the line at a place ends: at its newline, or at the end of the script.
-fn line_end(s: &[u8], at: usize) -> usize
-    requires { at ≤ length s.now }
-    ensures { (result ≡ at + line_length (drop at s.now)) × (result ≤ length s.now) }
+// How long the first line is, its newline not counted: to its newline, or to the end of the script.
+fn line_length(s: &[u8]) -> usize
+    ensures is_length { result ≡ line_length s.now }
+    ensures within { result ≤ length s.now }
 {
-    let mut i = at;
-    while i < s.len() {
-        if s[i] == b'\n' {
-            return i;
-        }
-        i += 1;
-    }
-    s.len()
+    s.iter().position(|b| *b == b'\n').unwrap_or(s.len())
 }
 
-// What stands at a place.
-pub fn line_at(s: &[u8], at: usize) -> LineOrEnd
-    ensures { standing result ≡ map read_line (take 1 (lines_from at s.now)) }
+// The line that stands at a place, without its newline. The lines after it begin behind the newline.
+pub fn line_at(s: &[u8], at: usize) -> Option<&[u8]>
+    ensures line_here { line_of result ≡ take 1 (lines_from at s.now) }
+    ensures lines_behind { IfSome result (λ l. (at + length l.now ≤ length s.now) × (lines_from (at + length l.now + 1) s.now ≡ drop 1 (lines_from at s.now))) }
 {
-    if at < s.len() {
-        let end = line_end(s, at);
-        return LineOrEnd::Line(forms::read_line(&s[at..end]));
+    if at >= s.len() {
+        return None;
     }
-    LineOrEnd::End
-}
-
-// The place after the line that stands at a place: after its newline. Where no line stands it is the same place.
-pub fn place_after(s: &[u8], at: usize) -> usize
-    ensures { lines_from result s.now ≡ drop 1 (lines_from at s.now) }
-{
-    if at < s.len() {
-        return line_end(s, at) + 1;
-    }
-    at
+    let rest = &s[at..];
+    Some(&rest[..line_length(rest)])
 }

@@ -1,118 +1,73 @@
-// Numbers, words and modes at a place of a line.
-ghost use Rattle.std.specs.Prelude.{◌≡◌, [], ◌∷◌, ◌<◌, drop};
-ghost use Rattle.model.specs.Script.Read.{is_digit, goes_on, take_digits, take_number, take_word, or_taken, take_mode, take_piece};
-ghost use Rattle.script.specs.Meaning.{taken_of, number_of};
+// Numbers, words and modes at the front of a line: each function gives the number that stands there and what is left of the line.
+ghost use Rattle.std.specs.Prelude.{◌≡◌, ◌<◌, ◌≤◌, IsTrue};
+ghost use Rattle.model.specs.Script.Read.{goes_on, take_digits, take_number, take_word, take_mode, take_piece};
+ghost use Rattle.script.specs.Meaning.{number_of, taken_of};
 
-use crate::{Got, Number};
-
-fn is_digit(d: u8) -> bool
-    ensures { result ≡ is_digit d }
-{
-    (b'0' <= d) & (d <= b'9')
-}
-
+// The digit d goes on with the number v, which has fewer than five digits.
 fn goes_on(v: u32, d: u8) -> bool
-    ensures { result ≡ goes_on v d }
+    ensures value { result ≡ goes_on v d }
+    ensures digit { IsTrue result → (48 ≤ d) × (d < 58) × (v < 10000) }
 {
-    is_digit(d) & (v < 10000)
+    d.is_ascii_digit() && v < 10000
 }
 
-// The digits that follow those of v.
-fn take_digits(s: &[u8], at: usize, first: u32) -> Number
+// The digits that follow those of `first`.
+fn take_digits(s: &[u8], first: u32) -> (u32, &[u8])
     requires { first < 10 }
-    ensures { number_of s.now result ≡ take_digits first (drop at s.now) }
+    ensures { number_of result ≡ take_digits first s.now }
 {
     let mut v = first;
-    let mut i = at;
-    while i < s.len() {
-        let d = s[i];
-        if goes_on(v, d) {
-            v = 10 * v + ((d - b'0') as u32);
-            i += 1;
-        } else {
-            return Number { value: v, next: i };
+    for (i, d) in s.iter().enumerate() {
+        if !goes_on(v, *d) {
+            return (v, &s[i..]);
         }
+        v = 10 * v + u32::from(*d - b'0');
     }
-    Number { value: v, next: i }
+    (v, &[])
 }
 
-pub fn take_number(s: &[u8], at: usize, limit: u16) -> Got
-    ensures { taken_of s.now result ≡ take_number limit (drop at s.now) }
+pub fn take_number(s: &[u8], limit: u16) -> Option<(u16, &[u8])>
+    ensures { taken_of result ≡ take_number limit s.now }
 {
-    if at >= s.len() {
-        return Got::Nothing;
+    let (d, rest) = s.split_first()?;
+    if !d.is_ascii_digit() {
+        return None;
     }
-    let d = s[at];
-    if is_digit(d) {
-        if d == b'0' {
-            return Got::At(0, at + 1);
-        }
-        let n = take_digits(s, at + 1, (d - b'0') as u32);
-        let v = n.value;
-        if v <= limit as u32 {
-            return Got::At(v as u16, n.next);
-        }
+    if *d == b'0' {
+        return Some((0, rest));
     }
-    Got::Nothing
+    let (v, rest) = take_digits(rest, u32::from(*d - b'0'));
+    if v > u32::from(limit) {
+        return None;
+    }
+    Some((v as u16, rest))
 }
 
 // The word w, which stands for v.
-pub fn take_word(s: &[u8], at: usize, w: &[u8], v: u16) -> Got
-    ensures { taken_of s.now result ≡ take_word v w.now (drop at s.now) }
+pub fn take_word<'a>(s: &'a [u8], w: &[u8], v: u16) -> Option<(u16, &'a [u8])>
+    ensures { taken_of result ≡ take_word v w.now s.now }
 {
-    let mut i: usize = 0;
-    let mut j = at;
-    while i < w.len() {
-        if j >= s.len() {
-            return Got::Nothing;
-        }
-        if w[i] != s[j] {
-            return Got::Nothing;
-        }
-        i += 1;
-        j += 1;
-    }
-    Got::At(v, j)
+    let rest = s.strip_prefix(w)?;
+    Some((v, rest))
 }
 
-fn or_take_word(g: Got, s: &[u8], at: usize, w: &[u8], v: u16) -> Got
-    ensures { taken_of s.now result ≡ or_taken (taken_of s.now g) (take_word v w.now (drop at s.now)) }
+pub fn take_mode(s: &[u8]) -> Option<(u16, &[u8])>
+    ensures { taken_of result ≡ take_mode s.now }
 {
-    match g {
-        Got::At(x, next) => Got::At(x, next),
-        Got::Nothing => take_word(s, at, w, v),
-    }
+    take_word(s, b"clear", 0)
+        .or_else(|| take_word(s, b"or", 1))
+        .or_else(|| take_word(s, b"xor", 2))
+        .or_else(|| take_word(s, b"unknown", 3))
 }
 
-pub fn take_mode(s: &[u8], at: usize) -> Got
-    ensures { taken_of s.now result ≡ take_mode (drop at s.now) }
-{
-    let clear = take_word(s, at, b"clear", 0);
-    let or = or_take_word(clear, s, at, b"or", 1);
-    let xor = or_take_word(or, s, at, b"xor", 2);
-    or_take_word(xor, s, at, b"unknown", 3)
-}
-
-// A byte that stands for itself.
-fn take_byte(s: &[u8], at: usize, p: u8) -> Got
-    ensures { taken_of s.now result ≡ take_word 0 (p ∷ []) (drop at s.now) }
-{
-    if at < s.len() {
-        if s[at] == p {
-            return Got::At(0, at + 1);
-        }
-    }
-    Got::Nothing
-}
-
-// What the byte p of a pattern takes.
-pub fn take_piece(p: u8, s: &[u8], at: usize) -> Got
-    ensures { taken_of s.now result ≡ take_piece p (drop at s.now) }
+// What the byte p of a pattern takes. A byte that is no field stands for itself.
+pub fn take_piece(p: u8, s: &[u8]) -> Option<(u16, &[u8])>
+    ensures { taken_of result ≡ take_piece p s.now }
 {
     match p {
-        b'#' => take_number(s, at, 255),
-        b'@' => take_number(s, at, 65535),
-        b'*' => take_mode(s, at),
-        _ => take_byte(s, at, p),
+        b'#' => take_number(s, 255),
+        b'@' => take_number(s, 65535),
+        b'*' => take_mode(s),
+        _ => take_word(s, &[p], 0),
     }
 }

@@ -1,12 +1,8 @@
 -- How long a script's text can be: 40 bytes for a line, and no more lines than bytes.
-use mathlib.Core.Path.{◌≡◌, sym, subst}
-use mathlib.Core.List.{List, [], ◌∷◌, ◌++◌, map}
-use Prim.Native.Nat.{ℕ, zero, suc, ◌+◌, ◌*◌, ◌/◌, ◌%◌, ◌≤◌}
+use Rattle.std.proofs.Common.{ℕ, zero, suc, ◌+◌, ◌*◌, ◌/◌, ◌%◌, ◌≤◌, List, [], ◌∷◌, ◌++◌, length, map, arith, length-append}
 use Prim.Native.Char.{code}
-use native.Mathlib.Omega.{arith}
-use lib.Dec.{ltb, eqb}
-use borrow.Author.Tests.{lt-ltb, le-ltb}
-use lib.ListN.{length, replicate, length-append, length-replicate}
+use Rattle.std.proofs.Math.Dec.{eqb, ltb}
+use Rattle.std.proofs.lemmas.Bool.{lt-ltb, le-ltb}
 use Rattle.model.specs.Record.{Pending}
 use Rattle.model.specs.Geometry.{base}
 use Rattle.model.specs.Rects.{is_empty}
@@ -19,7 +15,7 @@ use Rattle.model.specs.Script.Read.{Match, unmatched, matched_with, ScriptLine, 
 use Rattle.model.specs.Script.Output.{spelled, decimal, spaced, printed, said, line_prints, line_leaves, opened, ending, run_lines_from, run_lines, longest, script_text}
 use Rattle.laws.specs.Tests.{by_test, by_lt}
 use Rattle.script.proofs.Splitting.{read_le}
-use Rattle.script_run.specs.Buffers.{Wrote}
+use Rattle.script_run.specs.Buffers.{longest_text}
 
 spelled-le : (k n : ℕ) → length (spelled k n) ≤ k
 unfolding spelled
@@ -95,16 +91,8 @@ run-le [] n l = omega (arith, ending-le l)
 run-le (s ∷ ls) n l =
     omega (arith, form_short s n l, run-le ls (n + 1) (line_leaves (read_line s) l), length-append (line_prints n (read_line s) l) (run_lines_from (n + 1) (map read_line ls) (line_leaves (read_line s) l)))
 
-text-le : (s : List ℕ) → length (script_text s) ≤ 163868
+pub text-le : (s : List ℕ) → length (script_text s) ≤ longest_text
 unfolding script_text run_lines read_script
 text-le s =
     by_lt longest (length s) (λ h. rw (lt-ltb longest (length s) h) (omega (arith, printed-le (bytes_of "long") [])))
     (λ h. rw (le-ltb longest (length s) h) (omega (arith, run-le (script_lines s) 1 opened, read_le s)))
-
--- ---- an output that is made as zeros has room for it
-
-pub text_room : (n : ℕ) (s : List ℕ) → 163868 ≤ n → length (script_text s) ≤ length (replicate {A = ℕ} n 0)
-text_room n s h = subst (λ (k : ℕ). length (script_text s) ≤ k) (sym (length-replicate {A = ℕ} n 0)) (omega (arith, text-le s))
-
-pub text-fits : (n : ℕ) (s o o' : List ℕ) (e : ℕ) → 163868 ≤ n → length o ≡ n → length o' ≡ length o → Wrote 0 (script_text s) o o' e → e ≤ length o'
-text-fits n s o o' e h l k w = omega (arith, text-le s, w.end)

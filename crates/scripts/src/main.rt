@@ -3,10 +3,7 @@
 
 fn show(script: &[u8]) {
     let mut out = [0u8; 163900];
-    let mut rec = [0u8; model::glass::RECORD_BYTES];
-    let mut memory = [0u8; model::glass::MEMORY_BYTES];
-    let mut panel = [0u8; model::glass::SCREEN_BYTES];
-    let end = script_run::runner::run_script(script, &mut out, &mut rec, &mut memory, &mut panel);
+    let end = script_run::runner::run_alone(script, &mut out);
     io::write_all(1, &out[..end]);
 }
 

@@ -1,2 +1,2 @@
-mod Copy
-mod Hand
+pub mod Copy
+pub mod Hand

@@ -16,6 +16,7 @@ fn copy_masked(screen: &[u8], panel: &mut [u8], at: usize, mask: u8)
 }
 
 // Copies the pixels of the rectangle's top line, from its left to its right; all other bits of the panel stay.
+#[tactic(auto, using(crate::proofs::Copy::row_in))]
 pub fn copy_line(canvas: Canvas, screen: &[u8], panel: &mut [u8], r: Rect)
     requires { LineOn canvas.stride canvas.height screen.now panel.old r }
     ensures { panel.new ≡ copy_line canvas.stride r screen.now panel.old }
@@ -32,6 +33,6 @@ pub fn copy_line(canvas: Canvas, screen: &[u8], panel: &mut [u8], r: Rect)
     }
     copy_masked(screen, panel, first, start_mask(left));
     let from = first + 1;
-    slices::copy_bytes(&screen[from..end], &mut panel[from..end]);
+    panel[from..end].copy_from_slice(&screen[from..end]);
     copy_masked(screen, panel, end, end_mask(last));
 }

@@ -1,6 +1,6 @@
 // What a send does to one panel's part of the lent record.
 ghost use Rattle.std.specs.Prelude.{◌≡◌, ◌+◌, ◌*◌, ◌<◌, ◌≤◌, min, length};
-ghost use Rattle.model.specs.Glass.{geometry, Suits};
+ghost use Rattle.model.specs.Glass.{geometry};
 ghost use Rattle.model.specs.Record.{at, panel};
 ghost use Rattle.model.specs.Sends.{next_line};
 ghost use Rattle.laws.specs.Record.{Passing};
@@ -26,18 +26,14 @@ fn take_hand(rec: &mut [u8], glass: Glass, at: usize) -> Rect
 }
 
 // The top raised; empty after the last line.
+#[tactic(auto, using(crate::proofs::Hand::goes_on, crate::proofs::Hand::ends))]
 fn next_line(q: Rect) -> Rect
     requires { q.top < 65535 }
     ensures { result ≡ next_line q }
 {
     let top = q.top + 1;
     if top < q.bottom {
-        return Rect {
-            left: q.left,
-            top: top,
-            right: q.right,
-            bottom: q.bottom,
-        };
+        return Rect { top, ..q };
     }
     rect::empty()
 }
@@ -46,18 +42,17 @@ fn next_line(q: Rect) -> Rect
 fn count_line(sent: u32) -> u32
     ensures { result ≡ min (sent + 1) 4294967295 }
 {
-    if sent < 4294967295 { sent + 1 } else { sent }
+    sent.saturating_add(1)
 }
 
 // One line of panel k, whose part begins at byte `start`, counts as sent: the rectangle whose top line it is, empty where there is none.
 pub fn send_panel(rec: &mut [u8], glass: Glass, k: usize, start: usize) -> Rect
-    requires suits { Suits glass }
     requires passing { Passing (geometry glass) rec.old × (k < glass.panels) }
     requires start_value { start ≡ at (geometry glass) (panel k) }
     ensures { SentOn glass k rec.old result rec.new }
 {
     let in_hand = start + 8 * glass.bands;
-    let counted = panels::sent_at(glass, start);
+    let counted = panels::sent_at(glass.bands, start);
     let sent = slices::load_four(rec, counted);
     let hand = take_hand(rec, glass, start);
     if rect::is_empty(hand) {

@@ -1,41 +1,55 @@
 // What a call answers: its code, then the other numbers of its result, zero where it has fewer.
-use model::{Area, Value};
+use caption::answer::{area, code, value};
+use model::refusal::Refusal;
+use model::{Rect, Value};
+use std::fmt;
 
 #[derive(Clone, Copy)]
 pub struct Answer {
     pub code: u32,
-    pub a: u32,
-    pub b: u32,
-    pub c: u32,
-    pub d: u32,
+    pub numbers: [u32; 4],
 }
 
-pub fn of_code(code: u32) -> Answer {
-    Answer {
-        code: code,
-        a: 0,
-        b: 0,
-        c: 0,
-        d: 0,
+impl From<u32> for Answer {
+    fn from(code: u32) -> Answer {
+        Answer {
+            code,
+            numbers: [0; 4],
+        }
     }
 }
 
-pub fn of_value(v: Value) -> Answer {
-    Answer {
-        code: v.code,
-        a: v.value,
-        b: 0,
-        c: 0,
-        d: 0,
+impl From<Result<(), Refusal>> for Answer {
+    fn from(done: Result<(), Refusal>) -> Answer {
+        code(done).into()
     }
 }
 
-pub fn of_area(q: Area) -> Answer {
-    Answer {
-        code: q.code,
-        a: q.left,
-        b: q.top,
-        c: q.right,
-        d: q.bottom,
+impl From<Result<u8, Refusal>> for Answer {
+    fn from(answer: Result<u8, Refusal>) -> Answer {
+        let Value { code, value } = value(answer);
+        Answer {
+            code,
+            numbers: [value, 0, 0, 0],
+        }
+    }
+}
+
+impl From<Result<Rect, Refusal>> for Answer {
+    fn from(answer: Result<Rect, Refusal>) -> Answer {
+        let q = area(answer);
+        Answer {
+            code: q.code,
+            numbers: [q.left, q.top, q.right, q.bottom],
+        }
+    }
+}
+
+// The five numbers, with single spaces.
+impl fmt::Display for Answer {
+    fn fmt<W: fmt::Write>(&self, f: &mut fmt::Formatter<W>) -> fmt::Result {
+        let code = self.code;
+        let [a, b, c, d] = self.numbers;
+        write!(f, "{code} {a} {b} {c} {d}")
     }
 }

@@ -1,86 +1,87 @@
-// A stored call: its number, then what it is told, least byte first.
+// A stored call: the number of its kind, then what it is told, least byte first.
 ghost use Rattle.std.specs.Prelude.{◌+◌, ◌≤◌};
 
-// The numbers of the calls (compare/calls/src/call.rs, `NAMES`).
-pub const OPEN: u8 = 0;
-
-pub const RESET: u8 = 1;
-
-pub const DRAW_POINT: u8 = 2;
-
-pub const DRAW_LINE: u8 = 3;
-
-pub const DRAW_BOX: u8 = 4;
-
-pub const DRAW_CIRCLE: u8 = 5;
-
-pub const DRAW_ELLIPSE: u8 = 6;
-
-pub const CHECK_POINT: u8 = 7;
-
-pub const PAINT_BITMAP: u8 = 8;
-
-pub const PRINT: u8 = 9;
-
-pub const NEWLINE: u8 = 10;
-
-pub const CLS: u8 = 11;
-
-pub const FLUSH: u8 = 12;
-
-pub const GET_ROW: u8 = 13;
-
-pub const GET_COLUMN: u8 = 14;
-
-pub const SET_ROW: u8 = 15;
-
-pub const SET_COLUMN: u8 = 16;
-
-pub const SET_SCREEN_MODE: u8 = 17;
-
-pub const SET_PRINT_MODE: u8 = 18;
-
-pub const BLINK_CURSOR: u8 = 19;
-
-pub const CLEAR_CURSOR: u8 = 20;
-
-pub const WRITE_BYTE: u8 = 21;
-
-pub const TAKE_DIRTY_AREA: u8 = 22;
-
-pub const PAINT_BITMAP_BY_BYTES: u8 = 24;
-
-fn pair(lo: u8, hi: u8) -> u16 {
-    (lo as u16) + 256 * (hi as u16)
+// The kinds of calls (compare/calls/src/call.rs, `NAMES`).
+#[derive(Clone, Copy)]
+pub enum Kind {
+    Open,
+    Reset,
+    DrawPoint,
+    DrawLine,
+    DrawBox,
+    DrawCircle,
+    DrawEllipse,
+    CheckPoint,
+    PaintBitmap,
+    Print,
+    Newline,
+    Cls,
+    Flush,
+    GetRow,
+    GetColumn,
+    SetRow,
+    SetColumn,
+    SetScreenMode,
+    SetPrintMode,
+    BlinkCursor,
+    ClearCursor,
+    WriteByte,
+    TakeDirtyArea,
+    PaintBitmapByBytes,
 }
 
-fn word(lo: u16, hi: u16) -> u32 {
-    (lo as u32) + 65536 * (hi as u32)
-}
+// No kind that is replayed here has this number.
+#[derive(Clone, Copy)]
+pub struct NotReplayed(pub u8);
 
-// The signed number with these 32 bits.
-fn to_signed(n: u32) -> i32 {
-    if n <= 2147483647 {
-        n as i32
-    } else {
-        !((4294967295 - n) as i32)
+impl TryFrom<u8> for Kind {
+    type Error = NotReplayed;
+
+    fn try_from(number: u8) -> Result<Kind, NotReplayed> {
+        Ok(match number {
+            0 => Kind::Open,
+            1 => Kind::Reset,
+            2 => Kind::DrawPoint,
+            3 => Kind::DrawLine,
+            4 => Kind::DrawBox,
+            5 => Kind::DrawCircle,
+            6 => Kind::DrawEllipse,
+            7 => Kind::CheckPoint,
+            8 => Kind::PaintBitmap,
+            9 => Kind::Print,
+            10 => Kind::Newline,
+            11 => Kind::Cls,
+            12 => Kind::Flush,
+            13 => Kind::GetRow,
+            14 => Kind::GetColumn,
+            15 => Kind::SetRow,
+            16 => Kind::SetColumn,
+            17 => Kind::SetScreenMode,
+            18 => Kind::SetPrintMode,
+            19 => Kind::BlinkCursor,
+            20 => Kind::ClearCursor,
+            21 => Kind::WriteByte,
+            22 => Kind::TakeDirtyArea,
+            24 => Kind::PaintBitmapByBytes,
+            _ => return Err(NotReplayed(number)),
+        })
     }
 }
 
 pub fn two(stored: &[u8; 16], at: usize) -> u16
     requires { at + 2 ≤ 16 }
 {
-    pair(stored[at], stored[at + 1])
+    u16::from_le_bytes([stored[at], stored[at + 1]])
 }
 
 pub fn four(stored: &[u8; 16], at: usize) -> u32
     requires { at + 4 ≤ 16 }
 {
-    word(two(stored, at), two(stored, at + 2))
+    u32::from_le_bytes([stored[at], stored[at + 1], stored[at + 2], stored[at + 3]])
 }
 
 pub fn signed(stored: &[u8; 16], at: usize) -> i32
     requires { at + 4 ≤ 16 }
 {
-    to_signed(four(stored, at))
+    four(stored, at).cast_signed()
 }

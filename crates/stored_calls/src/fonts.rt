@@ -11,9 +11,7 @@ fn font_byte(number: u64, place: u64) -> u8
 pub fn make(font: &mut [u8], number: u64)
     requires { (number ≤ 5) × (length font.old ≤ 1000000) }
 {
-    let mut i: usize = 0;
-    while i < font.len() {
-        font[i] = font_byte(number, i as u64);
-        i += 1;
+    for (i, byte) in font.iter_mut().enumerate() {
+        *byte = font_byte(number, i as u64);
     }
 }

@@ -1,17 +1,10 @@
 -- The turns of a text's loop, the clearing after it, and the scrolls of the screen.
-use mathlib.Core.Path.{◌≡◌, sym, ap, ◌∙◌}
-use mathlib.Core.Bool.{Bool, true, false, ◌&&◌}
-use mathlib.Core.List.{List}
-use Prim.Native.Nat.{ℕ, ◌+◌, ◌-◌, ◌*◌, ◌<◌, ◌≤◌, min}
-use native.Mathlib.Nat.{mul-le-mul_right}
-use native.Mathlib.Omega.{arith}
-use lib.Dec.{leb, ltb}
-use lib.ListN.{length, get_or, set, drop, length-set, get_or-eq_default}
-use borrow.Author.Tests.{leb-true, ltb-true, le-leb, lt-leb, eq-eqb, ne_eqb}
+use Rattle.std.proofs.Common.{◌≡◌, refl, sym, ap, ◌∙◌, Bool, true, false, ◌&&◌, List, ℕ, ◌+◌, ◌-◌, ◌*◌, ◌<◌, ◌≤◌, min, arith, leb, ltb, length, get_or, set, drop, length-set, leb-true, ltb-true, le-leb, eq-eqb, ne_eqb}
+use borrow.Author.Tests.{lt-leb}
 use Rattle.model.specs.Flags.{flags_in}
-use Rattle.model.specs.Print.{screen_scrolls, Page, print_byte, print_pair, print_bytes, scrolled, scrolled_times, clear_until, clear_from, clear_after, print_on}
+use Rattle.model.specs.Print.{Page, print_byte, print_pair, print_bytes, scrolled, scrolled_times, clear_until, clear_from, clear_after, print_on}
 use Rattle.laws.specs.Tests.{and-true}
-use Rattle.laws.specs.Pages.{times_most, length-clear, byte_sheet, pair_sheet, bytes_sheet, byte_turn, pair_turn, bytes_end, cell_written, until_start, until_end}
+use Rattle.laws.specs.Pages.{times_most, length-clear, byte_sheet, pair_sheet, bytes_sheet, byte_turn, pair_turn, bytes_end, until_start, until_turn, until_end}
 use Rattle.text.specs.declared.page.Place.{Place}
 use Rattle.text.specs.declared.print.Turn.{Turn}
 use Rattle.text.specs.Written.{page, Ready, Written}
@@ -71,32 +64,24 @@ module _ (rows columns : ℕ) (v : Bool) (bs : List ℕ) (t f s g : List ℕ) (p
 
 -- ---- the clearing
 
-pub not_set : (t : List ℕ) (i : ℕ) → length t ≤ i → false ≡ cell_written t i
-not_set t i h = rw (eq-eqb (get_or t i 0) 0 (get_or-eq_default t 0 {n = i} h))
+pub clear_start : (at : ℕ) (t : List ℕ) → clear_until (length (set t at 0) - (at + 1)) (at + 1) (set t at 0) ≡ clear_from at t
+clear_start at t = ap (λ (n : ℕ). clear_until (n - (at + 1)) (at + 1) (set t at 0)) (length-set t at 0) ∙ until_start at t
 
-pub was_cleared : (at i : ℕ) (t s : List ℕ) {b : Bool} → b ≡ cell_written s i → b ≡ false
-    → clear_until (length (set t at 0) - i) i s ≡ clear_until (length (set t at 0) - (at + 1)) (at + 1) (set t at 0) → s ≡ clear_from at t
-was_cleared at i t s e f h =
-    sym (until_end (length (set t at 0) - i) i s e f) ∙ h
-    ∙ ap (λ (n : ℕ). clear_until (n - (at + 1)) (at + 1) (set t at 0)) (length-set t at 0) ∙ until_start at t
+pub clear_turn : (n i : ℕ) (t : List ℕ) → i < n → (get_or t i 0 ≡ 0 → ⊥) → clear_until (n - (i + 1)) (i + 1) (set t i 0) ≡ clear_until (n - i) i t
+clear_turn n i t l e = until_turn n i t l refl (rw (ne_eqb (get_or t i 0) 0 e))
+
+pub clear_stop : (n i : ℕ) (t : List ℕ) → get_or t i 0 ≡ 0 → clear_until n i t ≡ t
+clear_stop n i t e = until_end n i t refl (rw (eq-eqb (get_or t i 0) 0 e))
+
+pub clear_over : (n i : ℕ) (t : List ℕ) → n ≤ i → clear_until (n - i) i t ≡ t
+unfolding clear_until
+clear_over n i t l = let q : n - i ≡ 0 = omega arith in rw q
 
 -- ---- the screen
-
-pub gone_in : (n rows k : ℕ) (s : List ℕ) {g : ℕ} → length s ≡ rows * k → g ≡ min n rows → g * k ≤ length s
-gone_in n rows k s e f = rw (e, f) (mul-le-mul_right {m = min n rows} {n = rows} k (omega arith))
 
 pub screen_scrolled : (n rows k : ℕ) (s : List ℕ) {g : ℕ} {d : List ℕ} → length s ≡ rows * k → 0 < rows → g ≡ min n rows → d ≡ scrolled (g * k) 0 s
     → d ≡ scrolled_times n k s
 screen_scrolled n rows k s e h f q = q ∙ ap (λ (x : ℕ). scrolled (x * k) 0 s) f ∙ sym (times_most n rows k s e h)
-
--- in Graph it scrolls with the text
-pub in_graph : (mode n : ℕ) → mode ≡ 1 → n ≡ screen_scrolls mode n
-unfolding screen_scrolls
-in_graph mode n e = rw (eq-eqb mode 1 e)
-
-pub in_text : (mode n : ℕ) → (mode ≡ 1 → ⊥) → 0 ≡ screen_scrolls mode n
-unfolding screen_scrolls
-in_text mode n e = rw (ne_eqb mode 1 e)
 
 -- ---- the whole text
 

@@ -1,13 +1,5 @@
 -- What each step of printing leaves, from what its calls say: the page of the definition, and one that the next step can take.
-use mathlib.Core.Path.{◌≡◌, sym, ap, ◌∙◌}
-use mathlib.Core.Bool.{Bool, true, false, ◌&&◌}
-use mathlib.Core.List.{List}
-use Prim.Native.Nat.{ℕ, suc, ◌+◌, ◌*◌, ◌<◌, ◌≤◌}
-use native.Mathlib.Nat.{mul-le-mul_right, one-mul}
-use native.Mathlib.Omega.{arith}
-use lib.Dec.{leb, eqb}
-use lib.ListN.{length, set, length-set}
-use borrow.Author.Tests.{eq-eqb, ne_eqb}
+use Rattle.std.proofs.Common.{◌≡◌, sym, ap, ◌∙◌, Bool, true, false, ◌&&◌, List, ℕ, suc, ◌+◌, ◌*◌, ◌<◌, ◌≤◌, mul-le-mul_right, one-mul, arith, leb, eqb, length, set, length-set, eq-eqb, ne_eqb}
 use Rattle.model.specs.Flags.{flags_in, bytes_of_flags}
 use Rattle.model.specs.Print.{scrolled, scroll_page, next_row, newline_on, write_cell, wrap, end_row, print_byte, print_pair}
 use Rattle.laws.specs.Flags.{HasFlags, flag_room, with_flag, flags_scrolled, flags_of, flags_written, length-flags_in, flag-room, flag-written, flags-scrolled}

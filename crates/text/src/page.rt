@@ -36,27 +36,24 @@ pub fn write_cell(
 // At column 0 it does nothing; at the last row it scrolls.
 pub fn newline(rows: usize, columns: usize, text: &mut [u8], flags: &mut [u8], p: Place) -> Place
     requires ready { Ready rows columns 0 text.old flags.old p }
-    requires scrolls_bound { p.scrolls + 1 < 2 ^ 64 }
+    requires scrolls_fit { p.scrolls + 1 < 2 ^ 64 }
     ensures { Written (newline_on rows columns (page text.old flags.old p)) (p.scrolls + 1) text.new flags.new result }
 {
-    let row = p.row;
-    let column = p.column;
-    let scrolls = p.scrolls;
-    if column == 0 {
+    if p.column == 0 {
         return p;
     }
-    if row + 1 == rows {
+    if p.row + 1 == rows {
         slices::scroll(text, columns);
         flags::scroll_flags(flags, columns);
         return Place {
-            row: row,
+            row: p.row,
             column: 0,
-            scrolls: scrolls + 1,
+            scrolls: p.scrolls + 1,
         };
     }
     Place {
-        row: row + 1,
+        row: p.row + 1,
         column: 0,
-        scrolls: scrolls,
+        scrolls: p.scrolls,
     }
 }

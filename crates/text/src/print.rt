@@ -27,11 +27,10 @@ fn wrap_byte(
     inverse: bool,
 ) -> Place
     requires ready { Ready rows columns 1 text.old flags.old p }
-    requires scrolls_bound { p.scrolls + 1 < 2 ^ 64 }
+    requires scrolls_fit { p.scrolls + 1 < 2 ^ 64 }
     ensures { Written (wrap rows columns inverse b (page text.old flags.old p)) (p.scrolls + 1) text.new flags.new result }
 {
-    let column = p.column;
-    if (b >= 128) & (column + 1 == columns) {
+    if (b >= 128) & (p.column + 1 == columns) {
         let q = write_cell(columns, text, flags, p, SPACE, inverse);
         return newline(rows, columns, text, flags, q);
     }
@@ -41,11 +40,10 @@ fn wrap_byte(
 // After the last column: newline.
 fn end_row(rows: usize, columns: usize, text: &mut [u8], flags: &mut [u8], p: Place) -> Place
     requires ready { Ready rows columns 0 text.old flags.old p }
-    requires scrolls_bound { p.scrolls + 1 < 2 ^ 64 }
+    requires scrolls_fit { p.scrolls + 1 < 2 ^ 64 }
     ensures { Written (end_row rows columns (page text.old flags.old p)) (p.scrolls + 1) text.new flags.new result }
 {
-    let column = p.column;
-    if column == columns {
+    if p.column == columns {
         return newline(rows, columns, text, flags, p);
     }
     p
@@ -61,7 +59,7 @@ fn print_byte(
     inverse: bool,
 ) -> Place
     requires ready { Ready rows columns 1 text.old flags.old p }
-    requires scrolls_bound { p.scrolls + 2 < 2 ^ 64 }
+    requires scrolls_fit { p.scrolls + 2 < 2 ^ 64 }
     ensures { Written (print_byte rows columns inverse b (page text.old flags.old p)) (p.scrolls + 2) text.new flags.new result }
 {
     let q = wrap_byte(rows, columns, text, flags, p, b, inverse);
@@ -81,7 +79,8 @@ fn print_pair(
     inverse: bool,
 ) -> Place
     requires ready { Ready rows columns 1 text.old flags.old p }
-    requires scrolls_bound { (p.scrolls + 2 < 2 ^ 64) × (128 ≤ b) }
+    requires scrolls_fit { p.scrolls + 2 < 2 ^ 64 }
+    requires takes_next { 128 ≤ b }
     ensures { Written (print_pair rows columns inverse b c (page text.old flags.old p)) (p.scrolls + 2) text.new flags.new result }
 {
     let q = wrap_byte(rows, columns, text, flags, p, b, inverse);
@@ -102,7 +101,8 @@ fn print_at(
     inverse: bool,
 ) -> Turn
     requires ready { Ready rows columns 1 text.old flags.old p }
-    requires scrolls_bound { (p.scrolls + 2 < 2 ^ 64) × (at < length from.now) }
+    requires scrolls_fit { p.scrolls + 2 < 2 ^ 64 }
+    requires byte_there { at < length from.now }
     ensures { Printed rows columns inverse from.now at text.old flags.old p text.new flags.new result }
 {
     let b = from[at];
@@ -132,7 +132,7 @@ fn print_bytes(
     inverse: bool,
 ) -> Place
     requires ready { Ready rows columns 1 text.old flags.old p }
-    requires scrolls_value { p.scrolls ≡ 0 }
+    requires not_scrolled { p.scrolls ≡ 0 }
     ensures { Written (print_bytes rows columns inverse from.now (page text.old flags.old p)) (2 * length from.now) text.new flags.new result }
 {
     let n = from.len();
@@ -156,7 +156,7 @@ pub fn print(
     inverse: bool,
 ) -> Place
     requires ready { Ready rows columns 1 text.old flags.old p }
-    requires scrolls_value { p.scrolls ≡ 0 }
+    requires not_scrolled { p.scrolls ≡ 0 }
     ensures { Written (print_on rows columns inverse from.now (page text.old flags.old p)) (2 * length from.now) text.new flags.new result }
 {
     let q = print_bytes(rows, columns, text, flags, p, from, inverse);

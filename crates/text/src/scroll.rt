@@ -7,11 +7,11 @@ pub fn scroll_screen(rows: usize, size: usize, screen: &mut [u8], n: usize)
     requires { (length screen.old ≡ rows * size) × (0 < rows) }
     ensures { screen.new ≡ scrolled_times n size screen.old }
 {
-    let gone = slices::least(n, rows);
-    slices::scroll(screen, gone * size);
+    slices::scroll(screen, n.min(rows) * size);
 }
 
 // In Graph the screen scrolls with the text.
+#[tactic(auto, unfolding(model::specs::Print::screen_scrolls))]
 pub fn screen_scrolls(mode: u8, n: usize) -> usize
     ensures { result ≡ screen_scrolls mode n }
 {

@@ -5,7 +5,6 @@ use mathlib.Core.Bool.{Bool, true, false}
 use Prim.Native.Nat.{ℕ, zero, suc, ◌+◌, ◌-◌, ◌*◌, ◌≤◌}
 use native.Mathlib.Omega.{arith}
 use borrow.Rule.Slice.PartMut.{put_mid}
-use mir.Val.{bool_byte}
 use lib.IntN.{ℤ}
 use lib.ListN.{length, take, drop}
 use Rattle.model.specs.declared.Canvas.{Canvas}
@@ -14,14 +13,14 @@ use Rattle.model.specs.declared.Head.{Head}
 use Rattle.model.specs.declared.Marks.{Marks}
 use Rattle.model.specs.declared.glass.Glass.{Glass}
 use Rattle.model.specs.Geometry.{Geometry, height, screen_bytes, cells, memory_bytes}
-use Rattle.model.specs.Glass.{geometry, canvas, glass_of, Suits}
+use Rattle.model.specs.Glass.{geometry, canvas, glass_of}
 use Rattle.model.specs.Pixels.{Screen, seen}
 use Rattle.model.specs.Memory.{window, with_window, screen_of}
 use Rattle.model.specs.Flags.{flag_bytes}
 use Rattle.model.specs.Record.{flags, head_of, decode, encode}
 use Rattle.model.specs.Marks.{Drawing, Drawn, drawn, drawn_on, marked}
 use Rattle.model.specs.Points.{draw_mode, is_set}
-use Rattle.model.specs.Calls.{Call, Lent, Outcome, lent, answered, flag, drawing_with, drawing, done}
+use Rattle.model.specs.Calls.{Call, Lent, Outcome, lent, answered, drawing_with, drawing, done}
 use Rattle.laws.specs.Pixels.{length-draw}
 use Rattle.laws.specs.Parts.{part-window, part_length, part_back}
 use Rattle.laws.specs.Memory.{length-window}
@@ -57,9 +56,9 @@ unfolding drawn_on
 drawn-length st h d s = length-draw st (seen st h d.writes) s
 
 -- v's screen at a of m
-pub part_screen : {v : Glass} (a : ℕ) (m : List ℕ) {k : Canvas} → Suits v → a + v.screen ≤ length m → k ≡ canvas v → Screen k.stride k.height (take (a + v.screen - a) (drop a m))
-part_screen {v} a m z l e =
-    rw e (record {
+pub part_screen : (v : Glass) (a : ℕ) (m : List ℕ) {k : Canvas} → a + v.screen ≤ length m → k ≡ canvas v → Screen k.stride k.height (take (a + v.screen - a) (drop a m))
+part_screen v a m l e =
+    let z = v.suits in rw e (record {
       wide = omega (arith, z.glass.columns);
       narrow = omega (arith, z.glass.cursor);
       high = omega (arith, z.is_height, z.glass.row);
@@ -68,10 +67,6 @@ part_screen {v} a m z l e =
     })
 
 -- a bool as a number
-byte_flag : (t : Bool) → bool_byte t ≡ flag t
-byte_flag true = refl
-byte_flag false = refl
-
 -- ---- an accepted call that has loaded glass and head
 
 pub record Loaded (v : Glass) (r : List ℕ) (h : Head) (m : List ℕ) : Type 0 where
@@ -93,10 +88,10 @@ module _ {v : Glass} {r : List ℕ} {h : Head} {m : List ℕ} (w : Loaded v r h 
 
   -- screen and text end within memory
   pub screen-in : h.graphics + v.screen ≤ 65535
-  screen-in = let z = w.chosen.suits in omega (arith, numbers, z.is_screen, z.glass.screen)
+  screen-in = let z = v.suits in omega (arith, numbers, z.is_screen, z.glass.screen)
 
   pub text_in : h.text + v.cells ≤ 65535
-  text_in = let z = w.chosen.suits in omega (arith, numbers, z.is_cells, z.glass.text)
+  text_in = let z = v.suits in omega (arith, numbers, z.is_cells, z.glass.text)
 
   pub screen_room : h.graphics + v.screen ≤ length m
   screen_room = omega (arith, screen-in, w.memory)
@@ -111,17 +106,17 @@ module _ {v : Glass} {r : List ℕ} {h : Head} {m : List ℕ} (w : Loaded v r h 
   text-length = part_length h.text v.cells m text_room
 
   pub flags_length : length (flags_part v r) ≡ flag_bytes (cells (geometry v))
-  flags_length = ap length (flags-part v r w.chosen.suits) ∙ length_part (geometry v) flags r (has_flags (geometry v)) w.passing.sized
+  flags_length = ap length (flags-part v r) ∙ length_part (geometry v) flags r (has_flags (geometry v)) w.passing.sized
 
   -- they are the definition's windows
   pub screen_is : screen_part v h m ≡ window h.graphics (screen_bytes (geometry v)) m
-  screen_is = part-window h.graphics v.screen m ∙ ap (λ (n : ℕ). window h.graphics n m) w.chosen.suits.is_screen
+  screen_is = part-window h.graphics v.screen m ∙ ap (λ (n : ℕ). window h.graphics n m) v.suits.is_screen
 
   pub text_is : text_part v h m ≡ window h.text (cells (geometry v)) m
-  text_is = part-window h.text v.cells m ∙ ap (λ (n : ℕ). window h.text n m) w.chosen.suits.is_cells
+  text_is = part-window h.text v.cells m ∙ ap (λ (n : ℕ). window h.text n m) v.suits.is_cells
 
   pub screen-part : {k : Canvas} → k ≡ canvas v → Screen k.stride k.height (screen_part v h m)
-  screen-part e = part_screen h.graphics m w.chosen.suits screen_room e
+  screen-part e = part_screen v h.graphics m screen_room e
 
   -- what a drawing on the lent part leaves of record and memory, with the head that f makes; a and b are the mode as the code and as the definition has it
   pub drew_with : {A : Type 0} (f : Head → Head) (shape : ℕ → ℕ → A → Drawing) (c : Marks) (s : List ℕ) {a b : A} {k : Canvas} {t : List ℕ} → a ≡ b → k ≡ canvas v
@@ -131,7 +126,7 @@ module _ {v : Glass} {r : List ℕ} {h : Head} {m : List ℕ} (w : Loaded v r h 
   unfolding drawing_with drawn
   drew_with f shape c s {a} {b} {k} p q e t =
       let g = geometry v in
-      let z = w.chosen.suits in
+      let z = v.suits in
       let at = h.graphics in
       let d = shape v.stride (height g) b in
       let o : drawn c s ≡ drawn_on v.stride (height g) d (window at (screen_bytes g) m) =
@@ -177,8 +172,8 @@ module _ {v : Glass} {r : List ℕ} {h : Head} {m : List ℕ} (w : Loaded v r h 
 
   -- what a check of the lent part tells
   pub checked : (x y : ℤ) {k : Canvas} {t : Bool} → k ≡ canvas v → t ≡ is_set k.stride k.height (screen_part v h m) x y
-      → let g = glass_of (length r) in bool_byte t ≡ flag (is_set g.stride (height g) (screen_of g (decode g r).head.graphics m) x y)
+      → let g = glass_of (length r) in t ≡ is_set g.stride (height g) (screen_of g (decode g r).head.graphics m) x y
   checked x y {t = t} q e =
-      byte_flag t ∙ ap flag (e ∙ (λ i. is_set (q i).stride (q i).height (screen_is i) x y)
-      ∙ (λ i. is_set v.stride (w.chosen.suits.is_height i) (screen_of (geometry v) (w.head i).graphics m) x y)
-      ∙ ap (λ (g : Geometry). is_set g.stride (height g) (screen_of g (decode g r).head.graphics m) x y) w.chosen.glass)
+      e ∙ (λ i. is_set (q i).stride (q i).height (screen_is i) x y)
+      ∙ (λ i. is_set v.stride (v.suits.is_height i) (screen_of (geometry v) (w.head i).graphics m) x y)
+      ∙ ap (λ (g : Geometry). is_set g.stride (height g) (screen_of g (decode g r).head.graphics m) x y) w.chosen.glass

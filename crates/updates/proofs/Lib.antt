@@ -1,3 +1,4 @@
 pub mod Updating
+pub mod Heads
 pub mod Drawing
 pub mod Kept

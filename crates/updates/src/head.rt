@@ -10,63 +10,44 @@ ghost use Rattle.laws.specs.Record.{Passing};
 ghost use Rattle.updates.specs.Update.{updated, on_head};
 
 use marks::rect;
-use model::glass::HEAD_BYTES;
 use model::{Head, Rect};
 use owed::rects;
-use record::head::{COLUMN, CURSOR, DIRTY, PRINT_MODE, ROW, SCREEN_MODE};
+use record::head::{COLUMN, CURSOR, DIRTY, GRAPHICS, PRINT_MODE, ROW, SCREEN_MODE, TEXT};
 
 // Row, column, modes, cursor and dirty as open and reset leave them.
 pub fn clear_head(graphics: u16, text: u16, version: u8) -> Head
     ensures { result ≡ clear_head graphics text version }
 {
     Head {
-        graphics: graphics,
-        text: text,
+        graphics,
+        text,
         row: 0,
         column: 0,
         screen: 0,
         print: 0,
         cursor: 0,
-        version: version,
+        version,
         dirty: rect::empty(),
     }
-}
-
-fn head_bytes(h: Head) -> [u8; HEAD_BYTES]
-    ensures { result ≡ bytes_of_head h }
-{
-    [
-        (h.graphics % 256) as u8,
-        (h.graphics / 256 % 256) as u8,
-        (h.text % 256) as u8,
-        (h.text / 256 % 256) as u8,
-        h.row,
-        h.column,
-        h.screen,
-        h.print,
-        h.cursor,
-        h.version,
-        (h.dirty.left % 256) as u8,
-        (h.dirty.left / 256 % 256) as u8,
-        (h.dirty.top % 256) as u8,
-        (h.dirty.top / 256 % 256) as u8,
-        (h.dirty.right % 256) as u8,
-        (h.dirty.right / 256 % 256) as u8,
-        (h.dirty.bottom % 256) as u8,
-        (h.dirty.bottom / 256 % 256) as u8,
-    ]
 }
 
 pub fn store_head(rec: &mut [u8], h: Head)
     requires { head_bytes ≤ length rec.old }
     ensures { rec.new ≡ with_window 0 (bytes_of_head h) rec.old }
 {
-    let bytes = head_bytes(h);
-    slices::put_bytes(rec, 0, &bytes);
+    slices::store_two(rec, GRAPHICS, h.graphics);
+    slices::store_two(rec, TEXT, h.text);
+    slices::put_bytes(
+        rec,
+        ROW,
+        &[h.row, h.column, h.screen, h.print, h.cursor, h.version],
+    );
+    rects::store_rect(rec, DIRTY, h.dirty);
 }
 
 // ---- fields of a record that passes
 
+#[tactic(auto, using(record::proofs::Lengths::head_there, crate::proofs::Heads::row_set))]
 pub fn set_row(rec: &mut [u8], row: u8)
     requires { Passing (glass_of (length rec.old)) rec.old }
     ensures { rec.new ≡ updated (on_head (with_row row)) rec.old }
@@ -74,6 +55,7 @@ pub fn set_row(rec: &mut [u8], row: u8)
     rec[ROW] = row;
 }
 
+#[tactic(auto, using(record::proofs::Lengths::head_there, crate::proofs::Heads::column_set))]
 pub fn set_column(rec: &mut [u8], column: u8)
     requires { Passing (glass_of (length rec.old)) rec.old }
     ensures { rec.new ≡ updated (on_head (with_column column)) rec.old }
@@ -81,6 +63,7 @@ pub fn set_column(rec: &mut [u8], column: u8)
     rec[COLUMN] = column;
 }
 
+#[tactic(auto, using(record::proofs::Lengths::head_there, crate::proofs::Heads::same_length, crate::proofs::Heads::place_set))]
 pub fn set_place(rec: &mut [u8], row: u8, column: u8)
     requires { Passing (glass_of (length rec.old)) rec.old }
     ensures { rec.new ≡ updated (on_head (at_place row column)) rec.old }
@@ -90,6 +73,7 @@ pub fn set_place(rec: &mut [u8], row: u8, column: u8)
 }
 
 // Row and column 0, and a screen mode.
+#[tactic(auto, using(record::proofs::Lengths::head_there, crate::proofs::Heads::same_length, crate::proofs::Heads::first_place_set))]
 pub fn set_first_place(rec: &mut [u8], mode: u8)
     requires { Passing (glass_of (length rec.old)) rec.old }
     ensures { rec.new ≡ updated (on_head (λ h. at_place 0 0 (with_screen_mode mode h))) rec.old }
@@ -100,6 +84,7 @@ pub fn set_first_place(rec: &mut [u8], mode: u8)
 }
 
 // Flash while Inverse gives Normal.
+#[tactic(auto, unfolding(model::specs::Text::print_mode))]
 fn print_mode(old: u8, new: u8) -> u8
     ensures { result ≡ print_mode old new }
 {
@@ -113,6 +98,7 @@ pub fn set_print_mode(rec: &mut [u8], mode: u8)
     rec[PRINT_MODE] = print_mode(rec[PRINT_MODE], mode);
 }
 
+#[tactic(auto, using(record::proofs::Lengths::head_there, crate::proofs::Heads::cursor_set))]
 pub fn set_cursor(rec: &mut [u8], cursor: u8)
     requires { Passing (glass_of (length rec.old)) rec.old }
     ensures { rec.new ≡ updated (on_head (with_cursor cursor)) rec.old }
@@ -120,6 +106,7 @@ pub fn set_cursor(rec: &mut [u8], cursor: u8)
     rec[CURSOR] = cursor;
 }
 
+#[tactic(auto, using(record::proofs::Lengths::head_there, crate::proofs::Heads::dirty_set))]
 pub fn set_dirty(rec: &mut [u8], q: Rect)
     requires { Passing (glass_of (length rec.old)) rec.old }
     ensures { rec.new ≡ updated (on_head (with_dirty q)) rec.old }

@@ -16,10 +16,8 @@ pub fn store_keys(rec: &mut [u8], at: usize, keys: [u32; 8])
     requires { (at + 32 ≤ length rec.old) × (length keys ≡ 8) }
     ensures { rec.new ≡ with_window at (words_bytes keys) rec.old }
 {
-    let mut i: usize = 0;
-    while i < 8 {
-        slices::store_four(rec, at + 4 * i, keys[i]);
-        i += 1;
+    for (i, key) in keys.iter().enumerate() {
+        slices::store_four(rec, at + 4 * i, *key);
     }
 }
 

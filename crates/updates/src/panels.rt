@@ -1,6 +1,6 @@
 // Marks owed to each panel, in the panels' parts of the lent record. A mark asks for the glass anew: as a parameter its numbers would not be constants.
 ghost use Rattle.std.specs.Prelude.{◌≡◌, false, ◌*◌, ◌<◌, length};
-ghost use Rattle.model.specs.Glass.{geometry, glass_of, Suits};
+ghost use Rattle.model.specs.Glass.{geometry, glass_of};
 ghost use Rattle.model.specs.Rects.{is_empty};
 ghost use Rattle.model.specs.Record.{record_bytes};
 ghost use Rattle.model.specs.Marks.{owing_each};
@@ -18,48 +18,40 @@ use record::panels::panel_at;
 
 // A rectangle, not empty, owed to each panel in band i: stored where it is the whole band, else joined to what is owed there.
 fn owe_band(rec: &mut [u8], glass: Glass, i: usize, q: Rect, whole: bool)
-    requires suits { Suits glass }
-    requires rec_len { (length rec.old ≡ record_bytes (geometry glass)) × (i < glass.bands) }
-    requires q_value { is_empty q ≡ false }
+    requires sized { (length rec.old ≡ record_bytes (geometry glass)) × (i < glass.bands) }
+    requires not_empty { is_empty q ≡ false }
     ensures { rec.new ≡ each_from (geometry glass) i (λ a. owed_at whole a q) 0 glass.panels rec.old }
 {
-    let panels = glass.panels;
-    let mut k: usize = 0;
-    while k < panels {
+    for k in 0..glass.panels {
         let at = panel_at(glass, k);
         rects::owe_rect(rec, rects::band_at(at, i), q, whole);
-        k += 1;
     }
 }
 
-// The mark's part in band i, which begins at line lo, owed to each panel.
-fn mark_band(rec: &mut [u8], glass: Glass, i: usize, lo: u16, m: Rect)
-    requires suits { Suits glass }
+// The mark's part in band i owed to each panel.
+fn mark_band(rec: &mut [u8], glass: Glass, i: u16, m: Rect)
     requires passing { Passing (geometry glass) rec.old }
-    requires i_lt_bands { (i < glass.bands) × (lo ≡ i * glass.band) }
+    requires i_lt_bands { i < glass.bands }
     ensures { BandMarked (geometry glass) m i rec.old rec.new }
 {
-    let left = m.left;
-    let top = m.top;
-    let right = m.right;
-    let bottom = m.bottom;
     let width = glass.width;
+    let lo = i * glass.band;
     let hi = lo + glass.band;
-    if (left == 0) & (width <= right) & (top <= lo) & (hi <= bottom) {
+    if (m.left == 0) & (width <= m.right) & (m.top <= lo) & (hi <= m.bottom) {
         let all = Rect {
             left: 0,
             top: lo,
             right: width,
             bottom: hi,
         };
-        owe_band(rec, glass, i, all, true);
+        owe_band(rec, glass, i as usize, all, true);
         return;
     }
     let q = rect::cut_rect(width, lo, hi, m);
     if rect::is_empty(q) {
         return;
     }
-    owe_band(rec, glass, i, q, false);
+    owe_band(rec, glass, i as usize, q, false);
 }
 
 // A mark, cut at the edges of the screen and of the bands, owed to each panel: from the band of its top line on.
@@ -69,13 +61,8 @@ pub fn mark_panels(rec: &mut [u8], m: Rect)
 {
     let glass = glass_of(rec.len());
     let band = glass.band;
-    let bottom = rect::least(m.bottom, glass.height);
-    let first = m.top / band;
-    let mut i = first as usize;
-    let mut lo = first * band;
-    while lo < bottom {
-        mark_band(rec, glass, i, lo, m);
-        lo += band;
-        i += 1;
+    let bottom = m.bottom.min(glass.height);
+    for i in m.top / band..bottom.div_ceil(band) {
+        mark_band(rec, glass, i, m);
     }
 }

@@ -1,12 +1,10 @@
-use mathlib.Core.Path.{◌≡◌}
-use Prim.Native.Nat.{◌+◌, ◌*◌, ◌/◌, ◌%◌}
-use native.Mathlib.Omega.{arith}
+use Rattle.std.proofs.Common.{◌≡◌, ◌+◌, ◌*◌, ◌/◌, ◌%◌, arith}
 use Rattle.bit_runs.proofs.paint_bytes.Goals as goal
 
 pub paint_aligned-requires : goal.paint_aligned-requires
 paint_aligned-requires c =
     let e : 8 * (c.args.i / 8) ≡ c.args.i = omega arith in record {
-      from_le_to = omega arith;
+      in_memory = omega arith;
       apart = rw e c.requires.apart;
     }
 
@@ -18,7 +16,7 @@ returns-then-shift-eq0 c =
 pub paint_shifted-requires : goal.paint_shifted-requires
 paint_shifted-requires c =
     let e : 8 * (c.args.i / 8) + c.args.i % 8 ≡ c.args.i = omega arith in record {
-      from_le_to = omega arith;
+      in_memory = omega arith;
       apart = rw e c.requires.apart;
     }
 

@@ -1,20 +1,18 @@
-use native.Mathlib.Omega.{arith}
-use mir.Syntax.{w32}
-use mir.Facts.{to_z-of_z}
-use Rattle.laws.specs.PaintedMemory.{placed}
+use Rattle.std.proofs.Common.{◌∙◌, w32}
+use Rattle.std.proofs.Math.Facts.{to_z-of_z}
+use Rattle.bitmap_bytes.proofs.Drawn.{hidden_in, clip_in}
 use Rattle.bitmap_bytes.proofs.paint_bitmap_by_bytes.Goals as goal
+use Rattle.bitmap_bytes.proofs.paint_bitmap_by_bytes.Goals.{then-is_apart, else-is_apart}
 
-pub paint_apart-requires : goal.paint_apart-requires
-paint_apart-requires c =
-    record {
-      holds = c.requires.holds;
-      placed = placed _ _ c.args.source _ _ (c.requires.holds.screen-in, c.requires.holds.source_in) (omega (arith, c.source_bytes-count.ensures)) c.is_apart.ensures c.if-is_apart.true;
-    }
-
-pub returns-then-is_apart : goal.returns-then-is_apart
-returns-then-is_apart c =
-    rw (to_z-of_z {w = w32} {z = c.args.x} c.ranges.x, to_z-of_z {w = w32} {z = c.args.y} c.ranges.y) at c.paint_apart.ensures
+pub returns-in_default : goal.returns-in_default
+returns-in_default c =
+    let a = c.args in
+    let hidden = rw (to_z-of_z {w = w32} {z = a.x} c.ranges.x, to_z-of_z {w = w32} {z = a.y} c.ranges.y) at c.in_default.ensures in
+    hidden_in a.canvas a.screen a.source a.x a.y a.width a.lines a.mode a.memory.now c.requires.holds hidden c.no_marks.ensures
 
 pub returns : goal.returns
 returns c =
-    rw (to_z-of_z {w = w32} {z = c.args.x} c.ranges.x, to_z-of_z {w = w32} {z = c.args.y} c.ranges.y) at c.paint_copied.ensures
+    let a = c.args in
+    let clips = rw (to_z-of_z {w = w32} {z = a.x} c.ranges.x, to_z-of_z {w = w32} {z = a.y} c.ranges.y) at c.in-Some.ensures in
+    clip_in a.canvas a.screen a.source a.x a.y a.width a.lines a.mode a.memory.now c.requires.holds _ clips c.marks.ensures
+    (elim c.if-is_apart.branch [ then-is_apart w ↦ w.memory-is ∙ w.paint_clip.ensures | else-is_apart w ↦ w.memory-is ∙ w.paint_copied.ensures ])

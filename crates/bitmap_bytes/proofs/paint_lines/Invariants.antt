@@ -1,14 +1,12 @@
 -- The loop's invariant: the rest of the lines, painted in memory as it stands, gives the whole bitmap.
-use mathlib.Core.Path.{◌≡◌}
-use Prim.Native.Nat.{◌≤◌, ◌+◌, ◌-◌, ◌*◌}
-use lib.ListN.{length}
+use Rattle.std.proofs.Common.{◌≡◌, ◌+◌, ◌-◌}
 use Rattle.laws.specs.PaintedMemory.{Placed, painted_in}
+use Rattle.bitmap_bytes.specs.InMemory.{size, clip_painted}
 use Rattle.bitmap_bytes.proofs.paint_lines.Given as goal
 
 abbrev pub invariant-loop-y : goal.invariant-loop-y
 invariant-loop-y l =
-    Placed l.screen (l.canvas.stride * l.canvas.height) l.source (l.picture.stride * l.picture.height) l.memory × (length l.memory ≡ length l.initial.memory) × (l.j + (l.to - l.y) ≤ l.picture.height)
-    × (painted_in l.screen (l.canvas.stride * l.canvas.height) l.source (l.picture.stride * l.picture.height) l.canvas.stride l.picture.stride l.mode l.across l.j l.y (l.to - l.y) l.memory ≡ painted_in l.screen (l.canvas.stride * l.canvas.height) l.source (l.picture.stride * l.picture.height) l.canvas.stride l.picture.stride l.mode l.across l.initial.j l.initial.y (l.to - l.initial.y) l.initial.memory)
-
-abbrev pub decreases-loop-y : goal.decreases-loop-y
-decreases-loop-y l = l.to - l.y
+    let clip = l.clip in
+    let d = clip.down in
+    let rest = painted_in l.screen (size clip.canvas) l.source (size clip.picture) clip.canvas.stride clip.picture.stride l.mode clip.across (d.skip + (l.y - d.from)) l.y (d.to - l.y) l.memory in
+    Placed l.screen (size clip.canvas) l.source (size clip.picture) l.memory × (rest ≡ clip_painted clip l.screen l.source l.mode l.initial.memory)

@@ -1,7 +1,5 @@
-use mathlib.Core.Path.{refl}
-use native.Mathlib.Omega.{arith}
-use mir.Syntax.{w32}
-use mir.Facts.{to_z-of_z}
+use Rattle.std.proofs.Common.{refl, arith, w32}
+use Rattle.std.proofs.Math.Facts.{to_z-of_z}
 use Rattle.model.specs.Memory.{window}
 use Rattle.model.specs.Bitmaps.{source_bytes, bitmap}
 use Rattle.model.specs.Calls.{done}
@@ -17,7 +15,7 @@ pub paint_bitmap_by_bytes-m-requires : goal.paint_bitmap_by_bytes-m-requires
 paint_bitmap_by_bytes-m-requires c =
     let w = loaded c.requires.given c.glass_of-glass.ensures c.load_head-from.ensures in
     let is = c.canvas_of.ensures in
-    let o = is_source (c.requires.given, c.requires.height_value) refl (omega arith) (omega arith) (omega arith) in
+    let o = is_source (c.requires.given, c.requires.source_fits) refl (omega arith) (omega arith) (omega arith) in
     let size = screen-bytes w is in record {
       holds = record {
         glass = screen_window w is;
@@ -25,11 +23,8 @@ paint_bitmap_by_bytes-m-requires c =
         source_in = o.inside;
         small = omega (arith, w.memory);
       };
-      canvas_bound = omega (arith, size, screen_kept w.chosen);
+      room = omega (arith, size, screen_kept w.chosen);
     }
-
-pub mark-requires : goal.mark-requires
-mark-requires c = c.requires.given.passing
 
 pub returns : goal.returns
 unfolding done
@@ -37,4 +32,4 @@ returns c =
     let a = c.args in
     let painted = rw (to_z-of_z {w = w32} {z = a.x} c.ranges.x, to_z-of_z {w = w32} {z = a.y} c.ranges.y) at c.paint_bitmap_by_bytes-m.ensures in
     drew_in (loaded c.requires.given c.glass_of-glass.ensures c.load_head-from.ensures) (λ st h d. bitmap st h (window a.address (source_bytes a.width a.height) a.memory.now) a.x a.y a.width a.height d) _ _
-    c.paint_mode-d.ensures c.canvas_of.ensures c.paint_bitmap_by_bytes-m.auto.memory painted c.mark.ensures
+    c.from-mode.ensures c.canvas_of.ensures c.paint_bitmap_by_bytes-m.auto.memory painted c.mark.ensures

@@ -10,15 +10,11 @@ load_head-from-requires c = head_there c.requires.given.passing
 
 pub panel_at-requires : goal.panel_at-requires
 panel_at-requires c =
-    let k = c.glass_of-glass.ensures in record {
-      suits = k.suits;
-      k_lt_panels = omega (arith, (panel_for k c.requires.panel_len).1);
-    }
+    omega (arith, (panel_for c.glass_of-glass.ensures c.requires.panel_len).1)
 
 pub send_panel-q-requires : goal.send_panel-q-requires
 send_panel-q-requires c =
     let k = c.glass_of-glass.ensures in record {
-      suits = k.suits;
       passing = (passes_for k c.requires.given.passing, omega (arith, (panel_for k c.requires.panel_len).1));
       start_value = c.panel_at.ensures;
     }

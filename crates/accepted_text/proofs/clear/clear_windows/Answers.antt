@@ -3,4 +3,6 @@ use Rattle.accepted_text.proofs.clear.clear_windows.Goals as goal
 
 pub returns : goal.returns
 returns c =
-    windows-cleared _ c.args.h c.args.memory.now c.requires.suits c.requires.cells_in_bounds.0 c.requires.cells_in_bounds.1 c.clear.ensures c.clear-2.ensures
+    let a = c.window.ensures in
+    let b = c.window-2.ensures in
+    rw (a, b) (windows-cleared c.args.glass c.args.h c.args.memory.now c.requires.0 c.requires.1 (rw a at c.clear.ensures) (rw (b, a) at c.clear-2.ensures))

@@ -1,4 +1,3 @@
-use Rattle.laws.specs.Updates.{screen_small}
 use Rattle.record.proofs.Lengths.{head_there}
 use Rattle.updates.proofs.Drawing.{loaded, screen_room, text_room}
 use Rattle.accepted_text.proofs.Clearing.{flagless, all-marked, was_cleared}
@@ -9,13 +8,7 @@ load_head-requires c = head_there c.requires.passing
 
 pub clear_windows-requires : goal.clear_windows-requires
 clear_windows-requires c =
-    let w = loaded c.requires c.glass_of-glass.ensures c.load_head.ensures in record {
-      suits = w.chosen.suits;
-      cells_in_bounds = (text_room w, screen_room w);
-    }
-
-pub whole_marks-requires : goal.whole_marks-requires
-whole_marks-requires c = screen_small _ c.glass_of-glass.ensures.suits c.canvas_of.ensures
+    let w = loaded c.requires c.glass_of-glass.ensures c.load_head.ensures in (text_room w, screen_room w)
 
 pub mark-requires : goal.mark-requires
 mark-requires c = flagless c.requires.passing c.clear_flags.ensures

@@ -13,22 +13,21 @@ returns-then-screen-ne0 c = blink_graph _ _ c.load_head-h.ensures c.if-screen-ne
 pub under_cursor-b-requires : goal.under_cursor-b-requires
 under_cursor-b-requires c =
     let w = loaded c.requires c.glass_of-glass.ensures c.load_head-h.ensures in record {
-      suits = w.chosen.suits;
       numbers = numbers w;
-      cells_in_bounds = text_room w;
+      text_in_memory = text_room w;
     }
 
 pub slice_bounds-invert_cursor-end : goal.slice_bounds-invert_cursor-end
-slice_bounds-invert_cursor-end c = screen_room (loaded c.requires c.glass_of-glass.ensures c.load_head-h.ensures)
+slice_bounds-invert_cursor-end c = rw c.window.ensures (screen_room (loaded c.requires c.glass_of-glass.ensures c.load_head-h.ensures))
 
 pub invert_cursor-m-requires : goal.invert_cursor-m-requires
 invert_cursor-m-requires c =
     let w = loaded c.requires c.glass_of-glass.ensures c.load_head-h.ensures in
-    let z = w.chosen.suits.glass in
+    let z = c.glass_of-glass.result.suits.glass in
     let n = numbers w in
     let k = blink_fits _ _ n.cursor c.blink_of-cursor.ensures in record {
-      screen = screen-part w c.canvas_of.ensures;
-      glyph_height_bound = (box_bottom n z, box_right n z, k.0, k.1);
+      screen = rw c.window.ensures (screen-part w c.canvas_of.ensures);
+      box_fits = (box_bottom n z, box_right n z, k.0, k.1);
     }
 
 pub set_cursor-requires : goal.set_cursor-requires
@@ -40,4 +39,5 @@ mark-requires c = next_passes _ _ c.requires.passing c.blink_next.ensures c.set_
 pub returns : goal.returns
 returns c =
     let w = loaded c.requires c.glass_of-glass.ensures c.load_head-h.ensures in
-    blink_drew c.requires.passing w _ _ c.if-screen-ne0.false c.under_cursor-b.ensures c.blink_of-cursor.ensures c.canvas_of.ensures c.invert_cursor-m.ensures c.blink_next.ensures c.set_cursor.ensures c.mark.ensures
+    let drawn = rw c.window.ensures at c.invert_cursor-m.ensures in
+    rw c.window.ensures (blink_drew c.requires.passing w _ _ c.if-screen-ne0.false c.under_cursor-b.ensures c.blink_of-cursor.ensures c.canvas_of.ensures drawn c.blink_next.ensures c.set_cursor.ensures c.mark.ensures)

@@ -1,4 +1,4 @@
-use mathlib.Core.Path.{◌∙◌}
+use Rattle.std.proofs.Common.{◌∙◌}
 use Rattle.record.proofs.Lengths.{head_there}
 use Rattle.accepted_text.proofs.Blinking.{clear_none, clear-blinks, clear_graph}
 use Rattle.accepted_text.proofs.cursor.clear_cursor.Goals as goal

@@ -1,32 +1,27 @@
 -- Three ends: refused at the entry, no such register, and the register's byte.
-use native.Mathlib.Omega.{arith}
-use Rattle.model.specs.Controller.{read}
-use Rattle.caption.proofs.Devices.{device_stops, read_refused, read_done}
+use Rattle.std.proofs.Common.{arith}
+use Rattle.caption.proofs.Devices.{device_stops_beside, read_refused, read_done}
 use Rattle.caption.proofs.controller.caption_controller_read.Goals as goal
 
 -- refused at the entry
-pub returns-then-code-ne0 : goal.returns-then-code-ne0
-returns-then-code-ne0 c =
-    let a = c.args in
-    device_stops a.registers.now a.panel.now c.enter-e.ensures (read a.register) c.if-code-ne0.true
+pub returns-in_err-r : goal.returns-in_err-r
+returns-in_err-r c =
+    let a = c.args in device_stops_beside a.registers.now a.panel.now a.register c.from_residual.result c.from_residual.ensures.1 c.in_err-r.ensures
 
 -- no such register
 pub returns-then-i-ge-REGISTER_BYTES : goal.returns-then-i-ge-REGISTER_BYTES
 returns-then-i-ge-REGISTER_BYTES c =
     let a = c.args in
-    read_refused a.registers.now a.panel.now c.enter-e.ensures c.if-code-ne0.false a.register (omega (arith, c.if-i-ge-REGISTER_BYTES.true))
+    read_refused a.registers.now a.panel.now c.in_ok-r.ensures a.register (omega (arith, c.if-i-ge-REGISTER_BYTES.true))
 
 pub bounds-registers-i : goal.bounds-registers-i
-bounds-registers-i c = omega (arith, c.if-i-ge-REGISTER_BYTES.false, c.enter-e.ensures.bytes c.if-code-ne0.false)
-
-pub overflow_cast-value : goal.overflow_cast-value
-overflow_cast-value c = record { fits = omega (arith, (c.slice_known-2-1.given c.args.register).fits) }
+bounds-registers-i c = omega (arith, c.if-i-ge-REGISTER_BYTES.false, c.in_ok-r.ensures.passes.bytes)
 
 pub store_registers-requires : goal.store_registers-requires
-store_registers-requires c = c.enter-e.ensures.bytes c.if-code-ne0.false
+store_registers-requires c = c.in_ok-r.ensures.passes.bytes
 
 -- read
 pub returns : goal.returns
 returns c =
     let a = c.args in
-    read_done a.registers.now a.panel.now c.enter-e.ensures c.if-code-ne0.false a.register (omega (arith, c.if-i-ge-REGISTER_BYTES.false)) c.read_registers.ensures c.store_registers.ensures
+    read_done a.registers.now a.panel.now c.in_ok-r.ensures a.register (omega (arith, c.if-i-ge-REGISTER_BYTES.false)) c.read_registers.ensures c.store_registers.ensures

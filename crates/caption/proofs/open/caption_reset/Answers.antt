@@ -1,12 +1,12 @@
-use mathlib.Core.Path.{refl}
+use Rattle.std.proofs.Common.{refl}
 use Rattle.caption.proofs.Calls.{none_left, stops, finishes, given}
 use Rattle.caption.proofs.open.caption_reset.Goals as goal
 
-pub returns-then-code-ne0 : goal.returns-then-code-ne0
-returns-then-code-ne0 c = stops _ _ refl c.enter-code.ensures c.if-code-ne0.true
+pub returns-in_err-enter : goal.returns-in_err-enter
+returns-in_err-enter c = stops _ _ refl c.from_residual.result c.from_residual.ensures.1 c.in_err-enter.ensures
 
 pub reset-requires : goal.reset-requires
-reset-requires c = given _ c.enter-code.ensures c.if-code-ne0.false
+reset-requires c = given _ c.in_ok-enter.ensures
 
 pub returns : goal.returns
-returns c = finishes _ _ refl c.enter-code.ensures c.if-code-ne0.false none_left c.reset.ensures
+returns c = finishes _ _ refl c.in_ok-enter.ensures none_left c.reset.ensures

@@ -1,7 +1,5 @@
-use mathlib.Core.Path.{refl, ap}
-use mathlib.Core.List.{List, []}
-use Prim.Native.Nat.{ℕ}
-use native.Mathlib.Omega.{arith}
+use Rattle.std.proofs.Common.{refl, ap, List, [], ℕ, arith}
+use Rattle.model.specs.declared.refusal.Refusal.TheVariants as refusals
 use Rattle.model.specs.Geometry.{rows}
 use Rattle.model.specs.Refusals.{VALUE}
 use Rattle.model.specs.Calls.{lent, answered, changed, done}
@@ -9,17 +7,17 @@ use Rattle.updates.specs.Update.{updated}
 use Rattle.caption.proofs.Calls.{fails, passes, none_left, stops, stops_later, finishes, beyond, below}
 use Rattle.caption.proofs.place.caption_set_row.Goals as goal
 
-pub returns-then-code-ne0 : goal.returns-then-code-ne0
-returns-then-code-ne0 c = stops _ _ refl c.enter-code.ensures c.if-code-ne0.true
+pub returns-in_err-enter : goal.returns-in_err-enter
+returns-in_err-enter c = stops _ _ refl c.from_residual.result c.from_residual.ensures.1 c.in_err-enter.ensures
 
 pub returns-then-row-glass : goal.returns-then-row-glass
 returns-then-row-glass c =
-    stops_later _ _ refl c.enter-code.ensures c.if-code-ne0.false VALUE (fails [] (beyond c.glass_of-glass.ensures rows c.glass_of-glass.ensures.suits.is_rows _ c.if-row-glass.true)) (λ z. omega arith)
+    stops_later _ _ refl c.in_ok-enter.ensures refusals.Value (fails [] (beyond c.glass_of-glass.ensures rows c.glass_of-glass.ensures.suits.is_rows _ c.if-row-glass.true))
 
 pub set_row-requires : goal.set_row-requires
-set_row-requires c = c.enter-code.ensures.passing c.if-code-ne0.false
+set_row-requires c = c.in_ok-enter.ensures.passing
 
 pub returns : goal.returns
 unfolding done changed updated
 returns c =
-    finishes _ _ refl c.enter-code.ensures c.if-code-ne0.false (passes VALUE [] (below c.glass_of-glass.ensures rows c.glass_of-glass.ensures.suits.is_rows _ c.if-row-glass.false) none_left) (ap (λ (r : List ℕ). answered 0 [] (lent r [] [])) c.set_row.ensures)
+    finishes _ _ refl c.in_ok-enter.ensures (passes VALUE [] (below c.glass_of-glass.ensures rows c.glass_of-glass.ensures.suits.is_rows _ c.if-row-glass.false) none_left) (ap (λ (r : List ℕ). answered 0 [] (lent r [] [])) c.set_row.ensures)

@@ -1,21 +1,20 @@
-use mathlib.Core.Path.{refl}
-use mathlib.Core.List.{[]}
-use native.Mathlib.Omega.{arith}
-use borrow.Author.Tests.{lt-leb, le-leb}
+use Rattle.std.proofs.Common.{refl, [], arith}
+use Rattle.std.proofs.lemmas.Bool.{lt-leb, le-leb}
+use Rattle.model.specs.declared.refusal.Refusal.TheVariants as refusals
 use Rattle.model.specs.Refusals.{VALUE}
 use Rattle.caption.proofs.Calls.{fails, passes, none_left, stops, stops_later, finishes, given}
 use Rattle.caption.proofs.points.caption_draw_point.Goals as goal
 
-pub returns-then-code-ne0 : goal.returns-then-code-ne0
-returns-then-code-ne0 c = stops _ _ refl c.enter-code.ensures c.if-code-ne0.true
+pub returns-in_err-enter : goal.returns-in_err-enter
+returns-in_err-enter c = stops _ _ refl c.from_residual.result c.from_residual.ensures.1 c.in_err-enter.ensures
 
 pub returns-then-mode-gt3 : goal.returns-then-mode-gt3
 returns-then-mode-gt3 c =
-    stops_later _ _ refl c.enter-code.ensures c.if-code-ne0.false VALUE (fails [] (lt-leb c.args.mode 3 (omega (arith, c.if-mode-gt3.true)))) (λ z. omega arith)
+    stops_later _ _ refl c.in_ok-enter.ensures refusals.Value (fails [] (lt-leb c.args.mode 3 (omega (arith, c.if-mode-gt3.true))))
 
 pub draw_point-requires : goal.draw_point-requires
-draw_point-requires c = given _ c.enter-code.ensures c.if-code-ne0.false
+draw_point-requires c = given _ c.in_ok-enter.ensures
 
 pub returns : goal.returns
 returns c =
-    finishes _ _ refl c.enter-code.ensures c.if-code-ne0.false (passes VALUE [] (le-leb c.args.mode 3 (omega (arith, c.if-mode-gt3.false))) none_left) c.draw_point.ensures
+    finishes _ _ refl c.in_ok-enter.ensures (passes VALUE [] (le-leb c.args.mode 3 (omega (arith, c.if-mode-gt3.false))) none_left) c.draw_point.ensures

@@ -2,7 +2,7 @@ use Rattle.draw.proofs.Parts.{step-drawn, step-none}
 use Rattle.draw.proofs.ellipse.draw_step.Goals as goal
 
 pub returns-in-At : goal.returns-in-At
-returns-in-At c = search step-drawn
+returns-in-At c = step-drawn _ _ _ _ _ _ _ _ _ c.in-At.is c.draw_part.ensures
 
-pub returns-in-Nothing : goal.returns-in-Nothing
-returns-in-Nothing c = search step-none
+pub returns-in_default : goal.returns-in_default
+returns-in_default c = search step-none

@@ -1,15 +1,11 @@
 -- The loop's invariant: the walk from here on, drawn on the screen as it stands, gives what the whole walk gives. The other error sum stays 0.
-use Rattle.std.proofs.Common.{◌≡◌, ◌+◌, ◌<◌, ◌≤◌}
-use Rattle.model.specs.Pixels.{Screen, draw, seen}
+use Rattle.std.proofs.Common.{◌≡◌, ◌+◌, ◌-◌}
+use Rattle.model.specs.Pixels.{draw, seen}
 use Rattle.model.specs.Lines.{slope}
 use Rattle.laws.specs.Slopes.{slope_by}
 use Rattle.draw_lines.proofs.slope.draw_flat.Given as goal
 
-abbrev pub invariant-loop-points : goal.invariant-loop-points
-invariant-loop-points l =
-    Screen l.canvas.stride l.canvas.height l.screen × (l.x + l.points ≤ 511) × (l.y < 256)
-    × (draw l.canvas.stride (seen l.canvas.stride l.canvas.height (slope (slope_by l.across l.down l.across l.inc) l.points l.x l.y 0 l.error_y l.mode)) l.screen
-    ≡ draw l.canvas.stride (seen l.canvas.stride l.canvas.height (slope (slope_by l.across l.down l.across l.inc) (l.across + 1) l.x1 l.y1 0 0 l.mode)) l.initial.screen)
-
-abbrev pub decreases-loop-points : goal.decreases-loop-points
-decreases-loop-points l = l.points
+abbrev pub invariant-loop-x : goal.invariant-loop-x
+invariant-loop-x l =
+    draw l.canvas.stride (seen l.canvas.stride l.canvas.height (slope (slope_by l.across l.down l.across l.inc) (l.end - l.x) l.x l.y 0 l.error l.mode)) l.screen
+    ≡ draw l.canvas.stride (seen l.canvas.stride l.canvas.height (slope (slope_by l.across l.down l.across l.inc) (l.across + 1) l.x1 l.y1 0 0 l.mode)) l.initial.screen

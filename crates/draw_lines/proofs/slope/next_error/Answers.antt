@@ -1,8 +1,6 @@
-use Rattle.laws.specs.Slopes.{error_taken, error_left}
+use Rattle.std.proofs.Common.{refl, arith}
+use Rattle.laws.specs.Slopes.{error_taken}
 use Rattle.draw_lines.proofs.slope.next_error.Goals as goal
 
 pub returns-then-reaches : goal.returns-then-reaches
-returns-then-reaches c = search error_taken
-
-pub returns-else-reaches : goal.returns-else-reaches
-returns-else-reaches c = search error_left
+returns-then-reaches c = error_taken _ _ _ (omega arith) c.reaches.ensures c.if-reaches.true refl (omega arith)

@@ -1,6 +1,5 @@
 -- The send is idle, and nothing is written; or its line lies on the glass, goes to the image, and its writes are made.
-use mathlib.Core.Path.{refl, ◌∙◌}
-use native.Mathlib.Omega.{arith}
+use Rattle.std.proofs.Common.{refl, arith}
 use Rattle.record.proofs.Lengths.{passes_for, head_there}
 use Rattle.updates.proofs.Drawing.{loaded, screen_room}
 use Rattle.accepted.proofs.Sending.{panel_for, sent_for, idles, may_copy, sends_line}
@@ -12,15 +11,11 @@ load_head-from-requires c = head_there c.requires.given.passing
 
 pub panel_at-requires : goal.panel_at-requires
 panel_at-requires c =
-    let k = c.glass_of-glass.ensures in record {
-      suits = k.suits;
-      k_lt_panels = (panel_for k c.requires.image_len).1;
-    }
+    (panel_for c.glass_of-glass.ensures c.requires.image_len).1
 
 pub send_panel-q-requires : goal.send_panel-q-requires
 send_panel-q-requires c =
     let k = c.glass_of-glass.ensures in record {
-      suits = k.suits;
       passing = (passes_for k c.requires.given.passing, (panel_for k c.requires.image_len).1);
       start_value = c.panel_at.ensures;
     }
@@ -30,7 +25,7 @@ returns-then-is_empty c =
     let k = c.glass_of-glass.ensures in
     let empty = c.is_empty.ensures in
     let sent = sent_for c.args.k _ _ _ k (idles (loaded c.requires.given k c.load_head-from.ensures) c.args.k c.send_panel-q.ensures refl empty _ c.if-is_empty.true) in
-    drives_idle sent c.answer-sent.ensures _ empty c.if-is_empty.true
+    drives_idle sent c.line_sent-sent.result c.line_sent-sent.ensures _ empty c.if-is_empty.true
 
 pub overflow_add-to : goal.overflow_add-to
 overflow_add-to c =
@@ -51,7 +46,8 @@ write_line-requires c =
     let some = c.if-is_empty.false in
     let sent = sent_for c.args.k _ _ _ k (sends_line (loaded c.requires.given k c.load_head-from.ensures) c.args.k c.send_panel-q.ensures refl empty _ some c.canvas_of.ensures c.copy_line.ensures) in record {
       idle = c.requires.idle;
-      on_glass = (on_glass sent c.requires.given.passing c.requires.image_len.1 empty some, c.image-1.given ∙ c.requires.image_len.0);
+      on_glass = on_glass sent c.requires.given.passing c.requires.image_len.1 empty some;
+      image_len = omega arith;
     }
 
 pub store_registers-requires : goal.store_registers-requires
@@ -66,4 +62,4 @@ returns c =
     let empty = c.is_empty.ensures in
     let some = c.if-is_empty.false in
     let sent = sent_for c.args.k _ _ _ k (sends_line (loaded c.requires.given k c.load_head-from.ensures) c.args.k c.send_panel-q.ensures refl empty _ some c.canvas_of.ensures c.copy_line.ensures) in
-    drives_line sent c.answer-sent.ensures _ _ _ _ c.requires.registers_len.0 c.requires.registers_len.1 empty some c.write_line.ensures c.store_registers.ensures
+    drives_line sent c.line_sent-sent.result c.line_sent-sent.ensures _ _ _ _ c.requires.registers_len.0 c.requires.registers_len.1 empty some c.write_line.ensures c.store_registers.ensures

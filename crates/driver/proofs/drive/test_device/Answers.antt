@@ -1,4 +1,4 @@
-use native.Mathlib.Omega.{arith}
+use Rattle.std.proofs.Common.{arith}
 use Rattle.driver.proofs.Driving.{damaged, no_panel, still_busy, may_drive}
 use Rattle.driver.proofs.drive.test_device.Goals as goal
 

@@ -1,5 +1,5 @@
 -- Each write finds the device not busy; the fourth finds a line that fits.
-use mathlib.Core.Path.{refl}
+use Rattle.std.proofs.Common.{refl}
 use Rattle.model.specs.Geometry.{base}
 use Rattle.model.specs.Controller.{takes_write, registers_after}
 use Rattle.driver.specs.Line.{ready_field, after_field, ready_start, line_starts}

@@ -1,11 +1,8 @@
 -- A start and a data write for each byte: the list of the line's writes.
-use native.Mathlib.Omega.{arith}
+use Rattle.std.proofs.Common.{arith}
 use Rattle.model.specs.Geometry.{base}
 use Rattle.driver.specs.Line.{line_made}
 use Rattle.driver.proofs.line.write_line.Goals as goal
-
-pub slice_bounds-write_bytes-end : goal.slice_bounds-write_bytes-end
-slice_bounds-write_bytes-end c = omega (arith, c.requires.on_glass.0, c.requires.on_glass.1)
 
 pub returns : goal.returns
 returns c =

@@ -1,11 +1,6 @@
-use Rattle.flush.proofs.Walking.{taken_small, went_on}
-use native.Mathlib.Omega.{arith}
+use Rattle.std.proofs.Common.{arith}
+use Rattle.laws.specs.FlushWalk.{taken_most}
 use Rattle.flush.proofs.cells.next_spot.Goals as goal
 
 pub spot_after-requires : goal.spot_after-requires
-spot_after-requires c =
-    let p = c.requires in
-    (p.0, p.1, p.2, omega (arith, taken_small _ c.cells_taken.ensures))
-
-pub returns : goal.returns
-returns c = search went_on
+spot_after-requires c = omega (arith, c.requires, c.cells_taken.ensures, taken_most c.args.w.kind)

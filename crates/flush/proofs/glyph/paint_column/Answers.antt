@@ -1,43 +1,21 @@
-use mathlib.Core.Path.{refl}
-use native.Mathlib.Omega.{arith}
-use lib.ListN.{length-set}
-use Rattle.laws.specs.Glyphs.{room_here, room_next}
-use Rattle.flush.proofs.Painting.{column_start, column_again, column_done, room_start}
+use Rattle.std.proofs.Common.{ap, ◌∙◌, length-set}
+use Rattle.model.specs.Glyphs.{flipped}
+use Rattle.laws.specs.Glyphs.{room_next}
+use Rattle.flush.proofs.Walking.{lent_byte, lent_below, lent_over}
+use Rattle.flush.proofs.Painting.{column_again, column_done}
 use Rattle.flush.proofs.glyph.paint_column.Goals as goal
 
-pub overflow_add-end : goal.overflow_add-end
-overflow_add-end c = omega arith
-
-pub loop-i-init : goal.loop-i-init
-loop-i-init c =
-    let a = c.args in (omega arith, refl, room_start a.stride a.screen.now a.top a.from a.height c.requires.room, column_start a.stride a.font.now a.inverse a.top a.from a.height a.screen.now)
-
-pub bounds-font-i : goal.bounds-font-i
-bounds-font-i c = omega arith
-
-pub flip-requires : goal.flip-requires
-flip-requires c = tt
-
-pub bounds-screen-place : goal.bounds-screen-place
-bounds-screen-place c = let l = c.loop-i in omega (arith, room_here _ l.place l.i _ _ (omega arith) l.invariant.2)
-
-pub overflow_add-place : goal.overflow_add-place
-overflow_add-place c =
-    let l = c.loop-i in omega (arith, room_here _ l.place l.i _ _ (omega arith) l.invariant.2, c.requires.room.small, c.requires.room.narrow)
-
-pub overflow_add-i : goal.overflow_add-i
-overflow_add-i c = omega arith
-
-pub loop-i-smaller : goal.loop-i-smaller
-loop-i-smaller c = omega arith
-
-pub loop-i-preserved : goal.loop-i-preserved
-loop-i-preserved c =
-    let a = c.args in let l = c.loop-i in (omega arith, simp length-set (omega arith), room_next _ l.place l.i _ _ (omega arith) l.invariant.2, column_again a.stride a.font.now a.inverse l.place l.i _ l.screen (omega arith) c.flip.ensures l.invariant.3)
-
-pub shape_of-screen : goal.shape_of-screen
-shape_of-screen c = omega arith
+pub loop-b-preserved : goal.loop-b-preserved
+loop-b-preserved c =
+    let a = c.args in
+    let l = c.loop-b in
+    let v = l.invariant in
+    let k = lent_below a.font.now a.from a.height l.b-index c.loop-b-test.true in
+    let f = c.flip.ensures ∙ ap (flipped a.inverse) (lent_byte a.font.now a.from a.height l.b-index k) in
+    (simp length-set v.0, room_next _ l.place l.b-index _ _ k v.1, column_again a.stride a.font.now a.inverse a.from a.height l.b-index l.place l.screen v.2 k f)
 
 pub returns : goal.returns
 returns c =
-    let l = c.loop-i in let a = c.args in column_done a.stride a.font.now a.inverse l.place l.i _ l.screen (omega arith) l.invariant.3
+    let a = c.args in
+    let l = c.loop-b in
+    column_done a.stride a.font.now a.inverse a.from a.height l.b-index l.place l.screen l.invariant.2 (lent_over a.font.now a.from a.height l.b-index c.requires.bytes_are_there c.loop-b-test.false)

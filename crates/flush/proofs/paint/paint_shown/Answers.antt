@@ -1,6 +1,6 @@
 -- One law for each kind: its room, its bytes, what it leaves.
-use mathlib.Core.Path.{refl}
-use Rattle.model.specs.Glyphs.{fonts}
+use Rattle.std.proofs.Common.{refl}
+use Rattle.flush.specs.Lent.{fonts_of}
 use Rattle.flush.proofs.Showing.{room_at, single_in, pair_in, code_in, blank_shown, single_shown, pair_shown, code_shown}
 use Rattle.flush.proofs.paint.paint_shown.Goals as goal
 
@@ -9,8 +9,7 @@ paint_single-requires c =
     let a = c.args in
     let w = a.w in record {
       spot_room = c.requires.shown_room.spot;
-      b_in_bounds = single_in a.version (fonts a.ascii8.now a.ascii16.now a.gb.now a.emoji.now a.list.now a.extra.now) w.lead w.trail c.in-Single.is c.requires.w_value;
-      flags_len = c.requires.flags_len;
+      character_is_there = single_in a.style.version (fonts_of a.style.fonts) w.lead w.trail c.in-Single.is c.requires.bytes_are_there;
     }
 
 pub paint_pair-requires : goal.paint_pair-requires
@@ -18,16 +17,15 @@ paint_pair-requires c =
     let a = c.args in
     let w = a.w in record {
       pair_room = c.requires.shown_room.pair c.in-Pair.is;
-      trail_value = pair_in a.version (fonts a.ascii8.now a.ascii16.now a.gb.now a.emoji.now a.list.now a.extra.now) w.lead w.trail c.in-Pair.is c.requires.w_value;
-      flags_len = c.requires.flags_len;
+      glyph_is_there = pair_in a.style.version (fonts_of a.style.fonts) w.lead w.trail c.in-Pair.is c.requires.bytes_are_there;
     }
 
 pub paint_code-requires : goal.paint_code-requires
 paint_code-requires c =
     let a = c.args in
     let w = a.w in record {
-      room = room_at a.columns a.screen.now a.screen.now 16 c.requires.shown_room.spot.left refl c.top_of.ensures.0;
-      b_in_bounds = code_in a.version (fonts a.ascii8.now a.ascii16.now a.gb.now a.emoji.now a.list.now a.extra.now) w.lead w.trail c.in-Code.is c.requires.w_value;
+      room = room_at a.style.columns a.screen.now a.screen.now 16 c.requires.shown_room.spot.left refl c.top_of-top.ensures.0;
+      digits_are_there = code_in a.style.version (fonts_of a.style.fonts) w.lead w.trail c.in-Code.is c.requires.bytes_are_there;
     }
 
 pub returns-in-Blank : goal.returns-in-Blank

@@ -1,20 +1,24 @@
-use Rattle.laws.specs.Owed.{test_starts, test_goes, test_fails, test_ends, band_in}
-use native.Mathlib.Omega.{arith}
+use Rattle.std.proofs.Common.{◌≡◌, not, ℕ, ◌+◌, ◌*◌, ◌-◌, ◌∙◌, ap, arith}
+use Rattle.model.specs.Rects.{fits}
+use Rattle.model.specs.Bytes.{rect_at}
+use Rattle.laws.specs.Owed.{test_goes, test_fails, test_ends}
 use Rattle.owed.proofs.bands.bands_fit.Goals as goal
-
-pub loop-left-init : goal.loop-left-init
-loop-left-init c = search test_starts
-
-pub overflow_add-hi : goal.overflow_add-hi
-overflow_add-hi c = omega (arith, band_in _ _ _ _ c.loop-left-test.true c.loop-left.invariant.lines)
 
 pub returns-then-not-rect_fits : goal.returns-then-not-rect_fits
 returns-then-not-rect_fits c =
-    test_fails c.loop-left.invariant c.loop-left-test.true c.rect_fits.ensures c.if-not-rect_fits.true-raw
+    let a = c.args in
+    let l = c.loop-i in
+    let here = ap (λ (k : ℕ). fits a.width l.lo (l.lo + a.band) (rect_at a.rec.now k)) c.band_at.ensures in
+    test_fails l.invariant (omega arith) (c.rect_fits.ensures ∙ here) (ap not c.if-not-rect_fits.true)
 
-pub loop-left-preserved : goal.loop-left-preserved
-loop-left-preserved c =
-    test_goes c.loop-left.invariant c.loop-left-test.true c.rect_fits.ensures c.if-not-rect_fits.false-raw
+pub loop-i-preserved : goal.loop-i-preserved
+loop-i-preserved c =
+    let a = c.args in
+    let l = c.loop-i in
+    let here = ap (λ (k : ℕ). fits a.width l.lo (l.lo + a.band) (rect_at a.rec.now k)) c.band_at.ensures in
+    let next : a.at + 8 * l.i + 8 ≡ a.at + 8 * (l.i + 1) = omega arith in
+    let rest : a.bands - l.i - 1 ≡ a.bands - (l.i + 1) = omega arith in
+    rw (← next, ← rest) (test_goes l.invariant (omega arith) (c.rect_fits.ensures ∙ here) (ap not c.if-not-rect_fits.false))
 
 pub returns : goal.returns
-returns c = search test_ends
+returns c = test_ends _ _ _ _ _ _ _ _ c.loop-i.invariant (omega arith)

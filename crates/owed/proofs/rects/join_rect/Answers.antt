@@ -9,5 +9,5 @@ returns-then-is_clear c =
 pub returns : goal.returns
 returns c =
     joins_sides c.args.at c.args.q c.args.bytes.now c.requires.at_in_bounds c.requires.q_value c.is_clear.ensures c.if-is_clear.false c.load_rect-stands.ensures
-    c.least.ensures c.least-2.ensures c.greatest.ensures c.greatest-2.ensures
+    c.min.ensures c.min-2.ensures c.max.ensures c.max-2.ensures
     c.store_two.ensures c.store_two-2.ensures c.store_two-3.ensures c.store_two-4.ensures

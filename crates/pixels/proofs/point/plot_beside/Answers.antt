@@ -1,21 +1,8 @@
 use native.Mathlib.Omega.{arith}
 use Rattle.model.specs.Bytes.{Bytes}
-use Rattle.laws.specs.Runs.{line_in, beside_drawn, beside_none}
+use Rattle.laws.specs.Runs.{beside_drawn, beside_none}
 use Rattle.pixels.specs.Raster.{op_known}
 use Rattle.pixels.proofs.point.plot_beside.Goals as goal
-
-pub overflow_mul-stride-then-x-stride : goal.overflow_mul-stride-then-x-stride
-overflow_mul-stride-then-x-stride c = omega (arith, line_in _ _ c.args.y c.requires.screen c.requires.y_lt_height)
-
-pub overflow_add-stride : goal.overflow_add-stride
-overflow_add-stride c = omega (arith, line_in _ _ c.args.y c.requires.screen c.requires.y_lt_height)
-
-pub draw_mask-requires : goal.draw_mask-requires
-draw_mask-requires c =
-    record {
-      at_in_bounds = omega (arith, line_in _ _ c.args.y c.requires.screen c.requires.y_lt_height);
-      op = c.requires.op;
-    }
 
 pub returns-then-x-stride : goal.returns-then-x-stride
 unfolding Bytes

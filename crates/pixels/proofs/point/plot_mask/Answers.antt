@@ -1,19 +1,7 @@
 use native.Mathlib.Omega.{arith}
 use Rattle.model.specs.Bytes.{Bytes}
-use Rattle.laws.specs.Points.{place_in, plotted}
+use Rattle.laws.specs.Points.{plotted}
 use Rattle.pixels.proofs.point.plot_mask.Goals as goal
-
-pub overflow_mul-at : goal.overflow_mul-at
-overflow_mul-at c = omega (arith, place_in _ _ c.args.x c.args.y c.requires.screen c.requires.x_bound)
-
-pub overflow_add-at : goal.overflow_add-at
-overflow_add-at c = omega (arith, place_in _ _ c.args.x c.args.y c.requires.screen c.requires.x_bound)
-
-pub bounds-screen-at : goal.bounds-screen-at
-bounds-screen-at c = omega (arith, place_in _ _ c.args.x c.args.y c.requires.screen c.requires.x_bound)
-
-pub bounds-screen-at-2 : goal.bounds-screen-at-2
-bounds-screen-at-2 c = omega (arith, place_in _ _ c.args.x c.args.y c.requires.screen c.requires.x_bound)
 
 pub returns : goal.returns
 unfolding Bytes

@@ -9,16 +9,16 @@ use Rattle.record.proofs.glass.edge_of.Goals as goal
 
 pub bounds-rec-at : goal.bounds-rec-at
 bounds-rec-at c =
-    let k = c.glass_of-at.ensures in omega (arith, edge_room _ k.suits, sized_for c.args.rec.now k c.requires)
+    let k = c.glass_of-at.ensures in omega (arith, edge_room c.glass_of-at.result, sized_for c.args.rec.now k c.requires)
 
 pub returns-then-rec-at-eq0 : goal.returns-then-rec-at-eq0
 returns-then-rec-at-eq0 c =
     let r = c.args.rec.now in
     let k = c.glass_of-at.ensures in
-    edge_clamps _ r k.suits c.if-rec-at-eq0.true ∙ ap (λ (g : Geometry). edge_of (decode g r).edge) k.glass
+    edge_clamps c.glass_of-at.result r c.if-rec-at-eq0.true ∙ ap (λ (g : Geometry). edge_of (decode g r).edge) k.glass
 
 pub returns-else-rec-at-eq0 : goal.returns-else-rec-at-eq0
 returns-else-rec-at-eq0 c =
     let r = c.args.rec.now in
     let k = c.glass_of-at.ensures in
-    edge_stops _ r k.suits c.if-rec-at-eq0.false ∙ ap (λ (g : Geometry). edge_of (decode g r).edge) k.glass
+    edge_stops c.glass_of-at.result r c.if-rec-at-eq0.false ∙ ap (λ (g : Geometry). edge_of (decode g r).edge) k.glass

@@ -1,13 +1,12 @@
 -- Each number of the glass follows from the geometry by computing.
-use mathlib.Core.Path.{refl}
-use native.Mathlib.Omega.{arith}
+use Rattle.std.proofs.Common.{refl, arith}
 use Rattle.model.specs.Record.{total, offset}
 use Rattle.laws.specs.Glasses.{base_glass}
 use Rattle.record.proofs.glass.glass_of.Goals as goal
 
-pub returns : goal.returns
+pub invariant_of-result : goal.invariant_of-result
 unfolding total offset
-returns c =
+invariant_of-result c =
     record {
       suits = record {
         glass = base_glass;
@@ -27,5 +26,4 @@ returns c =
         is_others = refl;
         is_edge = refl;
       };
-      glass = refl;
     }

@@ -11,10 +11,7 @@ use Rattle.record.proofs.keys.clear_memory.Goals as goal
 
 pub write_keys-requires : goal.write_keys-requires
 write_keys-requires c =
-    let k = c.glass_of.ensures in record {
-      suits = k.suits;
-      rec_len = (sized_for c.args.rec.now k c.requires.0, simp length-set (omega (arith, c.clear.auto.part, c.requires.1)));
-    }
+    (sized_for c.args.rec.now c.glass_of.ensures c.requires.0, simp length-set (omega (arith, c.clear.auto.part, c.requires.1)))
 
 pub shape_of-memory : goal.shape_of-memory
 shape_of-memory c = c.write_keys.auto.memory ∙ simp length-set c.clear.auto.part

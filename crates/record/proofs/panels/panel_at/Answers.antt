@@ -7,11 +7,11 @@ returns-then-k-eq0 c = is_first_at c.args.glass c.args.k (omega (arith, c.if-k-e
 
 pub overflow_mul-result : goal.overflow_mul-result
 overflow_mul-result c =
-    omega (arith, others_room _ _ c.requires.suits c.requires.k_lt_panels (λ e. omega (arith, c.if-k-eq0.false)))
+    omega (arith, others_room c.args.glass _ c.requires (λ e. omega (arith, c.if-k-eq0.false)))
 
 pub overflow_add-result : goal.overflow_add-result
 overflow_add-result c =
-    omega (arith, others_room _ _ c.requires.suits c.requires.k_lt_panels (λ e. omega (arith, c.if-k-eq0.false)))
+    omega (arith, others_room c.args.glass _ c.requires (λ e. omega (arith, c.if-k-eq0.false)))
 
 pub returns : goal.returns
-returns c = is_others_at _ _ c.requires.suits c.requires.k_lt_panels (λ e. omega (arith, c.if-k-eq0.false))
+returns c = is_others_at c.args.glass _ c.requires (λ e. omega (arith, c.if-k-eq0.false))

@@ -1,9 +1,12 @@
-use mathlib.Core.Path.{ap}
-use Rattle.model.specs.Script.Read.{goes_on}
-use mathlib.Core.Bool.{Bool, ◌&&◌}
-use lib.Dec.{ltb}
+use Rattle.std.proofs.Common.{arith}
+use Rattle.std.proofs.lemmas.Grind.{common_steps}
+use Rattle.model.specs.Script.Read.{is_digit, goes_on}
 use Rattle.script.proofs.words.goes_on.Goals as goal
 
-pub returns : goal.returns
-unfolding goes_on
-returns c = ap (λ (t : Bool). t && ltb c.args.v 10000) c.is_digit.ensures
+pub returns-then-is_ascii_digit-clause-value : goal.returns-then-is_ascii_digit-clause-value
+unfolding goes_on is_digit
+returns-then-is_ascii_digit-clause-value c = grind (arith, common_steps)
+
+pub returns-else-is_ascii_digit-clause-value : goal.returns-else-is_ascii_digit-clause-value
+unfolding goes_on is_digit
+returns-else-is_ascii_digit-clause-value c = grind (arith, common_steps)

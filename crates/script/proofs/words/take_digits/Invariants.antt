@@ -1,11 +1,6 @@
-use mathlib.Core.Path.{◌≡◌}
-use Prim.Native.Nat.{◌-◌, ◌<◌}
-use lib.ListN.{length, drop}
+use Rattle.std.proofs.Common.{◌≡◌, ◌<◌, drop}
 use Rattle.model.specs.Script.Read.{take_digits}
 use Rattle.script.proofs.words.take_digits.Given as goal
 
 abbrev pub invariant-loop-i : goal.invariant-loop-i
-invariant-loop-i l = (l.v < 100000) × (take_digits l.v (drop l.i l.s) ≡ take_digits l.first (drop l.at l.s))
-
-abbrev pub decreases-loop-i : goal.decreases-loop-i
-decreases-loop-i l = length l.s - l.i
+invariant-loop-i l = (l.v < 100000) × (take_digits l.v (drop l.i l.s) ≡ take_digits l.first l.s)

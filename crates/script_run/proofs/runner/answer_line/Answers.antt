@@ -1,14 +1,14 @@
 use Rattle.script_run.proofs.Running.{plain_room, plain_answered, means_point, means_line, means_poke, beside_draw, beside_poke, send_room, send_answered, bad_room, bad_answered}
 use Rattle.script_run.proofs.runner.answer_line.Goals as goal
 
-pub put_code-requires : goal.put_code-requires
-put_code-requires c = search (plain_room, means_point, beside_draw)
+pub put_done-requires : goal.put_done-requires
+put_done-requires c = search (plain_room, means_point, beside_draw)
 
-pub put_code-requires-in-Line : goal.put_code-requires-in-Line
-put_code-requires-in-Line c = search (plain_room, means_line, beside_draw)
+pub put_done-requires-in-Line : goal.put_done-requires-in-Line
+put_done-requires-in-Line c = search (plain_room, means_line, beside_draw)
 
-pub put_code-requires-in-Poke : goal.put_code-requires-in-Poke
-put_code-requires-in-Poke c = search (plain_room, means_poke, beside_poke)
+pub put_done-requires-in-Poke : goal.put_done-requires-in-Poke
+put_done-requires-in-Poke c = search (plain_room, means_poke, beside_poke)
 
 pub put_sent-requires : goal.put_sent-requires
 put_sent-requires c = search send_room

@@ -1,56 +1,34 @@
--- A turn answers what stands at the reader's place and goes on behind it: `turn_stands` and `turn_fewer` of Whole.antt.
-use Rattle.std.proofs.Common.{ap, ◌∙◌, arith}
-use Rattle.model.specs.Calls.{lent}
+use Rattle.std.proofs.Common.{◌≡◌, ◌∙◌, arith}
 use Rattle.model.specs.Script.Read.{read_script}
+use Rattle.script.specs.Lines.{reads_from}
 use Rattle.script.proofs.Splitting.{read_le}
-use Rattle.script_run.proofs.Whole.{ran_start, counts_on, stands_running, stands_ended, turn_room, turn_stands, turn_fewer}
+use Rattle.script_run.proofs.Whole.{reads_start, ran_start, end_room, ran_end, next_room, ran_turn}
 use Rattle.script_run.proofs.runner.run_lines.Goals as goal
 
-pub loop-p-init : goal.loop-p-init
-loop-p-init c =
-    let a = c.args in (
-      ap (λ (z : _). z.now) c.new-r.ensures.0,
-      c.requires.buffers_sized,
-      rw (c.start-p.ensures, c.new-r.ensures.1)
-          (ran_start (read_script a.script.now) a.out.now (lent a.rec.now a.memory.now a.panel.now) (omega (arith, read_le a.script.now)) c.requires.panel_in_bounds),
-    )
-
-pub answer_next-p-requires : goal.answer_next-p-requires
-answer_next-p-requires c =
+pub loop-form-init : goal.loop-form-init
+loop-form-init c =
     let a = c.args in
-    let l = c.loop-p in
-    let k = stands_running _ _ _ _ _ _ _ _ c.loop-p-test.true l.invariant.2 in
-    let here = rw l.invariant.0 at c.next-s.ensures in (
-      l.invariant.1,
-      counts_on _ _ _ _ _ _ _ k,
-      turn_room a.script.now a.out.now a.rec.now a.memory.now a.panel.now l.r.at l.p l.out l.rec l.memory l.panel k c.next-s.result here,
-    )
+    let r = c.into_iter-form-iterator.result in
+    let e : reads_from r.at r.src.now ≡ read_script a.script.now = cc (reads_start a.script.now) in
+    record {
+      sized = c.requires.buffers_sized;
+      ran = rw e (ran_start (read_script a.script.now) a.out.now _ (omega (arith, read_le a.script.now, c.requires.script_len_bound)) c.requires.at_start c.requires.text_fits);
+    }
 
-pub loop-p-smaller : goal.loop-p-smaller
-loop-p-smaller c =
-    let a = c.args in
-    let l = c.loop-p in
-    let k = stands_running _ _ _ _ _ _ _ _ c.loop-p-test.true l.invariant.2 in
-    let here = rw l.invariant.0 at c.next-s.ensures in
-    let after = rw l.invariant.0 at c.after_line-r.ensures.1 in
-    let next = c.answer_next-p in
-    rw c.loop-p-test.true
-    (turn_fewer a.script.now a.out.now a.rec.now a.memory.now a.panel.now l.r.at l.p l.out l.rec l.memory l.panel k c.next-s.result here c.after_line-r.result.at after
-    next.new.out next.new.rec next.new.memory next.new.panel next.result next.ensures)
+pub answer_line-requires : goal.answer_line-requires
+answer_line-requires c = next_room _ _ _ _ _ _ c.loop-form.invariant.ran _ _ c.in-Some.ensures.steps
 
-pub loop-p-preserved : goal.loop-p-preserved
-loop-p-preserved c =
-    let a = c.args in
-    let l = c.loop-p in
-    let k = stands_running _ _ _ _ _ _ _ _ c.loop-p-test.true l.invariant.2 in
-    let here = rw l.invariant.0 at c.next-s.ensures in
-    let after = rw l.invariant.0 at c.after_line-r.ensures.1 in
-    let next = c.answer_next-p in (
-      ap (λ (z : _). z.now) c.after_line-r.ensures.0 ∙ l.invariant.0,
-      record { rec = next.auto.rec ∙ l.invariant.1.rec; memory = next.auto.memory ∙ l.invariant.1.memory; panel = next.auto.panel ∙ l.invariant.1.panel },
-      turn_stands a.script.now a.out.now a.rec.now a.memory.now a.panel.now l.r.at l.p l.out l.rec l.memory l.panel k c.next-s.result here c.after_line-r.result.at after
-          next.new.out next.new.rec next.new.memory next.new.panel next.result next.ensures,
-    )
+pub loop-form-preserved : goal.loop-form-preserved
+loop-form-preserved c =
+    let s = c.loop-form.invariant.sized in
+    let l = c.answer_line.auto in
+    record {
+      sized = record { rec = l.rec ∙ s.rec; memory = l.memory ∙ s.memory; panel = l.panel ∙ s.panel };
+      ran = ran_turn _ _ _ _ _ _ c.loop-form.invariant.ran _ _ c.in-Some.ensures.steps c.answer_line.new.out _ c.answer_line.ensures.printed c.answer_line.ensures.left;
+    }
+
+pub put_ending-requires-clause-text_fits : goal.put_ending-requires-clause-text_fits
+put_ending-requires-clause-text_fits c = end_room _ _ _ _ _ _ c.loop-form.invariant.ran c.in-None.ensures.steps.0
 
 pub returns : goal.returns
-returns c = stands_ended _ _ _ _ _ _ _ _ c.loop-p-test.false c.loop-p.invariant.2
+returns c = ran_end _ _ _ _ _ _ c.loop-form.invariant.ran c.in-None.ensures.steps.0 c.put_ending.new.out c.put_ending.ensures

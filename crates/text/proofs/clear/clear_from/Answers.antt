@@ -1,41 +1,17 @@
-use mathlib.Core.Path.{refl, ◌∙◌}
-use native.Mathlib.Omega.{arith}
-use lib.ListN.{length-set}
-use Rattle.laws.specs.Pages.{set_in, until_turn}
-use Rattle.text.proofs.Turning.{was_cleared}
+use Rattle.std.proofs.Common.{refl, sym, ◌∙◌, length-set}
+use Rattle.text.proofs.Turning.{clear_start, clear_turn, clear_stop, clear_over}
 use Rattle.text.proofs.clear.clear_from.Goals as goal
 
-pub loop-text-init : goal.loop-text-init
-loop-text-init c = (refl, refl)
+pub loop-i-init : goal.loop-i-init
+loop-i-init c = (refl, clear_start _ _)
 
-pub bounds-text-i : goal.bounds-text-i
-bounds-text-i c =
-    let l = c.loop-text in
-    set_in l.text l.i c.is_set.ensures c.loop-text-test.true
+pub returns-then-text-i-eq0 : goal.returns-then-text-i-eq0
+returns-then-text-i-eq0 c = let l = c.loop-i in sym (clear_stop _ l.i l.text c.if-text-i-eq0.true) ∙ l.invariant.1
 
-pub overflow_add-i-in-loop-text : goal.overflow_add-i-in-loop-text
-overflow_add-i-in-loop-text c =
-    let l = c.loop-text in
-    let h = set_in l.text l.i c.is_set.ensures c.loop-text-test.true in
-    omega (arith, length-set c.args.text.now c.args.at 0)
-
-pub loop-text-smaller : goal.loop-text-smaller
-loop-text-smaller c =
-    let l = c.loop-text in
-    let h = set_in l.text l.i c.is_set.ensures c.loop-text-test.true in
-    omega (arith, length-set c.args.text.now c.args.at 0)
-
-pub loop-text-preserved : goal.loop-text-preserved
-loop-text-preserved c =
-    let l = c.loop-text in
-    let h = set_in l.text l.i c.is_set.ensures c.loop-text-test.true in
-    (length-set l.text l.i 0 ∙ l.invariant.0, until_turn _ l.i l.text (omega arith) c.is_set.ensures c.loop-text-test.true ∙ l.invariant.1)
-
-pub shape_of-text : goal.shape_of-text
-shape_of-text c = c.loop-text.invariant.0 ∙ length-set c.args.text.now c.args.at 0
+pub loop-i-preserved : goal.loop-i-preserved
+loop-i-preserved c =
+    let l = c.loop-i in
+    (length-set l.text l.i 0 ∙ l.invariant.0, clear_turn _ l.i l.text c.loop-i-test.true c.if-text-i-eq0.false ∙ l.invariant.1)
 
 pub returns : goal.returns
-returns c =
-    let l = c.loop-text in
-    let a = c.args in
-    was_cleared a.at l.i a.text.now l.text c.is_set.ensures c.loop-text-test.false l.invariant.1
+returns c = let l = c.loop-i in sym (clear_over _ l.i l.text c.loop-i-test.false) ∙ l.invariant.1

@@ -1,5 +1,5 @@
 -- The next cell lies on the page that all bytes leave, so the clearing may start there.
-use native.Mathlib.Omega.{arith}
+use Rattle.std.proofs.Common.{arith}
 use Rattle.text.proofs.Turning.{cell_after, text-printed}
 use Rattle.text.proofs.print.print.Goals as goal
 

@@ -1,17 +1,16 @@
-use borrow.Author.Rules.{rules}
-use mathlib.Core.Path.{refl}
-use native.Mathlib.Omega.{arith}
+use Rattle.std.proofs.Common.{rules, refl, arith}
 use Rattle.text.proofs.Turning.{same_rest, all-printed}
 use Rattle.text.proofs.print.print_bytes.Goals as goal
 
 pub loop-i-init : goal.loop-i-init
-loop-i-init c = (search rules, refl, refl, c.requires.ready, omega (arith, c.requires.scrolls_value), refl)
+loop-i-init c = (search rules, refl, refl, c.requires.ready, omega (arith, c.requires.not_scrolled), refl)
 
 pub print_at-s-requires : goal.print_at-s-requires
 print_at-s-requires c =
     let l = c.loop-i in record {
       ready = l.invariant.3;
-      scrolls_bound = (omega (arith, l.invariant.4), omega arith);
+      scrolls_fit = omega (arith, l.invariant.4);
+      byte_there = omega arith;
     }
 
 pub loop-i-smaller : goal.loop-i-smaller

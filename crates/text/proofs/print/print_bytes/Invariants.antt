@@ -1,7 +1,5 @@
 -- The invariant: what is left of the text, printed on the page as it stands, gives what the whole text gives on the first page; each turn scrolls at most twice.
-use mathlib.Core.Path.{◌≡◌}
-use Prim.Native.Nat.{◌≤◌, ◌-◌, ◌*◌}
-use lib.ListN.{length, drop}
+use Rattle.std.proofs.Common.{◌≡◌, ◌≤◌, ◌-◌, ◌*◌, length, drop}
 use Rattle.model.specs.Print.{print_bytes}
 use Rattle.text.specs.Written.{page, Ready}
 use Rattle.text.proofs.print.print_bytes.Given as goal

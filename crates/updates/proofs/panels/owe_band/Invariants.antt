@@ -1,10 +1,6 @@
-use Prim.Native.Nat.{◌-◌}
 use Rattle.laws.specs.Owed.{owed_at}
 use Rattle.laws.specs.MarkLoops.{Owing}
 use Rattle.updates.proofs.panels.owe_band.Given as goal
 
 abbrev pub invariant-loop-k : goal.invariant-loop-k
-invariant-loop-k l = Owing l.glass l.i (λ a. owed_at l.whole a l.q) l.initial.rec l.rec l.panels l.k
-
-abbrev pub decreases-loop-k : goal.decreases-loop-k
-decreases-loop-k l = l.panels - l.k
+invariant-loop-k l = Owing l.glass l.i (λ a. owed_at l.whole a l.q) l.initial.rec l.rec l.glass.panels l.k

@@ -13,7 +13,7 @@ use Rattle.model.specs.Marks.{whole, owing_each}
 use Rattle.model.specs.Open.{clear_head, reset_state}
 use Rattle.laws.specs.Record.{Passing}
 use Rattle.laws.specs.Formed.{owing_formed}
-use Rattle.laws.specs.Updates.{head_decoded, screen_small}
+use Rattle.laws.specs.Updates.{head_decoded}
 use Rattle.updates.specs.Update.{updated, on_head}
 use Rattle.record.proofs.Lengths.{head_there}
 use Rattle.updates.proofs.Updating.{whole_for, unflagged, unflagged_formed, sets_head, still_passes, then_updated}
@@ -41,9 +41,6 @@ module _ {r s t : List ℕ} (q : Rect) (p : Passing (glass_of (length r)) r) (e 
 
 pub load_head-h-requires : goal.load_head-h-requires
 load_head-h-requires c = head_there c.requires
-
-pub whole_screen-requires : goal.whole_screen-requires
-whole_screen-requires c = screen_small _ c.glass_of-glass.ensures.suits c.canvas_of.ensures
 
 pub mark_panels-requires : goal.mark_panels-requires
 mark_panels-requires c = still_passes unflagged c.requires (unflagged_formed c.args.rec.now c.requires) c.clear_flags.ensures

@@ -1,8 +1,0 @@
-use Rattle.std.proofs.Common.{le-ltb, lt-ltb}
-use Rattle.ellipse_walk.proofs.apart.Goals as goal
-
-pub returns-then-m-n : goal.returns-then-m-n
-returns-then-m-n c = rw (lt-ltb _ _ c.if-m-n.true)
-
-pub returns-else-m-n : goal.returns-else-m-n
-returns-else-m-n c = rw (le-ltb _ _ c.if-m-n.false)
