@@ -1,4 +1,4 @@
-// The C interface of include/caption.h: each symbol is the call of crate caption, with its contract.
+// The C interface of include/caption.h: each symbol is the call of crate caption, with the same outcome, its answer in codes and numbers.
 #![tactic(auto)]
 
 pub mod bitmaps;
