@@ -51,6 +51,11 @@ module _ (v : Glass) {i : ℕ} (b : i < v.screen) where
     pub column_found : x * v.stride / line_parts ≡ i % v.stride
     column_found = rw (f, e) (column_of_byte v.suits.is_reciprocal lines.1 i lines.2)
 
+-- its eight pixels, number by number
+pub eight_pixels : (st i : ℕ) {l t r b : ℕ} → l ≡ 8 * (i % st) → t ≡ i / st → r ≡ l + 8 → b ≡ t + 1
+    → record { left = l; top = t; right = r; bottom = b } ≡ byte_rect st i
+eight_pixels st i p q e f = λ j. record { left = p j; top = q j; right = (e ∙ (λ k. p k + 8)) j; bottom = (f ∙ (λ k. q k + 1)) j }
+
 -- ignored: nothing changes
 pub poke_ignored : {v : Glass} {r m : List ℕ} → Given r m → Chosen (length r) v → (a b : ℕ) {t : Bool} → t ≡ ignored (decode (geometry v) r).keys a → t ≡ true
     → answered 0 [] (lent r m []) ≡ done (glass_of (length r)) (write_byte a b) (lent r m [])

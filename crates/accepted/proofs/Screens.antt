@@ -2,13 +2,11 @@
 use Rattle.std.proofs.Common.{◌≡◌, Bool, List, [], ℕ, ℤ, ◌+◌, ◌-◌, ◌∙◌, ap, arith, length, MutBor}
 use borrow.Rule.Slice.PartMut.{put_mid}
 use Rattle.model.specs.declared.Canvas.{Canvas}
-use Rattle.model.specs.declared.Edge.{Edge}
 use Rattle.model.specs.declared.Head.{Head}
 use Rattle.model.specs.declared.Marks.{Marks}
 use Rattle.model.specs.declared.glass.Glass.{Glass}
 use Rattle.model.specs.Geometry.{Geometry, height, screen_bytes}
 use Rattle.model.specs.Glass.{geometry, canvas, glass_of}
-use Rattle.model.specs.Lines.{edge_of}
 use Rattle.model.specs.Memory.{window, screen_of, with_window}
 use Rattle.model.specs.Record.{decode, encode}
 use Rattle.model.specs.Marks.{Drawing, drawn, drawn_on, marked}
@@ -25,10 +23,10 @@ pub is_canvas : {v : Glass} {r m : List ℕ} {h : Head} {k : Canvas} → Loaded 
 is_canvas {v} w p = p ∙ canvas_equal (ap (λ (g : Geometry). g.stride) w.chosen.glass) (v.suits.is_height ∙ ap height w.chosen.glass)
 
 -- as the code has it, for the glass that it has chosen
-pub drew_there : {Q : Canvas → MutBor (List ℕ) → Edge → Marks → MutBor (List ℕ) → Type 0} {v : Glass} {r m : List ℕ} {h : Head} {k : Canvas} {e : Edge} (c : Marks) (s t : MutBor (List ℕ)) {r' : List ℕ}
-    → Loaded v r h m → k ≡ canvas v → e ≡ edge_of (state r).edge → s.now ≡ screen_part v h m → Q k s e c t → length t.now ≡ length s.now
+pub drew_there : {Q : Canvas → MutBor (List ℕ) → Marks → MutBor (List ℕ) → Type 0} {v : Glass} {r m : List ℕ} {h : Head} {k : Canvas} (c : Marks) (s t : MutBor (List ℕ)) {r' : List ℕ}
+    → Loaded v r h m → k ≡ canvas v → s.now ≡ screen_part v h m → Q k s c t → length t.now ≡ length s.now
     → r' ≡ updated (λ g x. marked g c.dirty c.owed x) r → Drew Q r m r' (put_mid h.graphics (h.graphics + v.screen - h.graphics) m t.now)
-drew_there {Q} {v} {r} {m} {h} {k} {e} c s t w p f o q l u =
+drew_there {Q} {v} {r} {m} {h} {k} c s t w p o q l u =
     let at = h.graphics in
     let base : at ≡ (state r).head.graphics = ap (λ (x : Head). x.graphics) w.head ∙ ap (λ (g : Geometry). (decode g r).head.graphics) w.chosen.glass in
     let size : screen_bytes (geometry v) ≡ screen_bytes (glass_of (length r)) = ap screen_bytes w.chosen.glass in
@@ -38,14 +36,14 @@ drew_there {Q} {v} {r} {m} {h} {k} {e} c s t w p f o q l u =
       left = t;
       marks = c;
       screen = o ∙ screen_is w ∙ (λ i. window (base i) (size i) m);
-      drew = rw (← is, ← f) q;
+      drew = rw (← is) q;
       marked-by = u;
       memory = part_back at (at + v.screen) m t.now (omega arith) long ∙ ap (λ (n : ℕ). with_window n t.now m) base;
     }
 
 -- as its definition has it, where the function draws d
-pub drew_shape : {Q : Canvas → MutBor (List ℕ) → Edge → Marks → MutBor (List ℕ) → Type 0} {r m r' m' : List ℕ} (d : Drawing) → Drew Q r m r' m'
-    → ((s t : MutBor (List ℕ)) (k : Marks) → Q (canvas_for (length r)) s (edge_of (state r).edge) k t → drawn k t.now ≡ drawn_on (glass_of (length r)).stride (height (glass_of (length r))) d s.now)
+pub drew_shape : {Q : Canvas → MutBor (List ℕ) → Marks → MutBor (List ℕ) → Type 0} {r m r' m' : List ℕ} (d : Drawing) → Drew Q r m r' m'
+    → ((s t : MutBor (List ℕ)) (k : Marks) → Q (canvas_for (length r)) s k t → drawn k t.now ≡ drawn_on (glass_of (length r)).stride (height (glass_of (length r))) d s.now)
     → answered 0 [] (lent r' m' []) ≡ answered 0 [] (drawing (glass_of (length r)) d (lent r m []))
 unfolding drawing_with drawn updated
 drew_shape {r = r} {m} d w f =

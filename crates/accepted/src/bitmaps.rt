@@ -35,7 +35,7 @@ pub fn paint_bitmap(
     let mut source = [0u8; SOURCE_BYTES];
     slices::put_bytes(&mut source, 0, &memory[start..end]);
     let mode = PaintMode::from(mode);
-    draw_on_screen(rec, memory, |canvas, screen, _| {
+    draw_on_screen(rec, memory, |canvas, screen| {
         bitmap::paint_bitmap(canvas, screen, &source[..count], x, y, width, height, mode)
     });
 }

@@ -9,6 +9,7 @@ ghost use Rattle.record.specs.Given.{Given};
 
 use crate::screen::draw_on_screen;
 use model::DrawMode;
+use record::glass::edge_of;
 
 // What RADIUS tests.
 pub fn radii_fit(rx: u8, ry: u8, fill: u8, mode: u8) -> bool
@@ -31,8 +32,9 @@ pub fn draw_ellipse(
     requires radii_fit { radii_fit rx ry (filled fill) (draw_mode mode) ≡ true }
     ensures { answered 0 [] (lent rec.new memory.new []) ≡ done (glass_of (length rec.old)) (draw (ellipse x y rx ry fill mode)) (lent rec.old memory.old []) }
 {
+    let edge = edge_of(rec);
     let mode = DrawMode::from(mode);
-    draw_on_screen(rec, memory, |canvas, screen, edge| {
+    draw_on_screen(rec, memory, |canvas, screen| {
         draw::draw_ellipse(canvas, screen, edge, x, y, rx, ry, fill == 1, mode)
     });
 }

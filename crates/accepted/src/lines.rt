@@ -7,13 +7,15 @@ ghost use Rattle.record.specs.Given.{Given};
 
 use crate::screen::draw_on_screen;
 use model::DrawMode;
+use record::glass::edge_of;
 
 pub fn draw_line(rec: &mut [u8], memory: &mut [u8], x1: u8, y1: u8, x2: u8, y2: u8, mode: u8)
     requires { Given rec.old memory.old }
     ensures { answered 0 [] (lent rec.new memory.new []) ≡ done (glass_of (length rec.old)) (draw (line x1 y1 x2 y2 mode)) (lent rec.old memory.old []) }
 {
+    let edge = edge_of(rec);
     let mode = DrawMode::from(mode);
-    draw_on_screen(rec, memory, |canvas, screen, edge| {
+    draw_on_screen(rec, memory, |canvas, screen| {
         draw::draw_line(canvas, screen, edge, x1, y1, x2, y2, mode)
     });
 }
@@ -38,8 +40,9 @@ pub fn draw_box(
     requires { Given rec.old memory.old }
     ensures { answered 0 [] (lent rec.new memory.new []) ≡ done (glass_of (length rec.old)) (draw (box x1 y1 x2 y2 fill mode)) (lent rec.old memory.old []) }
 {
+    let edge = edge_of(rec);
     let mode = DrawMode::from(mode);
-    draw_on_screen(rec, memory, |canvas, screen, edge| {
+    draw_on_screen(rec, memory, |canvas, screen| {
         draw::draw_box(canvas, screen, edge, x1, y1, x2, y2, fill == 1, mode)
     });
 }

@@ -19,7 +19,7 @@ pub fn draw_point(rec: &mut [u8], memory: &mut [u8], x: u8, y: u8, mode: u8)
     ensures { answered 0 [] (lent rec.new memory.new []) ≡ done (glass_of (length rec.old)) (draw (point x y mode)) (lent rec.old memory.old []) }
 {
     let mode = DrawMode::from(mode);
-    draw_on_screen(rec, memory, |canvas, screen, _| {
+    draw_on_screen(rec, memory, |canvas, screen| {
         draw::draw_point(canvas, screen, x, y, mode)
     });
 }

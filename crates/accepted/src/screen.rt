@@ -2,25 +2,24 @@
 ghost use Rattle.record.specs.Given.{Given};
 ghost use Rattle.accepted.specs.OnScreen.{MayDraw, Drew};
 
-use model::{Canvas, Edge, Marks};
-use record::glass::{canvas_of, edge_of, glass_of};
+use model::{Canvas, Marks};
+use record::glass::{canvas_of, glass_of};
 use record::head::load_head;
 use updates::update;
 
 // `f` draws on the screen in memory, and the record is marked with what it answers. It asks for the glass itself, whose numbers are constants here.
-pub fn draw_on_screen<F: FnOnce(Canvas, &mut [u8], Edge) -> Marks>(
+pub fn draw_on_screen<F: FnOnce(Canvas, &mut [u8]) -> Marks>(
     rec: &mut [u8],
     memory: &mut [u8],
     f: F,
 )
     requires given { Given rec.old memory.old }
-    requires may_draw { MayDraw (λ c s e. F.pre f c s e) rec.old }
-    ensures { Drew (λ c s e k t. F.post f c s e k t) rec.old memory.old rec.new memory.new }
+    requires may_draw { MayDraw (λ c s. F.pre f c s) rec.old }
+    ensures { Drew (λ c s k t. F.post f c s k t) rec.old memory.old rec.new memory.new }
 {
     let glass = glass_of(rec.len());
     let from = load_head(rec).graphics as usize;
     let to = from + glass.screen;
-    let edge = edge_of(rec);
-    let m = f(canvas_of(glass), &mut memory[from..to], edge);
+    let m = f(canvas_of(glass), &mut memory[from..to]);
     update::mark(rec, m);
 }

@@ -39,17 +39,10 @@ passed {t = t} e f = sym e ∙ not-false t f
 
 -- ---- outcomes by the refusal's number
 
-pub is_refused : (g : Geometry) (c : Call) (l : Lent) (x : Refusal) → refusal (refusals g c l) ≡ number_of x → answered (number_of x) (nought (numbers c)) l ≡ outcome g c l
+pub is_refused : (g : Geometry) (c : Call) (l : Lent) (k : ℕ) → refusal (refusals g c l) ≡ k → k ≢ 0 → answered k (nought (numbers c)) l ≡ outcome g c l
 unfolding outcome ruled refused
-is_refused g c l refusals.Lent e = rw e
-is_refused g c l refusals.State e = rw e
-is_refused g c l refusals.Window e = rw e
-is_refused g c l refusals.Value e = rw e
-is_refused g c l refusals.Source e = rw e
-is_refused g c l refusals.Radius e = rw e
-is_refused g c l refusals.Glyph e = rw e
-is_refused g c l refusals.Panel e = rw e
-is_refused g c l refusals.Register e = rw e
+is_refused g c l zero e n = absurd (n refl)
+is_refused g c l (suc k) e n = rw e
 
 pub is_number : (x : Refusal) → number_of x ≢ 0
 is_number refusals.Lent e = absurd (omega arith)
@@ -61,6 +54,9 @@ is_number refusals.Radius e = absurd (omega arith)
 is_number refusals.Glyph e = absurd (omega arith)
 is_number refusals.Panel e = absurd (omega arith)
 is_number refusals.Register e = absurd (omega arith)
+
+pub refused_by : (g : Geometry) (c : Call) (l : Lent) (x : Refusal) → refusal (refusals g c l) ≡ number_of x → answered (number_of x) (nought (numbers c)) l ≡ outcome g c l
+refused_by g c l x e = is_refused g c l (number_of x) e (is_number x)
 
 pub is_done : (g : Geometry) (c : Call) (l : Lent) → refusal (refusals g c l) ≡ 0 → done g c l ≡ outcome g c l
 unfolding outcome ruled
@@ -99,12 +95,15 @@ module _ (c : Call) (l : Lent) (s : Reads c l) where
   abbrev At : Result (Unit {0}) Refusal → Type 0
   At answer = Entered (lengths_fit (glass_of (length l.rec)) (takes c) l) l.rec answer
 
-  refused_first : {x : Refusal} → At (Err x) → answered (number_of x) (nought (numbers c)) l ≡ outcome g c l
+  -- refused at the entry, by whichever number
+  pub stops_first : (k : ℕ) → k ≡ refusal (entered l.rec (lengths_fit g (takes c) l)) → k ≢ 0 → answered k (nought (numbers c)) l ≡ outcome g c l
   unfolding refusals
-  refused_first {x} e =
-      is_refused g c l x (refusal-first (entry_tests g (takes c) l) (own_tests g c l) (number_of x) (ap refusal s ∙ sym e.code) (is_number x))
+  stops_first k e n = is_refused g c l k (refusal-first (entry_tests g (takes c) l) (own_tests g c l) k (ap refusal s ∙ sym e) n) n
 
-  -- refused at the entry: what `?` hands on
+  refused_first : {x : Refusal} → At (Err x) → answered (number_of x) (nought (numbers c)) l ≡ outcome g c l
+  refused_first {x} e = stops_first (number_of x) e.code (is_number x)
+
+  -- what `?` hands on of the entry
   pub stops : {x : Refusal} {A : Type 0} (r : Result A Refusal) → IsErrAnd r (λ y. y ≡ x) → At (Err x) → answered (code_of r) (nought (numbers c)) l ≡ outcome g c l
   stops r h e = let p = err_from_is_err_and r h in rw (p.1, p.2) (refused_first e)
 
@@ -119,8 +118,11 @@ module _ (c : Call) (l : Lent) (s : Reads c l) where
     own = refusal-append (entry_tests g (takes c) l) (own_tests g c l) (subst AllPass (sym s) (enters e))
 
     -- refused by a test of its own
-    pub stops_later : (x : Refusal) → refusal (own_tests g c l) ≡ number_of x → answered (number_of x) (nought (numbers c)) l ≡ outcome g c l
-    stops_later x t = is_refused g c l x (own ∙ t)
+    pub stops_later : (k : ℕ) → refusal (own_tests g c l) ≡ k → k ≢ 0 → answered k (nought (numbers c)) l ≡ outcome g c l
+    stops_later k t n = is_refused g c l k (own ∙ t) n
+
+    pub refused_later : (x : Refusal) → refusal (own_tests g c l) ≡ number_of x → answered (number_of x) (nought (numbers c)) l ≡ outcome g c l
+    refused_later x t = stops_later (number_of x) t (is_number x)
 
     pub finishes : {o : Outcome} → refusal (own_tests g c l) ≡ 0 → o ≡ done g c l → o ≡ outcome g c l
     finishes t d = d ∙ is_done g c l (own ∙ t)

@@ -12,7 +12,7 @@ use Rattle.laws.specs.Tests.{and-true}
 use Rattle.record.specs.Entry.{Chosen}
 use Rattle.record.proofs.Entering.{lent_as, lent_sized}
 use Rattle.accepted.specs.Opened.{Opened}
-use Rattle.caption.proofs.Calls.{fails, passes, none_left, is_refused, is_done}
+use Rattle.caption.proofs.Calls.{fails, passes, none_left, refused_by, is_done}
 
 module _ {v : Glass} (r m : List ℕ) (graphics text version : ℕ) (keys : List ℕ) (edge : ℕ) (k : Chosen (length r) v) where
   abbrev g : Geometry
@@ -23,17 +23,17 @@ module _ {v : Glass} (r m : List ℕ) (graphics text version : ℕ) (keys : List
 
   pub open_lent : (eqb (length r) v.bytes && eqb (length m) 65536) ≡ false → answered LENT [] (lent r m []) ≡ outcome g (opening graphics text version keys edge) (lent r m [])
   unfolding refusals
-  open_lent e = is_refused g (opening graphics text version keys edge) (lent r m []) refusals.Lent (fails _ (lent_as (eqb (length m) 65536) r k e))
+  open_lent e = refused_by g (opening graphics text version keys edge) (lent r m []) refusals.Lent (fails _ (lent_as (eqb (length m) 65536) r k e))
 
   module _ (e : (eqb (length r) v.bytes && eqb (length m) 65536) ≡ true) {t : Bool} (w : t ≡ windows (geometry v) graphics text) where
     pub open_window : t ≡ false → answered WINDOW [] (lent r m []) ≡ outcome g (opening graphics text version keys edge) (lent r m [])
     unfolding refusals
-    open_window f = is_refused g (opening graphics text version keys edge) (lent r m []) refusals.Window (passes LENT _ (lent_as (eqb (length m) 65536) r k e) (fails _ (windows_as w f)))
+    open_window f = refused_by g (opening graphics text version keys edge) (lent r m []) refusals.Window (passes LENT _ (lent_as (eqb (length m) 65536) r k e) (fails _ (windows_as w f)))
 
     pub open_value : {x : Bool} → t ≡ true → x ≡ edge_fits edge → (leb version 1 && x) ≡ false → answered VALUE [] (lent r m []) ≡ outcome g (opening graphics text version keys edge) (lent r m [])
     unfolding refusals
     open_value f i h =
-        is_refused g (opening graphics text version keys edge) (lent r m []) refusals.Value
+        refused_by g (opening graphics text version keys edge) (lent r m []) refusals.Value
         (passes LENT _ (lent_as (eqb (length m) 65536) r k e) (passes WINDOW _ (windows_as w f) (fails [] (ap (λ (y : Bool). leb version 1 && y) (sym i) ∙ h))))
 
     pub open_ends : {o : Outcome} {x : Bool} → t ≡ true → x ≡ edge_fits edge → (leb version 1 && x) ≡ true → o ≡ done g (opening graphics text version keys edge) (lent r m [])

@@ -138,11 +138,10 @@ impl Driver {
 
     fn print_drive(&mut self, number: u8) {
         let s = self.drive(number);
-        let device = self.device;
         let _ = writeln!(
             StandardOutput,
-            "drive {number}: {} {} {} {} {}{device}",
-            s.code, s.sent, s.line, s.left, s.right
+            "drive {number}: {} {} {} {} {}{}",
+            s.code, s.sent, s.line, s.left, s.right, self.device
         );
     }
 

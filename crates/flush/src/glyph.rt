@@ -107,7 +107,7 @@ fn paint_glyph(
 {
     let mut l = left;
     let mut r = right;
-    for line in &g {
+    for &line in &g {
         screen[l] = flip(line[0], inverse);
         screen[r] = flip(line[1], inverse2);
         l += stride;

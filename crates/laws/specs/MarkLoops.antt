@@ -25,27 +25,27 @@ use Rattle.laws.specs.Marking.{each_from, BandMarked, skip_above, skip_below}
 
 -- ---- the loop over the panels, in one band: those from k on are to come
 
-pub record Owing (v : Glass) (i : ℕ) (f : ℕ → List ℕ → List ℕ) (r₀ r : List ℕ) (panels k : ℕ) : Type 0 where
-  pub counted : panels ≡ v.panels
+pub record Owing (g : Geometry) (i : ℕ) (f : ℕ → List ℕ → List ℕ) (r₀ r : List ℕ) (panels k : ℕ) : Type 0 where
+  pub counted : panels ≡ g.panels
   pub some : k ≤ panels
   pub sized : length r ≡ length r₀
-  pub same : each_from (geometry v) i f k (panels - k) r ≡ each_from (geometry v) i f 0 v.panels r₀
+  pub same : each_from g i f k (panels - k) r ≡ each_from g i f 0 g.panels r₀
 
 pub owe_room : (v : Glass) (r : List ℕ) {i k a : ℕ} → length r ≡ record_bytes (geometry v) → i < v.bands → k < v.panels → a ≡ at (geometry v) (panel k)
     → a + 8 * i + 8 ≤ length r
 owe_room v r {k = k} n h j e = let p = panel_room v k j in let z = v.suits in omega arith
 
-pub owe_starts : (v : Glass) (i : ℕ) (f : ℕ → List ℕ → List ℕ) (r : List ℕ) (panels : ℕ) → panels ≡ v.panels → Owing v i f r r panels 0
-owe_starts v i f r panels c = let e : panels - 0 ≡ v.panels = omega arith in record { counted = c; some = omega arith; sized = refl; same = rw e refl }
+pub owe_starts : (g : Geometry) (i : ℕ) (f : ℕ → List ℕ → List ℕ) (r : List ℕ) (panels : ℕ) → panels ≡ g.panels → Owing g i f r r panels 0
+owe_starts g i f r panels c = let e : panels - 0 ≡ g.panels = omega arith in record { counted = c; some = omega arith; sized = refl; same = rw e refl }
 
-pub owe_goes : {v : Glass} {i : ℕ} {f : ℕ → List ℕ → List ℕ} {r₀ r : List ℕ} {panels k a c : ℕ} {r' : List ℕ} → Owing v i f r₀ r panels k → k < panels → length r' ≡ length r
-    → a ≡ at (geometry v) (panel k) → c ≡ a + 8 * i → r' ≡ f c r → Owing v i f r₀ r' panels (k + 1)
+pub owe_goes : {g : Geometry} {i : ℕ} {f : ℕ → List ℕ → List ℕ} {r₀ r : List ℕ} {panels k a c : ℕ} {r' : List ℕ} → Owing g i f r₀ r panels k → k < panels → length r' ≡ length r
+    → a ≡ at g (panel k) → c ≡ a + 8 * i → r' ≡ f c r → Owing g i f r₀ r' panels (k + 1)
 unfolding each_from
 owe_goes {panels = panels} {k} j h n e b f =
     let left : panels - k ≡ suc (panels - (k + 1)) = omega arith in
     record { counted = j.counted; some = omega arith; sized = n ∙ j.sized; same = cc (add-one k) }
 
-pub owe_ends : {v : Glass} {i : ℕ} {f : ℕ → List ℕ → List ℕ} {r₀ r : List ℕ} {panels k : ℕ} → Owing v i f r₀ r panels k → panels ≤ k → r ≡ each_from (geometry v) i f 0 v.panels r₀
+pub owe_ends : {g : Geometry} {i : ℕ} {f : ℕ → List ℕ → List ℕ} {r₀ r : List ℕ} {panels k : ℕ} → Owing g i f r₀ r panels k → panels ≤ k → r ≡ each_from g i f 0 g.panels r₀
 unfolding each_from
 owe_ends {panels = panels} {k} j h = let z : panels - k ≡ 0 = omega arith in cc
 
@@ -55,12 +55,13 @@ owe_ends {panels = panels} {k} j h = let z : panels - k ≡ 0 = omega arith in c
 abbrev owed_after : Geometry → Rect → ℕ → ℕ → List ℕ → State
 owed_after g m i n r = with_panels (map (owing_from g m i n) (decode g r).panels) (decode g r)
 
-pub record Marking (v : Glass) (m : Rect) (r₀ r : List ℕ) (bottom lo i : ℕ) : Type 0 where
-  pub line : lo ≡ i * v.band
-  pub end : bottom ≡ min m.bottom v.height
-  pub passing : Passing (geometry v) r
+-- of a screen of so many lines
+pub record Marking (g : Geometry) (lines : ℕ) (m : Rect) (r₀ r : List ℕ) (bottom lo i : ℕ) : Type 0 where
+  pub line : lo ≡ i * g.band
+  pub end : bottom ≡ min m.bottom lines
+  pub passing : Passing g r
   pub sized : length r ≡ length r₀
-  pub same : owed_after (geometry v) m i (v.bands - i) r ≡ owing_each (geometry v) m (decode (geometry v) r₀)
+  pub same : owed_after g m i (g.bands - i) r ≡ owing_each g m (decode g r₀)
 
 pub glass_band : (v : Glass) → 0 < v.band
 glass_band v = let z = v.suits in band_some v.bands v.band 0 (omega (arith, z.glass.row, z.glass.filled))
@@ -90,31 +91,30 @@ is_whole v m i {lo} {hi} e f t =
     cut-whole (width g) (i * g.band) (i * g.band + g.band) m (omega (arith, z.glass.columns)) (omega (arith, glass_band v)) (omega (arith, tests)) (omega (arith, tests)) (omega (arith, tests)) (omega (arith, tests))
 
 -- the first band that is marked is that of the mark's top line
-pub mark_starts : (v : Glass) (m : Rect) (r : List ℕ) {bottom first : ℕ} → Passing (geometry v) r → bottom ≡ min m.bottom v.height → first ≡ m.top / v.band
-    → Marking v m r r bottom (first * v.band) first
+pub mark_starts : (g : Geometry) (lines : ℕ) (m : Rect) (r : List ℕ) {bottom first : ℕ} → Passing g r → bottom ≡ min m.bottom lines → first ≡ m.top / g.band
+    → Marking g lines m r r bottom (first * g.band) first
 unfolding owing_from
-mark_starts v m r {first = first} p e f =
-    let g = geometry v in
+mark_starts g lines m r {first = first} p e f =
     let s = decode g r in
-    let top : first * v.band ≤ m.top = rw f (div-mul-le_self m.top v.band) in
-    let start : (q : Pending) → owing_from g m first (v.bands - first) q ≡ owing_from g m 0 v.bands q = λ q.
-    by_lt first v.bands
-    (λ h. let a : first + (v.bands - first) ≡ v.bands = omega arith in
-    let c : 0 + first ≡ first = omega arith in cc (skip_above g m first 0 (v.bands - first) q (omega arith)))
-    (λ h. let a : v.bands - first ≡ 0 = omega arith in
-    let low : v.bands * v.band ≤ first * v.band = mul-le-mul_right v.band h in
-    let c : v.bands + 0 ≡ v.bands = omega arith in cc (skip_above g m v.bands 0 0 q (omega arith))) in
+    let top : first * g.band ≤ m.top = rw f (div-mul-le_self m.top g.band) in
+    let start : (q : Pending) → owing_from g m first (g.bands - first) q ≡ owing_from g m 0 g.bands q = λ q.
+    by_lt first g.bands
+    (λ h. let a : first + (g.bands - first) ≡ g.bands = omega arith in
+    let c : 0 + first ≡ first = omega arith in cc (skip_above g m first 0 (g.bands - first) q (omega arith)))
+    (λ h. let a : g.bands - first ≡ 0 = omega arith in
+    let low : g.bands * g.band ≤ first * g.band = mul-le-mul_right g.band h in
+    let c : g.bands + 0 ≡ g.bands = omega arith in cc (skip_above g m g.bands 0 0 q (omega arith))) in
     record {
       line = refl;
       end = e;
       passing = p;
       sized = refl;
       same = ap (λ (ps : List Pending). with_panels ps s)
-          (map_agree (owing_from g m first (v.bands - first)) (owing g m) s.panels (nothing_pending g)
+          (map_agree (owing_from g m first (g.bands - first)) (owing g m) s.panels (nothing_pending g)
           (λ k h. start (panel_of g s k) ∙ owing_bands g m (panel_of g s k) ((well_sized g s (well_formed g r p)).owed k)));
     }
 
-module _ {v : Glass} {m : Rect} {r₀ r : List ℕ} {bottom lo i : ℕ} (k : Marking v m r₀ r bottom lo i) where
+module _ (v : Glass) {m : Rect} {r₀ r : List ℕ} {bottom lo i : ℕ} (k : Marking (geometry v) v.height m r₀ r bottom lo i) where
   -- the next is there, and its lines are the glass's
   pub band_there : lo < bottom → i < v.bands
   band_there h = lt_of_mul-lt-mul_right v.band (omega (arith, k.line, k.end, v.suits.is_height))
@@ -122,7 +122,7 @@ module _ {v : Glass} {m : Rect} {r₀ r : List ℕ} {bottom lo i : ℕ} (k : Mar
   pub band_ends : lo < bottom → lo + v.band ≤ 256
   band_ends h = band_low v i lo (band_there h) k.line
 
-  pub mark_goes : {hi : ℕ} {r' : List ℕ} → lo < bottom → hi ≡ lo + v.band → length r' ≡ length r → BandMarked (geometry v) m i r r' → Marking v m r₀ r' bottom hi (i + 1)
+  pub mark_goes : {hi : ℕ} {r' : List ℕ} → lo < bottom → hi ≡ lo + v.band → length r' ≡ length r → BandMarked (geometry v) m i r r' → Marking (geometry v) v.height m r₀ r' bottom hi (i + 1)
   unfolding owing_from
   mark_goes h e l b =
       let g = geometry v in

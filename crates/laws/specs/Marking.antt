@@ -10,9 +10,8 @@ use Rattle.std.proofs.Math.ListN.{length, set, drop, length-append}
 use Rattle.std.proofs.lemmas.List.{length-map, set_at}
 use Rattle.std.proofs.Math.Seq.{drop-drop, get_or_at, set-get_or, append_snoc}
 use Rattle.model.specs.declared.Rect.{Rect}
-use Rattle.model.specs.declared.glass.Glass.{Glass}
 use Rattle.model.specs.Geometry.{Geometry, width}
-use Rattle.model.specs.Glass.{geometry, IsGlass}
+use Rattle.model.specs.Glass.{IsGlass}
 use Rattle.model.specs.Memory.{window}
 use Rattle.model.specs.Rects.{none, is_empty, join}
 use Rattle.model.specs.Bytes.{rect_at, rects_at, rect_bytes, rects_bytes, four_bytes}
@@ -156,26 +155,23 @@ pub record BandMarked (g : Geometry) (m : Rect) (i : ℕ) (r r' : List ℕ) : Ty
   pub state : decode g r' ≡ with_panels (map (owing_in g m i) (decode g r).panels) (decode g r)
 
 -- where nothing of the mark lies in it, the record stays
-pub empty_band : (v : Glass) (m : Rect) (i : ℕ) {r : List ℕ} → Passing (geometry v) r → {q : Rect} {t : Bool} → q ≡ band_part (geometry v) m i → t ≡ is_empty q → t ≡ true → BandMarked (geometry v) m i r r
-empty_band v m i {r} p {q} e f y =
-    let g = geometry v in
+pub empty_band : (g : Geometry) (m : Rect) (i : ℕ) {r : List ℕ} → Passing g r → {q : Rect} {t : Bool} → q ≡ band_part g m i → t ≡ is_empty q → t ≡ true → BandMarked g m i r r
+empty_band g m i {r} p {q} e f y =
     let none-there : band_part g m i ≡ none = sym e ∙ empty_none q (sym f ∙ y) in
     let same = map_same (owing_in g m i) (decode g r).panels (λ x. owing-none g m i x none-there) in
     record { passing = p; state = ap (λ (ps : List Pending). with_panels ps (decode g r)) (sym same) }
 
-module _ (v : Glass) (m : Rect) (i : ℕ) {r r' : List ℕ} (p : Passing (geometry v) r) (j : i < v.bands) where
-  was_marked : r' ≡ encode (geometry v) (with_panels (map (owing_in (geometry v) m i) (decode (geometry v) r).panels) (decode (geometry v) r)) → BandMarked (geometry v) m i r r'
+module _ (g : Geometry) (m : Rect) (i : ℕ) {r r' : List ℕ} (p : Passing g r) (j : i < g.bands) where
+  was_marked : r' ≡ encode g (with_panels (map (owing_in g m i) (decode g r).panels) (decode g r)) → BandMarked g m i r r'
   was_marked e =
-      let g = geometry v in
       let s = decode g r in
       let w = each_formed g (owing_in g m i) s (well_in g m i j) (well_formed g r p) in
       record { passing = rw e (encode_passing g p.glass (with_panels (map (owing_in g m i) s.panels) s) w); state = ap (decode g) e ∙ decode-encode g (with_panels (map (owing_in g m i) s.panels) s) p.glass w }
 
   -- joined, or stored where it is the whole band
-  pub owed_band : (whole : Bool) {q : Rect} → (whole ≡ true → band_part (geometry v) m i ≡ whole_band (geometry v) i) → q ≡ band_part (geometry v) m i
-      → r' ≡ each_from (geometry v) i (λ a. owed_at whole a q) 0 v.panels r → BandMarked (geometry v) m i r r'
+  pub owed_band : (whole : Bool) {q : Rect} → (whole ≡ true → band_part g m i ≡ whole_band g i) → q ≡ band_part g m i
+      → r' ≡ each_from g i (λ a. owed_at whole a q) 0 g.panels r → BandMarked g m i r r'
   owed_band whole w e f =
-      let g = geometry v in
       let part = band_part g m i in
-      was_marked (f ∙ ap (λ (x : Rect). each_from g i (λ a. owed_at whole a x) 0 v.panels r) e ∙ ap (each_from g i (λ a. owed_at whole a part) 0 v.panels) (sym (encode-decode g r p))
+      was_marked (f ∙ ap (λ (x : Rect). each_from g i (λ a. owed_at whole a x) 0 g.panels r) e ∙ ap (each_from g i (λ a. owed_at whole a part) 0 g.panels) (sym (encode-decode g r p))
       ∙ band_marked g m i j p.glass (λ a. owed_at whole a part) (λ s z c k h b. owe_panel g m i j s z c p.glass k h b whole w) (decode g r) (well_formed g r p))

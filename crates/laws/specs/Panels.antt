@@ -2,13 +2,14 @@
 use Rattle.std.specs.Prelude.{◌≡◌, refl, List, ℕ, zero, suc, ◌+◌, ◌-◌, ◌*◌, ◌<◌, ◌≤◌, length}
 use Rattle.std.proofs.Common.{arith}
 use Rattle.model.specs.declared.glass.Glass.{Glass}
+use Rattle.model.specs.Geometry.{Geometry}
 use Rattle.model.specs.Glass.{geometry}
 use Rattle.model.specs.Record.{head_bytes, panel, last_parts, offset, at, record_bytes, pending_bytes}
 use Rattle.laws.specs.Record.{later, panel_from, has_panel, part-in}
 
-pub is_first_at : (v : Glass) (k : ℕ) → k ≡ 0 → head_bytes ≡ at (geometry v) (panel k)
+pub is_first_at : (g : Geometry) (k : ℕ) → k ≡ 0 → head_bytes ≡ at g (panel k)
 unfolding offset
-is_first_at v k e = rw e
+is_first_at g k e = rw e
 
 pub is_others_at : (v : Glass) (k : ℕ) → k < v.panels → (k ≡ 0 → ⊥) → v.others + (k - 1) * v.pending ≡ at (geometry v) (panel k)
 is_others_at v zero h n = absurd (n refl)

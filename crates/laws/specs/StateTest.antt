@@ -99,27 +99,27 @@ module _ (v : Glass) (r : List ℕ) (k a : ℕ) {b : Bool} (e : a ≡ at (geomet
   pending_is n h = let y = not-false b n in cc (v.suits.is_width, v.suits.is_height)
 
 -- where the loop over panels stands: those before k have passed
-pub record Fitting (v : Glass) (r : List ℕ) (panels k : ℕ) : Type 0 where
-  pub counted : panels ≡ v.panels
+pub record Fitting (g : Geometry) (r : List ℕ) (panels k : ℕ) : Type 0 where
+  pub counted : panels ≡ g.panels
   pub some : k ≤ panels
-  pub same : panels_fit (geometry v) r k (panels - k) ≡ panels_fit (geometry v) r 0 v.panels
+  pub same : panels_fit g r k (panels - k) ≡ panels_fit g r 0 g.panels
 
-pub fit_starts : (v : Glass) (r : List ℕ) (panels : ℕ) → panels ≡ v.panels → Fitting v r panels 0
-fit_starts v r panels c = record { counted = c; some = omega arith; same = let e : panels - 0 ≡ v.panels = omega arith in ap (panels_fit (geometry v) r 0) e }
+pub fit_starts : (g : Geometry) (r : List ℕ) (panels : ℕ) → panels ≡ g.panels → Fitting g r panels 0
+fit_starts g r panels c = record { counted = c; some = omega arith; same = let e : panels - 0 ≡ g.panels = omega arith in ap (panels_fit g r 0) e }
 
-module _ {v : Glass} {r : List ℕ} {panels k : ℕ} {t : Bool} (i : Fitting v r panels k) (h : k < panels)
-    (e : t ≡ pending_fits (geometry v) (pending_of (geometry v) r (at (geometry v) (panel k)))) where
-  these : (t && panels_fit (geometry v) r (suc k) (panels - (k + 1))) ≡ panels_fit (geometry v) r 0 v.panels
+module _ {g : Geometry} {r : List ℕ} {panels k : ℕ} {t : Bool} (i : Fitting g r panels k) (h : k < panels)
+    (e : t ≡ pending_fits g (pending_of g r (at g (panel k)))) where
+  these : (t && panels_fit g r (suc k) (panels - (k + 1))) ≡ panels_fit g r 0 g.panels
   unfolding panels_fit
   these = let c : panels - k ≡ suc (panels - (k + 1)) = omega arith in cc i.same
 
-  pub fit_goes : not t ≡ false → Fitting v r panels (k + 1)
+  pub fit_goes : not t ≡ false → Fitting g r panels (k + 1)
   fit_goes n = let y = not-false t n in record { counted = i.counted; some = omega arith; same = cc (add-one k, these) }
 
-  pub fit_fails : not t ≡ true → false ≡ panels_fit (geometry v) r 0 v.panels
+  pub fit_fails : not t ≡ true → false ≡ panels_fit g r 0 g.panels
   fit_fails n = let y = not-true t n in cc these
 
-pub fit_ends : {v : Glass} {r : List ℕ} {panels k : ℕ} → Fitting v r panels k → panels ≤ k → true ≡ panels_fit (geometry v) r 0 v.panels
+pub fit_ends : {g : Geometry} {r : List ℕ} {panels k : ℕ} → Fitting g r panels k → panels ≤ k → true ≡ panels_fit g r 0 g.panels
 unfolding panels_fit
 fit_ends {panels = panels} {k} i h = let z : panels - k ≡ 0 = omega (arith, i) in cc i.same
 

@@ -33,7 +33,7 @@ pub fn bands_fit(rec: &[u8], at: usize, bands: usize, band: u16, width: u16) -> 
     let mut lo: u16 = 0;
     for i in 0..bands {
         let hi = lo + band;
-        if !rects::rect_fits(rec, band_at(at, i), width, lo, hi) {
+        if !rects::rect_fits(rec, rects::band_at(at, i), width, lo, hi) {
             return false;
         }
         lo = hi;

@@ -19,11 +19,16 @@ pub op_byte : (k : RasterOp) (b m : ℕ) → bit_xor (bit_and b (255 - bit_and m
 unfolding mask_byte mode_of
 op_byte k b m = λ i. bit_xor (bit_and b (255 - bit_and m (k.masks.clears i))) (bit_and m (k.masks.flips i))
 
+-- of any two bytes
+pub mode_known : (clear flip : ℕ) → is_unknown (mode_by clear flip) ≡ false
+unfolding mode_by is_unknown
+mode_known clear flip =
+    if_cases (λ (d : DrawMode). is_unknown d ≡ false) (eqb clear 0) (λ t. refl)
+    (λ t. if_cases (λ (d : DrawMode). is_unknown d ≡ false) (eqb flip 0) (λ u. refl) (λ u. refl))
+
 pub op_known : (k : RasterOp) → is_unknown (mode_of k) ≡ false
-unfolding mode_of mode_by is_unknown
-op_known k =
-    if_cases (λ (d : DrawMode). is_unknown d ≡ false) (eqb k.clear 0) (λ t. refl)
-    (λ t. if_cases (λ (d : DrawMode). is_unknown d ≡ false) (eqb k.flip 0) (λ u. refl) (λ u. refl))
+unfolding mode_of
+op_known k = mode_known k.clear k.flip
 
 -- the bytes of each mode; Unknown has those of Xor
 module _ {d : DrawMode} where

@@ -57,7 +57,8 @@ fn panels_fit(rec: &[u8], glass: Glass) -> bool
     requires { length rec.now ≡ record_bytes (geometry glass) }
     ensures { result ≡ panels_fit (geometry glass) rec.now 0 glass.panels }
 {
-    for k in 0..glass.panels {
+    let panels = glass.panels;
+    for k in 0..panels {
         if !pending_fits(rec, glass, k) {
             return false;
         }

@@ -1,3 +1,4 @@
+pub mod Pieces
 pub mod Writing
 pub mod Running
 pub mod Whole

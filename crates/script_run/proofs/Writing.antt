@@ -9,10 +9,12 @@ use borrow.Rule.Slice.PartMut.{put_mid}
 use Rattle.model.specs.Memory.{with_window}
 use Rattle.model.specs.Characters.{bytes_of}
 use Rattle.model.specs.Script.Output.{spelled, decimal, spaced, printed}
-use Rattle.laws.specs.Memory.{window_extend, length-with_window}
+use Rattle.laws.specs.Memory.{window_extend}
 use Rattle.laws.specs.Parts.{part_back}
 use Rattle.script_run.specs.declared.output.Output.{Output}
 use Rattle.script_run.specs.Buffers.{Wrote, HasRoom, Appended}
+use Rattle.script_run.proofs.Pieces as pieces
+use Rattle.script_run.proofs.Pieces.{wrote_length}
 
 -- ---- nothing, one byte, a text
 
@@ -42,13 +44,13 @@ appended_none o = record { wrote = wrote_none o.at o.out.now; same_bytes = refl 
 -- ---- one text after another, and room for each
 
 pub appended_length : {t : List ℕ} {o o' : Output} → HasRoom t o → Appended t o o' → length o'.out.now ≡ length o.out.now
-appended_length {t} {o} {o'} h a = ap length a.wrote.bytes ∙ length-with_window o.at t o.out.now h
+appended_length {t} {o} {o'} h a = wrote_length o.at t o.out.now o'.out.now o'.at h a.wrote
 
 pub room_first : (s t : List ℕ) (o : Output) → HasRoom (s ++ t) o → HasRoom s o
-room_first s t o h = omega (arith, length-append s t)
+room_first s t o h = pieces.room_first o.at s t o.out.now h
 
 pub room_next : {s : List ℕ} (t : List ℕ) {o o' : Output} → HasRoom (s ++ t) o → Appended s o o' → HasRoom t o'
-room_next {s} t {o} {o'} h a = omega (arith, length-append s t, appended_length {t = s} {o = o} {o' = o'} (room_first s t o h) a, a.wrote.end)
+room_next {s} t {o} {o'} h a = pieces.room_next o.at s t o.out.now o'.out.now o'.at h a.wrote
 
 pub appended_then : {s t : List ℕ} {o o' o'' : Output} → HasRoom s o → Appended s o o' → Appended t o' o'' → Appended (s ++ t) o o''
 appended_then {s} {t} {o} {o'} {o''} h a b = record {

@@ -33,6 +33,6 @@ pub fn copy_line(canvas: Canvas, screen: &[u8], panel: &mut [u8], r: Rect)
     }
     copy_masked(screen, panel, first, start_mask(left));
     let from = first + 1;
-    panel[from..end].copy_from_slice(&screen[from..end]);
+    slices::copy_bytes(&screen[from..end], &mut panel[from..end]);
     copy_masked(screen, panel, end, end_mask(last));
 }

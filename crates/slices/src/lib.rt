@@ -42,6 +42,17 @@ pub fn store_four(bytes: &mut [u8], at: usize, n: u32)
     put_bytes(bytes, at, &n.to_le_bytes());
 }
 
+// All of one slice onto another of the same length. In a loop of its own: for `copy_from_slice` between two lent slices the compiler calls memmove, which a host
+// of the library need not have.
+pub fn copy_bytes(from: &[u8], onto: &mut [u8])
+    requires { length from.now ≡ length onto.old }
+    ensures { onto.new ≡ from.now }
+{
+    for i in 0..from.len() {
+        onto[i] = from[i];
+    }
+}
+
 // Zeros over all of a lent part.
 pub fn clear(part: &mut [u8])
     ensures { part.new ≡ zeros (length part.old) }
@@ -49,12 +60,14 @@ pub fn clear(part: &mut [u8])
     part.fill(0);
 }
 
-// The first n bytes of a lent part leave, and n zeros follow.
+// The first n bytes of a lent part leave, and n zeros follow. In a loop of its own too: `copy_within` is a call of memmove.
 pub fn scroll(part: &mut [u8], n: usize)
     requires { n ≤ length part.old }
     ensures { part.new ≡ scrolled n 0 part.old }
 {
     let left = part.len() - n;
-    part.copy_within(n.., 0);
+    for i in 0..left {
+        part[i] = part[i + n];
+    }
     clear(&mut part[left..]);
 }

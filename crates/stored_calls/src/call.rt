@@ -1,5 +1,6 @@
 // A stored call: the number of its kind, then what it is told, least byte first.
 ghost use Rattle.std.specs.Prelude.{◌+◌, ◌≤◌};
+ghost use Rattle.stored_calls.specs.Kinds.{Decodes};
 
 // The kinds of calls (compare/calls/src/call.rs, `NAMES`).
 #[derive(Clone, Copy)]
@@ -36,6 +37,8 @@ pub struct NotReplayed(pub u8);
 
 impl TryFrom<u8> for Kind {
     type Error = NotReplayed;
+
+    ghost try_from_gives = { Decodes };
 
     fn try_from(number: u8) -> Result<Kind, NotReplayed> {
         Ok(match number {

@@ -22,7 +22,8 @@ fn owe_band(rec: &mut [u8], glass: Glass, i: usize, q: Rect, whole: bool)
     requires not_empty { is_empty q ≡ false }
     ensures { rec.new ≡ each_from (geometry glass) i (λ a. owed_at whole a q) 0 glass.panels rec.old }
 {
-    for k in 0..glass.panels {
+    let panels = glass.panels;
+    for k in 0..panels {
         let at = panel_at(glass, k);
         rects::owe_rect(rec, rects::band_at(at, i), q, whole);
     }

@@ -1,11 +1,11 @@
 -- The bytes behind the first n are moved to the start, and the part behind them is cleared.
-use Rattle.std.proofs.Common.{◌≡◌, refl, ◌++◌, List, ℕ, ◌-◌, ◌≤◌, length, take, drop, ap, ◌∙◌, arith, length-take, length-drop, zero-add}
+use Rattle.std.proofs.Common.{◌≡◌, refl, List, ℕ, ◌-◌, ◌≤◌, length, take, drop, ap, ◌∙◌, arith, length-take, length-drop, length-set}
 use borrow.Rule.Slice.PartMut.{put_mid}
 use Rattle.model.specs.Memory.{with_window, zeros}
 use Rattle.model.specs.Print.{scrolled}
 use Rattle.laws.specs.Parts.{part_back}
 use Rattle.laws.specs.Loops.{length-zeros}
-use Rattle.laws.specs.Pages.{scrolling, scroll_end}
+use Rattle.laws.specs.Pages.{scrolling, scroll_turn, scroll_end}
 use Rattle.slices.proofs.scroll.Goals as goal
 
 moved-up : (n j : ℕ) (d m s : List ℕ) → n ≤ length d → j ≡ length d - n → length m ≡ length d → m ≡ scrolling n j d
@@ -17,10 +17,16 @@ moved-up n j d m s h k l e f =
     ∙ ap (λ (x : List ℕ). with_window j x m) z
     ∙ scroll_end n j d m h k e
 
+pub loop-i-init : goal.loop-i-init
+loop-i-init c = (refl, refl)
+
+pub loop-i-preserved : goal.loop-i-preserved
+loop-i-preserved c =
+    let l = c.loop-i in
+    let a = c.args in
+    (simp length-set l.invariant.0, scroll_turn a.n l.i a.part.now l.part (omega arith) l.invariant.1)
+
 pub returns : goal.returns
 returns c =
-    let d = c.args.part.now in
-    let n = c.args.n in
-    let j = length d - n in
-    let up : c.copy_within.new.self ≡ scrolling n j d = c.copy_within.ensures.after ∙ ap (λ (i : ℕ). take j (drop n d) ++ drop i d) (zero-add j) in
-    moved-up n j d c.copy_within.new.self c.clear.new.part c.requires refl c.copy_within.ensures.len up c.clear.ensures
+    let l = c.loop-i in
+    moved-up c.args.n (length c.args.part.now - c.args.n) c.args.part.now l.part c.clear.new.part c.requires refl l.invariant.0 (l.invariant.1 ∙ ap (λ i. scrolling c.args.n i c.args.part.now) (omega arith)) c.clear.ensures

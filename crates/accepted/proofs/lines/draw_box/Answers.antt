@@ -5,4 +5,4 @@ use Rattle.accepted.proofs.lines.draw_box.Goals as goal
 
 pub returns : goal.returns
 unfolding done
-returns c = drew_shape _ c.draw_on_screen.ensures (λ s t k q. search rules)
+returns c = drew_shape _ c.draw_on_screen.ensures (λ s t k q. rw (← c.edge_of-edge.ensures) search rules)

@@ -17,4 +17,4 @@ f-m-requires g c =
 pub returns : goal.returns
 returns g c =
     let w = loaded c.requires.given c.glass_of-glass.ensures c.load_head-from.ensures in
-    drew_there c.f-m.result _ _ w c.canvas_of.ensures c.edge_of-edge.ensures refl c.f-m.ensures c.f-m.auto.arg3 c.mark.ensures
+    drew_there c.f-m.result _ _ w c.canvas_of.ensures refl c.f-m.ensures c.f-m.auto.arg3 c.mark.ensures

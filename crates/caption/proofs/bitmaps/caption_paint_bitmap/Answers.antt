@@ -4,7 +4,7 @@ use Rattle.model.specs.declared.refusal.Refusal.TheVariants as refusals
 use mir.Syntax.{w32}
 use mir.Facts.{to_z-of_z}
 use Rattle.model.specs.Refusals.{VALUE, SOURCE}
-use Rattle.caption.proofs.Calls.{fails, passes, failed, passed, none_left, stops, stops_later, finishes, given}
+use Rattle.caption.proofs.Calls.{fails, passes, failed, passed, none_left, stops, refused_later, finishes, given}
 use Rattle.caption.proofs.bitmaps.caption_paint_bitmap.Goals as goal
 
 pub returns-in_err-enter : goal.returns-in_err-enter
@@ -12,14 +12,14 @@ returns-in_err-enter c = stops _ _ refl c.from_residual.result c.from_residual.e
 
 pub returns-then-mode-gt4 : goal.returns-then-mode-gt4
 returns-then-mode-gt4 c =
-    stops_later _ _ refl c.in_ok-enter.ensures refusals.Value (fails _ (lt-leb _ _ c.if-mode-gt4.true))
+    refused_later _ _ refl c.in_ok-enter.ensures refusals.Value (fails _ (lt-leb _ _ c.if-mode-gt4.true))
 
 pub source_fits-requires : goal.source_fits-requires
 source_fits-requires c = (given c.args.memory.now c.in_ok-enter.ensures).memory
 
 pub returns-then-not-source_fits : goal.returns-then-not-source_fits
 returns-then-not-source_fits c =
-    stops_later _ _ refl c.in_ok-enter.ensures refusals.Source (passes VALUE _ (le-leb _ _ c.if-mode-gt4.false) (fails [] (failed c.source_fits.ensures c.if-not-source_fits.true-raw)))
+    refused_later _ _ refl c.in_ok-enter.ensures refusals.Source (passes VALUE _ (le-leb _ _ c.if-mode-gt4.false) (fails [] (failed c.source_fits.ensures c.if-not-source_fits.true-raw)))
 
 pub paint_bitmap-requires : goal.paint_bitmap-requires
 paint_bitmap-requires c =

@@ -2,7 +2,7 @@ use Rattle.std.proofs.Common.{refl, [], arith}
 use Rattle.model.specs.declared.refusal.Refusal.TheVariants as refusals
 use Rattle.model.specs.Refusals.{VALUE, RADIUS, ENDLESS}
 use Rattle.laws.specs.EllipseMarks.{always_ends}
-use Rattle.caption.proofs.Calls.{fails, passes, failed, passed, none_left, stops, stops_later, finishes, given}
+use Rattle.caption.proofs.Calls.{fails, passes, failed, passed, none_left, stops, refused_later, finishes, given}
 use Rattle.caption.proofs.ellipses.caption_draw_ellipse.Goals as goal
 
 pub returns-in_err-enter : goal.returns-in_err-enter
@@ -10,11 +10,11 @@ returns-in_err-enter c = stops _ _ refl c.from_residual.result c.from_residual.e
 
 pub returns-then-not-fill_fits : goal.returns-then-not-fill_fits
 returns-then-not-fill_fits c =
-    stops_later _ _ refl c.in_ok-enter.ensures refusals.Value (fails _ (failed c.fill_fits.ensures c.if-not-fill_fits.true-raw))
+    refused_later _ _ refl c.in_ok-enter.ensures refusals.Value (fails _ (failed c.fill_fits.ensures c.if-not-fill_fits.true-raw))
 
 pub returns-then-not-radii_fit : goal.returns-then-not-radii_fit
 returns-then-not-radii_fit c =
-    stops_later _ _ refl c.in_ok-enter.ensures refusals.Radius (passes VALUE _ (passed c.fill_fits.ensures c.if-not-fill_fits.false-raw) (fails _ (failed c.radii_fit.ensures c.if-not-radii_fit.true-raw)))
+    refused_later _ _ refl c.in_ok-enter.ensures refusals.Radius (passes VALUE _ (passed c.fill_fits.ensures c.if-not-fill_fits.false-raw) (fails _ (failed c.radii_fit.ensures c.if-not-radii_fit.true-raw)))
 
 pub draw_ellipse-requires : goal.draw_ellipse-requires
 draw_ellipse-requires c =

@@ -1,7 +1,7 @@
 use Rattle.std.proofs.Common.{refl, [], arith}
 use Rattle.model.specs.declared.refusal.Refusal.TheVariants as refusals
 use Rattle.model.specs.Refusals.{GLYPH}
-use Rattle.caption.proofs.Calls.{fails, passes, failed, passed, none_left, stops, stops_later, finishes, given_list}
+use Rattle.caption.proofs.Calls.{fails, passes, failed, passed, none_left, stops, refused_later, finishes, given_list}
 use Rattle.caption.proofs.flushes.caption_flush.Goals as goal
 
 pub returns-in_err-enter : goal.returns-in_err-enter
@@ -12,7 +12,7 @@ glyphs_fit-requires c = let a = c.args in given_list a.memory.now a.list.now c.i
 
 pub returns-then-not-glyphs_fit : goal.returns-then-not-glyphs_fit
 returns-then-not-glyphs_fit c =
-    stops_later _ _ refl c.in_ok-enter.ensures refusals.Glyph (fails [] (failed c.glyphs_fit.ensures c.if-not-glyphs_fit.true-raw))
+    refused_later _ _ refl c.in_ok-enter.ensures refusals.Glyph (fails [] (failed c.glyphs_fit.ensures c.if-not-glyphs_fit.true-raw))
 
 pub flush-requires : goal.flush-requires
 flush-requires c =

@@ -4,7 +4,7 @@ use Rattle.model.specs.declared.refusal.Refusal.TheVariants as refusals
 use Rattle.model.specs.Refusals.{VALUE}
 use Rattle.model.specs.Calls.{lent, answered, changed, done}
 use Rattle.updates.specs.Update.{updated}
-use Rattle.caption.proofs.Calls.{fails, passes, none_left, stops, stops_later, finishes}
+use Rattle.caption.proofs.Calls.{fails, passes, none_left, stops, refused_later, finishes}
 use Rattle.caption.proofs.place.caption_set_print_mode.Goals as goal
 
 pub returns-in_err-enter : goal.returns-in_err-enter
@@ -12,7 +12,7 @@ returns-in_err-enter c = stops _ _ refl c.from_residual.result c.from_residual.e
 
 pub returns-then-mode-gt2 : goal.returns-then-mode-gt2
 returns-then-mode-gt2 c =
-    stops_later _ _ refl c.in_ok-enter.ensures refusals.Value (fails [] (lt-leb c.args.mode 2 (omega (arith, c.if-mode-gt2.true))))
+    refused_later _ _ refl c.in_ok-enter.ensures refusals.Value (fails [] (lt-leb c.args.mode 2 (omega (arith, c.if-mode-gt2.true))))
 
 pub set_print_mode-requires : goal.set_print_mode-requires
 set_print_mode-requires c = c.in_ok-enter.ensures.passing

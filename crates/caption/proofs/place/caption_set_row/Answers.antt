@@ -4,7 +4,7 @@ use Rattle.model.specs.Geometry.{rows}
 use Rattle.model.specs.Refusals.{VALUE}
 use Rattle.model.specs.Calls.{lent, answered, changed, done}
 use Rattle.updates.specs.Update.{updated}
-use Rattle.caption.proofs.Calls.{fails, passes, none_left, stops, stops_later, finishes, beyond, below}
+use Rattle.caption.proofs.Calls.{fails, passes, none_left, stops, refused_later, finishes, beyond, below}
 use Rattle.caption.proofs.place.caption_set_row.Goals as goal
 
 pub returns-in_err-enter : goal.returns-in_err-enter
@@ -12,7 +12,7 @@ returns-in_err-enter c = stops _ _ refl c.from_residual.result c.from_residual.e
 
 pub returns-then-row-glass : goal.returns-then-row-glass
 returns-then-row-glass c =
-    stops_later _ _ refl c.in_ok-enter.ensures refusals.Value (fails [] (beyond c.glass_of-glass.ensures rows c.glass_of-glass.ensures.suits.is_rows _ c.if-row-glass.true))
+    refused_later _ _ refl c.in_ok-enter.ensures refusals.Value (fails [] (beyond c.glass_of-glass.ensures rows c.glass_of-glass.ensures.suits.is_rows _ c.if-row-glass.true))
 
 pub set_row-requires : goal.set_row-requires
 set_row-requires c = c.in_ok-enter.ensures.passing

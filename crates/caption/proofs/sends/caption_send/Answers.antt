@@ -6,7 +6,7 @@ use Rattle.model.specs.Glass.{glass_of}
 use Rattle.model.specs.Refusals.{PANEL}
 use Rattle.model.specs.Calls.{line_sent_numbers}
 use Rattle.accepted.proofs.Sending.{send_done}
-use Rattle.caption.proofs.Calls.{fails, passes, none_left, stops_beside, stops_later, finishes, beyond, below, entered_panel, given_panel}
+use Rattle.caption.proofs.Calls.{fails, passes, none_left, stops_beside, refused_later, finishes, beyond, below, entered_panel, given_panel}
 use Rattle.caption.proofs.sends.caption_send.Goals as goal
 
 pub returns-in_err-enter : goal.returns-in_err-enter
@@ -18,7 +18,7 @@ pub returns-then-k-glass : goal.returns-then-k-glass
 returns-then-k-glass c =
     let a = c.args in
     let g = c.glass_of-glass.ensures in
-    stops_later _ _ refl (entered_panel a.memory.now a.panel.now g c.in_ok-enter.ensures) refusals.Panel (fails [] (beyond g (λ x. x.panels) refl a.number (omega (arith, c.if-k-glass.true))))
+    refused_later _ _ refl (entered_panel a.memory.now a.panel.now g c.in_ok-enter.ensures) refusals.Panel (fails [] (beyond g (λ x. x.panels) refl a.number (omega (arith, c.if-k-glass.true))))
 
 pub send_line-requires : goal.send_line-requires
 send_line-requires c =

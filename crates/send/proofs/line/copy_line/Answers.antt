@@ -8,5 +8,5 @@ returns-then-first-end c = search in_one_byte
 pub returns : goal.returns
 returns c =
     in_more_bytes c.requires c.shared_slice_known-1.given c.slice_known-1.given
-    c.if-first-end.false c.start_mask-2.ensures c.end_mask-2.ensures c.copy_masked-2.ensures c.copy_from_slice.ensures.after
+    c.if-first-end.false c.start_mask-2.ensures c.end_mask-2.ensures c.copy_masked-2.ensures c.copy_bytes.ensures
     c.slice_known-3-1.given c.copy_masked-3.ensures

@@ -2,6 +2,7 @@ use Rattle.std.proofs.Common.{◌≡◌, ℕ, suc, ◌+◌, ◌*◌, ◌<◌, �
 use Rattle.std.proofs.Math.Nat.{mul-le-mul_right}
 use Rattle.std.proofs.lemmas.Grind.{div_ceil_times}
 use Rattle.std.specs.Int.{div_ceil}
+use Rattle.model.specs.Glass.{geometry}
 use Rattle.model.specs.Marks.{owing_each}
 use Rattle.laws.specs.MarkLoops.{glass_band, mark_starts, mark_goes, mark_ends}
 use Rattle.record.proofs.Lengths.{passes_for}
@@ -23,7 +24,8 @@ begins_after a b d i p e h =
 
 pub loop-i-init : goal.loop-i-init
 loop-i-init c =
-    mark_starts c.glass_of-glass.result c.args.m c.args.rec.now (passes_for c.glass_of-glass.ensures c.requires) c.min-bottom.ensures refl
+    let v = c.glass_of-glass.result in
+    mark_starts (geometry v) v.height c.args.m c.args.rec.now (passes_for c.glass_of-glass.ensures c.requires) c.min-bottom.ensures refl
 
 pub loop-i-preserved : goal.loop-i-preserved
 loop-i-preserved c =
@@ -31,10 +33,10 @@ loop-i-preserved c =
     let b = v.band in
     let i = c.loop-i.i in
     let next : (i + 1) * b ≡ i * b + b = omega arith in
-    mark_goes c.loop-i.invariant (begins_before _ b _ i (glass_band v) c.div_ceil-i-end.ensures c.loop-i-test.true) next (search rules) c.mark_band.ensures
+    mark_goes v c.loop-i.invariant (begins_before _ b _ i (glass_band v) c.div_ceil-i-end.ensures c.loop-i-test.true) next (search rules) c.mark_band.ensures
 
 pub returns : goal.returns
 returns c =
     let chosen = c.glass_of-glass.ensures in
     let past = begins_after _ _ _ c.loop-i.i (glass_band c.glass_of-glass.result) c.div_ceil-i-end.ensures c.loop-i-test.false in
-    updates c.args.rec.now (λ g x. owing_each g c.args.m x) chosen (mark_ends c.loop-i.invariant past)
+    updates c.args.rec.now (λ g x. owing_each g c.args.m x) chosen (mark_ends c.glass_of-glass.result c.loop-i.invariant past)
