@@ -60,8 +60,8 @@ canvas_equal {a} {b} p q =
       size = is_prop→PathP (λ j. (0 < p j) × (p j ≤ 32) × (0 < q j) × (q j ≤ 256)) (λ j. hlevel le_prop) a.size b.size i;
     }
 
-pub whole_of : {stride height : ℕ} (k : Canvas) → k.stride ≡ stride → k.height ≡ height → whole k.stride k.height ≡ whole stride height
-whole_of k p q = λ i. whole (p i) (q i)
+pub whole_of : {s h stride height : ℕ} → s ≡ stride → h ≡ height → whole s h ≡ whole stride height
+whole_of p q = λ i. whole (p i) (q i)
 
 -- ---- a store into the head: k leaves the bytes of another one in its place
 

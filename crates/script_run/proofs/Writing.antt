@@ -1,5 +1,5 @@
 -- Text written piece after piece.
-use Rattle.std.proofs.Common.{◌≡◌, ℕ, zero, suc, ◌+◌, ◌-◌, ◌/◌, ◌%◌, ◌≤◌, ◌<◌, List, [], ◌∷◌, ◌++◌, length, get_or, set, take, drop, refl, sym, ap, subst, ◌∙◌, append_assoc, append-nil, add-one, arith, length-append}
+use Rattle.std.proofs.Common.{◌≡◌, ℕ, zero, suc, ◌+◌, ◌-◌, ◌/◌, ◌%◌, ◌≤◌, ◌<◌, List, [], ◌∷◌, ◌++◌, length, get_or, set, take, drop, refl, sym, ap, subst, ◌∙◌, append_assoc, append-nil, add-one, arith}
 use Prim.Native.Char.{code}
 use Rattle.std.proofs.Math.ListN.{take-append-drop}
 use Rattle.std.proofs.Math.Nat.{add-zero}
@@ -9,12 +9,11 @@ use borrow.Rule.Slice.PartMut.{put_mid}
 use Rattle.model.specs.Memory.{with_window}
 use Rattle.model.specs.Characters.{bytes_of}
 use Rattle.model.specs.Script.Output.{spelled, decimal, spaced, printed}
-use Rattle.laws.specs.Memory.{window_extend}
 use Rattle.laws.specs.Parts.{part_back}
 use Rattle.script_run.specs.declared.output.Output.{Output}
 use Rattle.script_run.specs.Buffers.{Wrote, HasRoom, Appended}
 use Rattle.script_run.proofs.Pieces as pieces
-use Rattle.script_run.proofs.Pieces.{wrote_length}
+use Rattle.script_run.proofs.Pieces.{wrote_length, wrote_more}
 
 -- ---- nothing, one byte, a text
 
@@ -54,11 +53,7 @@ room_next {s} t {o} {o'} h a = pieces.room_next o.at s t o.out.now o'.out.now o'
 
 pub appended_then : {s t : List ℕ} {o o' o'' : Output} → HasRoom s o → Appended s o o' → Appended t o' o'' → Appended (s ++ t) o o''
 appended_then {s} {t} {o} {o'} {o''} h a b = record {
-  wrote = record {
-    bytes = b.wrote.bytes ∙ ap (λ (k : ℕ). with_window k t o'.out.now) a.wrote.end ∙ ap (with_window (o.at + length s) t) a.wrote.bytes
-        ∙ window_extend o.at (length s) s t o.out.now refl (omega arith);
-    end = omega (arith, a.wrote.end, b.wrote.end, length-append s t);
-  };
+  wrote = wrote_more o.at s t o.out.now o'.out.now o''.out.now o'.at o''.at (omega arith) a.wrote b.wrote;
   same_bytes = b.same_bytes ∙ a.same_bytes;
 }
 

@@ -33,7 +33,7 @@ updated_for r f k e = e ∙ ap (λ (g : Geometry). encode g (f g (decode g r))) 
 
 -- the whole of the chosen screen
 pub whole_for : {n : ℕ} {v : Glass} {k : Canvas} → Chosen n v → k ≡ canvas v → let g = glass_of n in whole k.stride k.height ≡ whole g.stride (height g)
-whole_for {v = v} {k} c e = whole_of k (ap (λ (x : Canvas). x.stride) e) (ap (λ (x : Canvas). x.height) e) ∙ ap (whole v.stride) v.suits.is_height ∙ ap (λ (g : Geometry). whole g.stride (height g)) c.glass
+whole_for {v = v} c e = whole_of (ap (λ (x : Canvas). x.stride) e) (ap (λ (x : Canvas). x.height) e) ∙ ap (whole v.stride) v.suits.is_height ∙ ap (λ (g : Geometry). whole g.stride (height g)) c.glass
 
 -- no flags
 abbrev pub unflagged : Geometry → State → State

@@ -47,5 +47,5 @@ returns c =
     let long = c.store_edge.auto.rec ∙ c.store_keys.auto.rec ∙ c.store_head.auto.rec ∙ c.clear.auto.part in
     opens a.rec.now a.graphics a.text a.version a.keys a.edge v (sized_for a.rec.now k c.requires.0) told
     c.clear.ensures c.clear_head.ensures c.store_head.ensures c.store_keys.ensures c.store_edge.ensures
-    (c.whole_screen.ensures ∙ whole_of c.canvas_of.result (ap (λ (x : Canvas). x.stride) c.canvas_of.ensures) (ap (λ (x : Canvas). x.height) c.canvas_of.ensures) ∙ ap (whole v.stride) v.suits.is_height) (updated_for _ (λ g x. owing_each g _ x) (chosen_as long k) c.mark_panels.ensures)
+    (c.whole_screen.ensures ∙ whole_of (ap (λ (x : Canvas). x.stride) c.canvas_of.ensures) (ap (λ (x : Canvas). x.height) c.canvas_of.ensures) ∙ ap (whole v.stride) v.suits.is_height) (updated_for _ (λ g x. owing_each g _ x) (chosen_as long k) c.mark_panels.ensures)
     ∙ ap (λ (g : Geometry). encode g (open_state g a.graphics a.text a.version a.keys a.edge)) k.glass
