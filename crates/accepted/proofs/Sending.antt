@@ -1,5 +1,5 @@
 -- A send: idle, or the line in hand copied and counted.
-use Rattle.std.proofs.Common.{◌≡◌, refl, sym, ap, subst, ◌∙◌, List, [], Bool, true, false, ℕ, ◌*◌, ◌<◌, arith, length, Option, Some, None}
+use Rattle.std.proofs.Common.{◌≡◌, refl, sym, ap, subst, ◌∙◌, List, Bool, true, false, ℕ, ◌*◌, ◌<◌, arith, length, Option, Some, None}
 use Rattle.model.specs.declared.Canvas.{Canvas}
 use Rattle.model.specs.declared.Rect.{Rect}
 use Rattle.model.specs.declared.Head.{Head}

@@ -31,9 +31,12 @@ pub updated_for : {v : Glass} (r : List ℕ) {s : List ℕ} (f : Geometry → St
 unfolding updated
 updated_for r f k e = e ∙ ap (λ (g : Geometry). encode g (f g (decode g r))) (sym k.glass)
 
--- the whole of the chosen screen
+-- the whole of a glass's canvas, and of the chosen screen
+pub whole_canvas : (v : Glass) {k : Canvas} → k ≡ canvas v → whole k.stride k.height ≡ whole v.stride (height (geometry v))
+whole_canvas v e = whole_of (ap (λ (x : Canvas). x.stride) e) (ap (λ (x : Canvas). x.height) e ∙ v.suits.is_height)
+
 pub whole_for : {n : ℕ} {v : Glass} {k : Canvas} → Chosen n v → k ≡ canvas v → let g = glass_of n in whole k.stride k.height ≡ whole g.stride (height g)
-whole_for {v = v} c e = whole_of (ap (λ (x : Canvas). x.stride) e) (ap (λ (x : Canvas). x.height) e) ∙ ap (whole v.stride) v.suits.is_height ∙ ap (λ (g : Geometry). whole g.stride (height g)) c.glass
+whole_for {v = v} c e = whole_canvas v e ∙ ap (λ (g : Geometry). whole g.stride (height g)) c.glass
 
 -- no flags
 abbrev pub unflagged : Geometry → State → State

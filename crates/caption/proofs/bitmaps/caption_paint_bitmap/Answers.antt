@@ -1,4 +1,4 @@
-use Rattle.std.proofs.Common.{refl, [], arith}
+use Rattle.std.proofs.Common.{refl, []}
 use Rattle.std.proofs.lemmas.Bool.{lt-leb, le-leb}
 use Rattle.model.specs.declared.refusal.Refusal.TheVariants as refusals
 use mir.Syntax.{w32}

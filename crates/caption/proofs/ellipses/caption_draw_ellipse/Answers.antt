@@ -1,4 +1,4 @@
-use Rattle.std.proofs.Common.{refl, [], arith}
+use Rattle.std.proofs.Common.{refl, []}
 use Rattle.model.specs.declared.refusal.Refusal.TheVariants as refusals
 use Rattle.model.specs.Refusals.{VALUE, RADIUS, ENDLESS}
 use Rattle.laws.specs.EllipseMarks.{always_ends}

@@ -1,4 +1,4 @@
-use Rattle.std.proofs.Common.{refl, [], arith}
+use Rattle.std.proofs.Common.{refl, []}
 use Rattle.model.specs.declared.refusal.Refusal.TheVariants as refusals
 use Rattle.model.specs.Refusals.{GLYPH}
 use Rattle.caption.proofs.Calls.{fails, passes, failed, passed, none_left, stops, refused_later, finishes, given_list}

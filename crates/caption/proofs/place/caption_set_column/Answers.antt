@@ -1,4 +1,4 @@
-use Rattle.std.proofs.Common.{refl, ap, List, [], ℕ, arith}
+use Rattle.std.proofs.Common.{refl, ap, List, [], ℕ}
 use Rattle.model.specs.declared.refusal.Refusal.TheVariants as refusals
 use Rattle.model.specs.Geometry.{columns}
 use Rattle.model.specs.Refusals.{VALUE}

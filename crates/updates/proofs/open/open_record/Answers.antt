@@ -1,17 +1,16 @@
 use mathlib.Core.Path.{ap, sym, subst, ◌∙◌}
 use native.Mathlib.Omega.{arith}
 use lib.ListN.{length}
-use Rattle.model.specs.declared.Canvas.{Canvas}
 use Rattle.model.specs.Geometry.{Geometry}
 use Rattle.model.specs.Glass.{glass_of}
 use Rattle.model.specs.Record.{encode}
-use Rattle.model.specs.Marks.{whole, owing_each}
+use Rattle.model.specs.Marks.{owing_each}
 use Rattle.model.specs.Open.{open_state}
-use Rattle.laws.specs.Updates.{head_in, keys_room, whole_of}
+use Rattle.laws.specs.Updates.{head_in, keys_room}
 use Rattle.laws.specs.StateTest.{edge_room}
 use Rattle.laws.specs.Opening.{Told, opening_passes, opens}
 use Rattle.record.proofs.Lengths.{chosen_as, sized_for, passes_as}
-use Rattle.updates.proofs.Updating.{updated_for}
+use Rattle.updates.proofs.Updating.{updated_for, whole_canvas}
 use Rattle.updates.proofs.open.open_record.Goals as goal
 
 pub store_head-requires : goal.store_head-requires
@@ -47,5 +46,5 @@ returns c =
     let long = c.store_edge.auto.rec ∙ c.store_keys.auto.rec ∙ c.store_head.auto.rec ∙ c.clear.auto.part in
     opens a.rec.now a.graphics a.text a.version a.keys a.edge v (sized_for a.rec.now k c.requires.0) told
     c.clear.ensures c.clear_head.ensures c.store_head.ensures c.store_keys.ensures c.store_edge.ensures
-    (c.whole_screen.ensures ∙ whole_of (ap (λ (x : Canvas). x.stride) c.canvas_of.ensures) (ap (λ (x : Canvas). x.height) c.canvas_of.ensures) ∙ ap (whole v.stride) v.suits.is_height) (updated_for _ (λ g x. owing_each g _ x) (chosen_as long k) c.mark_panels.ensures)
+    (c.whole_screen.ensures ∙ whole_canvas v c.canvas_of.ensures) (updated_for _ (λ g x. owing_each g _ x) (chosen_as long k) c.mark_panels.ensures)
     ∙ ap (λ (g : Geometry). encode g (open_state g a.graphics a.text a.version a.keys a.edge)) k.glass
